@@ -1,0 +1,25 @@
+-- The number of each fault.
+use Rattle.std.specs.Prelude.{ℕ}
+use Rattle.desk_values.specs.declared.fault.Fault.{Fault}
+use Rattle.desk_values.specs.declared.fault.Fault.TheVariants.{Syntax, UnknownTable, UnknownColumn, UnknownSequence, UnknownService, Kinds, BindMissing, Locked, DuplicateKey, NullValue, OutOfRange, TextTooLong, ZeroDivisor, Overflow, ReadOnly, NotConnected, AlreadyConnected, UnderWay, TooManyRows}
+
+abbrev pub fault_number : Fault → ℕ
+fault_number Syntax = 10
+fault_number UnknownTable = 11
+fault_number UnknownColumn = 12
+fault_number UnknownSequence = 13
+fault_number UnknownService = 14
+fault_number Kinds = 15
+fault_number BindMissing = 16
+fault_number Locked = 20
+fault_number DuplicateKey = 21
+fault_number NullValue = 22
+fault_number OutOfRange = 23
+fault_number TextTooLong = 24
+fault_number ZeroDivisor = 25
+fault_number Overflow = 26
+fault_number ReadOnly = 27
+fault_number NotConnected = 28
+fault_number AlreadyConnected = 29
+fault_number UnderWay = 32
+fault_number TooManyRows = 33

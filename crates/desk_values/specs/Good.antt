@@ -1,0 +1,71 @@
+-- Which values and replies can be written as text.
+use Rattle.std.specs.Prelude.{ℕ, ◌<◌, ◌≤◌, ◌^◌, List, [], ◌∷◌, length, Option, None, Some, IfSome, FitsSigned}
+use Rattle.std.specs.Int.{w64}
+use Rattle.std.specs.Str.{IsUtf8}
+use Rattle.std.specs.List.{AllByRecursion}
+use Rattle.desk_values.specs.declared.value.Value.{Value}
+use Rattle.desk_values.specs.declared.value.Value.TheVariants.{Null, Int, Text, Row, Draw}
+use Rattle.desk_values.specs.declared.value.Image.{Image}
+use Rattle.desk_values.specs.declared.call.Outcome.{Outcome}
+use Rattle.desk_values.specs.declared.call.Outcome.TheVariants.{Rows, Count, Committed, RolledBack, Marked, Connected, Disconnected, Refused}
+use Rattle.desk_values.specs.declared.call.Call.{Call}
+use Rattle.desk_values.specs.declared.call.Call.TheVariants.{Connect, Sql, Disconnect}
+use Rattle.desk_values.specs.declared.call.Reply.{Reply}
+
+-- a text of the desk: at most 1,000 bytes of UTF-8
+pub record IsTxt (bytes : List ℕ) : Type 0 where
+  pub limit : length bytes ≤ 1000
+  pub utf8 : IsUtf8 bytes
+
+-- a value whose parts are within the limits of their types
+abbrev pub IsValue : Value → Type 0
+IsValue Null = Unit {0}
+IsValue (Int n) = FitsSigned w64 n
+IsValue (Text text) = IsTxt text
+IsValue (Row n) = n < 2 ^ 64
+IsValue (Draw sequence n) = (sequence < 2 ^ 32) × (n < 2 ^ 64)
+
+abbrev pub IsValues : List Value → Type 0
+IsValues values = AllByRecursion IsValue values
+
+-- a row of a reply has at least one value
+abbrev pub IsGoodRow : List Value → Type 0
+IsGoodRow values = (0 < length values) × IsValues values
+
+-- only draws stand among draws
+abbrev pub IsGoodDraw : Value → Type 0
+IsGoodDraw (Draw sequence n) = (sequence < 2 ^ 32) × (n < 2 ^ 64)
+IsGoodDraw other = ⊥
+
+pub record IsGoodImage (image : Image) : Type 0 where
+  pub row : image.row < 2 ^ 64
+  pub table : image.table ≤ 31
+  pub left : IfSome image.left IsGoodRow
+
+-- the rows of images ascend strictly
+abbrev pub Ascend : List Image → Type 0
+Ascend [] = Unit {0}
+Ascend (first ∷ []) = Unit {0}
+Ascend (first ∷ second ∷ others) = (first.row < second.row) × Ascend (second ∷ others)
+
+abbrev pub IsGoodOutcome : Outcome → Type 0
+IsGoodOutcome (Rows rows) = AllByRecursion IsGoodRow rows
+IsGoodOutcome (Count n) = n < 2 ^ 64
+IsGoodOutcome (Committed images) = AllByRecursion IsGoodImage images × Ascend images
+IsGoodOutcome RolledBack = Unit {0}
+IsGoodOutcome Marked = Unit {0}
+IsGoodOutcome Connected = Unit {0}
+IsGoodOutcome Disconnected = Unit {0}
+IsGoodOutcome (Refused fault) = Unit {0}
+
+-- a reply that has a text
+pub record IsGoodReply (reply : Reply) : Type 0 where
+  pub outcome : IsGoodOutcome reply.outcome
+  pub draws : AllByRecursion IsGoodDraw reply.draws
+  pub made : IfSome reply.made (λ row. row < 2 ^ 64)
+
+-- a call that has a text
+abbrev pub IsCall : Call → Type 0
+IsCall (Connect service) = IsTxt service
+IsCall (Sql text binds) = IsTxt text × (length binds ≤ 16) × IsValues binds
+IsCall Disconnect = Unit {0}

@@ -1,0 +1,4 @@
+pub mod Room
+pub mod Fault
+pub mod Good
+pub mod Text

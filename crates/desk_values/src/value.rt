@@ -1,0 +1,169 @@
+ghost use Rattle.std.specs.Prelude.{◌≡◌, ◌++◌, ◌∷◌, ◌↔◌, ◌≤◌, [], length, OnOk, OnErr, IsErrOf, IsNone, slice_get};
+ghost use Rattle.std.specs.Option.{option_copied};
+ghost use Rattle.desk_values.specs.declared.value.BindErr.TheVariants.{Memory as OutOfMemory};
+
+use crate::list::List;
+use crate::memory::{Copied, Memory};
+use crate::text::Txt;
+use std::alloc::Global;
+use std::marker::Model;
+
+/// A value of SQL: what a column, a bind or an item of a row holds.
+#[derive(Drop)]
+pub enum Value {
+    /// No value.
+    Null,
+    /// A whole number.
+    Int(i64),
+    /// A text.
+    Text(Txt),
+    /// The number of a row, an id.
+    Row(u64),
+    /// A value drawn from a sequence, an id: the sequence's number and the value.
+    Draw(u32, u64),
+}
+
+impl Copied for Value {
+    fn copy(&self) -> Result<Value, Memory> {
+        match self {
+            Value::Null => Ok(Value::Null),
+            Value::Int(number) => Ok(Value::Int(*number)),
+            Value::Text(text) => Ok(Value::Text(text.copy()?)),
+            Value::Row(row) => Ok(Value::Row(*row)),
+            Value::Draw(sequence, value) => Ok(Value::Draw(*sequence, *value)),
+        }
+    }
+}
+
+/// Values in order, as those of a row.
+pub type Values = List<Value>;
+
+/// Rows of values.
+pub type RowList = List<Values>;
+
+/// Bytes, as those of a file.
+pub type Bytes = List<u8>;
+
+/// Stamps of calls, or other numbers.
+pub type Stamps = List<u32>;
+
+/// The greatest number of binds of a call.
+pub const BIND_LIMIT: usize = 16;
+
+/// The values of a call's binds, at most 16. Contracts see the list.
+#[derive(Drop)]
+pub struct Binds {
+    values: Values,
+}
+
+impl Model for Binds {
+    ghost use Rattle.std.specs.Prelude.{List, ◌≤◌, length};
+    ghost use Rattle.desk_values.specs.declared.value.Value.{Value as Bind};
+
+    ghost Value = { List Bind };
+
+    ghost view = { λ a. a.values };
+
+    ghost invariant = { λ a. length a.values ≤ 16 };
+}
+
+/// Why a bind was not added.
+#[derive(Clone, Copy, Debug, PartialEq, Eq)]
+pub enum BindErr {
+    /// There are 16 already.
+    Full,
+    /// Want of memory.
+    Memory,
+}
+
+impl From<Memory> for BindErr {
+    ghost from_gives = { λ _ e. e ≡ OutOfMemory };
+
+    fn from(_error: Memory) -> BindErr {
+        BindErr::Memory
+    }
+}
+
+impl Binds {
+    /// No binds.
+    pub fn new(alloc: Global) -> Self
+        ensures { result ≡ [] }
+    {
+        Binds {
+            values: List::new(alloc),
+        }
+    }
+
+    /// How many binds there are.
+    pub fn len(&self) -> usize
+        ensures count { result ≡ length self.now }
+        ensures limit { result ≤ 16 }
+    {
+        self.values.len()
+    }
+
+    /// The bind at a place from 0.
+    pub fn get(&self, i: usize) -> Option<&Value>
+        ensures value { option_copied result ≡ slice_get self.now i }
+        ensures none { IsNone result ↔ (length self.now ≤ i) }
+    {
+        self.values.get(i)
+    }
+
+    /// The binds in order.
+    pub fn as_slice(&self) -> &[Value]
+        ensures value { result.now ≡ self.now }
+        ensures limit { length self.now ≤ 16 }
+    {
+        self.values.as_slice()
+    }
+
+    /// Adds a bind at the end. An `Err` changes nothing.
+    pub fn push(&mut self, value: Value) -> Result<(), BindErr>
+        ensures ok { OnOk result (self.new ≡ self.old ++ value ∷ []) }
+        ensures full { IsErrOf result BindErr.Full ↔ (length self.old ≡ 16) }
+        ensures err { OnErr result (self.new ≡ self.old) }
+    {
+        if self.values.len() == BIND_LIMIT {
+            return Err(BindErr::Full);
+        }
+        self.values.push(value)?;
+        Ok(())
+    }
+}
+
+impl Copied for Binds {
+    fn copy(&self) -> Result<Binds, Memory> {
+        Ok(Binds {
+            values: self.values.copy()?,
+        })
+    }
+}
+
+/// What a commit leaves of one row, or a row of a start.
+#[derive(Drop)]
+pub struct Image {
+    /// The row's number.
+    pub row: u64,
+    /// The number of its table, from 0.
+    pub table: u32,
+    /// The row's values by column, or `None` where it is deleted.
+    pub left: Option<Values>,
+}
+
+impl Copied for Image {
+    fn copy(&self) -> Result<Image, Memory> {
+        let left = match &self.left {
+            Some(values) => Some(values.copy()?),
+            None => None,
+        };
+        Ok(Image {
+            row: self.row,
+            table: self.table,
+            left,
+        })
+    }
+}
+
+/// Images of rows. Those of a commit ascend by row.
+pub type Images = List<Image>;
