@@ -10,6 +10,7 @@ mod fault;
 mod list;
 mod memory;
 mod reserved;
+mod same;
 mod text;
 mod value;
 
@@ -19,5 +20,6 @@ pub use fault::Fault;
 pub use list::List;
 pub use memory::{Copied, Memory};
 pub use reserved::Reserved;
+pub use same::Same;
 pub use text::{TEXT_LIMIT, Txt, TxtErr};
 pub use value::{BIND_LIMIT, BindErr, Binds, Bytes, Image, Images, RowList, Stamps, Value, Values};
