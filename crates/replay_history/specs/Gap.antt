@@ -1,0 +1,20 @@
+-- The time between the calls of a session, and the pause that a replay makes of it.
+use Rattle.std.specs.Prelude.{◌≡◌, ℕ, suc, ◌-◌, ◌*◌, ◌/◌, ◌<◌, Option, None, Some, List, slice_get}
+use Rattle.desk_values.specs.declared.capture.Captured.{Captured}
+
+-- in this list by stamp, the call with this stamp
+abbrev pub IsCallAt : List Captured → ℕ → Captured → Type 0
+IsCallAt calls k call = slice_get calls k ≡ Some call
+
+-- the first is the call just before the second in one session
+pub record IsJustBefore (first second : Captured) : Type 0 where
+  pub session : first.session ≡ second.session
+  pub place : suc first.place ≡ second.place
+
+-- from the capture's start to a session's first call; else from the end of the session's call before
+abbrev pub IsGap : List Captured → Captured → ℕ → Type 0
+IsGap calls call gap = ((call.place ≡ 0) → gap ≡ call.began) × ((j : ℕ) (before : Captured) → IsCallAt calls j before → IsJustBefore before call → gap ≡ call.began - before.ended)
+
+-- that many hundredths of a gap, rounded down
+abbrev pub pause_of : ℕ → ℕ → ℕ
+pause_of gap percent = gap * percent / 100

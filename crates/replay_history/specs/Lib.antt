@@ -1,0 +1,6 @@
+pub mod Mode
+pub mod Class
+pub mod Gap
+pub mod History
+pub mod Capture
+pub mod Texts

@@ -1,0 +1,52 @@
+-- The texts of a history, a report and tables. A file is lines, each ended by a line feed.
+use Rattle.std.specs.Prelude.{ℕ, List, [], ◌∷◌, ◌++◌, Option, None, Some, codes, unwrap_or, slice_index}
+use Rattle.std.specs.List.{flat_map}
+use Rattle.std.specs.Fmt.{decimal}
+use Rattle.desk_values.specs.declared.value.Image.{Image}
+use Rattle.desk_values.specs.declared.capture.Event.{Event}
+use Rattle.desk_values.specs.declared.capture.Event.TheVariants.{Start, Answer}
+use Rattle.desk_values.specs.Text.{reply_text, left_text}
+use Rattle.replay_history.specs.declared.mode.Mode.{Mode}
+use Rattle.replay_history.specs.declared.report.Line.{Line}
+use Rattle.replay_history.specs.declared.report.Report.{Report}
+use Rattle.replay_history.specs.declared.report.Class.{Class}
+use Rattle.replay_history.specs.declared.report.Class.TheVariants.{Same, NewError, GoneError, MutatedError, RowsModified, RowsFetched, RowContents, Images, Shape}
+use Rattle.replay_history.specs.Mode.{mode_word}
+use Rattle.replay_history.specs.Class.{class_word}
+
+-- a line, with its line feed
+abbrev pub line : List ℕ → List ℕ
+line text = text ++ 10 ∷ []
+
+abbrev pub event_text : Event → List ℕ
+event_text (Start k pause) = codes "s " ++ (decimal k ++ 32 ∷ decimal pause)
+event_text (Answer k reply) = codes "a " ++ (decimal k ++ 32 ∷ reply_text reply)
+
+abbrev pub journal_text : Mode → List Event → List ℕ
+journal_text mode history = line (codes "journal 1 " ++ mode_word mode) ++ (flat_map (λ event. line (event_text event)) history ++ line (codes "end"))
+
+-- a word and a number
+abbrev pub count_line : List ℕ → ℕ → List ℕ
+count_line word count = line (word ++ 32 ∷ decimal count)
+
+abbrev pub line_text : Line → List ℕ
+line_text l = decimal l.stamp ++ 32 ∷ (decimal l.session ++ 32 ∷ (decimal l.place ++ 32 ∷ class_word l.class))
+
+-- the count of each class, in their order
+abbrev pub counts_text : List Class → List ℕ → List ℕ
+counts_text [] counts = []
+counts_text (class ∷ classes) [] = count_line (class_word class) 0 ++ counts_text classes []
+counts_text (class ∷ classes) (count ∷ counts) = count_line (class_word class) count ++ counts_text classes counts
+
+abbrev pub all_classes : List Class
+all_classes = Same ∷ NewError ∷ GoneError ∷ MutatedError ∷ RowsModified ∷ RowsFetched ∷ RowContents ∷ Images ∷ Shape ∷ []
+
+abbrev pub report_text : Report → List ℕ
+report_text r = line (codes "report 1") ++ (count_line (codes "calls") r.calls ++ (counts_text all_classes r.counts ++ (flat_map (λ l. line (line_text l)) r.lines ++ line (codes "end"))))
+
+-- a committed row: its number, its table and its values
+abbrev pub row_text : Image → List ℕ
+row_text image = decimal image.row ++ 32 ∷ (decimal image.table ++ 32 ∷ left_text image.left)
+
+abbrev pub tables_text : List Image → List ℕ
+tables_text rows = line (codes "tables 1") ++ (flat_map (λ image. line (row_text image)) rows ++ line (codes "end"))
