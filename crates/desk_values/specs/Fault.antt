@@ -1,5 +1,6 @@
 -- The number of each fault.
-use Rattle.std.specs.Prelude.{ℕ}
+use Rattle.std.specs.Prelude.{ℕ, ◌==◌, List, [], ◌∷◌, Option}
+use Rattle.std.specs.List.{find}
 use Rattle.desk_values.specs.declared.fault.Fault.{Fault}
 use Rattle.desk_values.specs.declared.fault.Fault.TheVariants.{Syntax, UnknownTable, UnknownColumn, UnknownSequence, UnknownService, Kinds, BindMissing, Locked, DuplicateKey, NullValue, OutOfRange, TextTooLong, ZeroDivisor, Overflow, ReadOnly, NotConnected, AlreadyConnected, UnderWay, TooManyRows}
 
@@ -23,3 +24,10 @@ fault_number NotConnected = 28
 fault_number AlreadyConnected = 29
 fault_number UnderWay = 32
 fault_number TooManyRows = 33
+
+abbrev pub all_faults : List Fault
+all_faults = Syntax ∷ UnknownTable ∷ UnknownColumn ∷ UnknownSequence ∷ UnknownService ∷ Kinds ∷ BindMissing ∷ Locked ∷ DuplicateKey ∷ NullValue ∷ OutOfRange ∷ TextTooLong ∷ ZeroDivisor ∷ Overflow ∷ ReadOnly ∷ NotConnected ∷ AlreadyConnected ∷ UnderWay ∷ TooManyRows ∷ []
+
+-- the fault with this number, where there is one
+unfoldable pub fault_numbered : ℕ → Option Fault
+fault_numbered n = find (λ fault. fault_number fault == n) all_faults

@@ -1,10 +1,10 @@
 ghost use Rattle.std.specs.Prelude.{◌≡◌, ◌↔◌, IsTrue};
-ghost use Rattle.desk_values.specs.Good.{IsGoodRow, IsGoodImage, IsGoodDraw, IsGoodOutcome, IsGoodReply};
 
 use crate::fault::Fault;
 use crate::memory::{Copied, Memory};
 use crate::text::Txt;
 use crate::value::{Binds, Images, RowList, Values};
+use crate::well_formed::{all_draws, is_good_outcome};
 
 /// What a client asks of the server.
 #[derive(Drop)]
@@ -72,6 +72,21 @@ pub struct Reply {
     pub draws: Values,
     /// The number of the row that an INSERT made.
     pub made: Option<u64>,
+}
+
+impl Reply {
+    ghost use Rattle.desk_values.specs.Good.{IsGoodReply};
+
+    /// Whether the reply can be written as a text. No row is empty, nor is what an image leaves; images stand by rising
+    /// row, in tables up to 31; and only draws stand among the draws.
+    pub fn good(&self) -> bool
+        ensures { IsTrue result ↔ IsGoodReply self.now }
+    {
+        if let Some(row) = &self.made {
+            let _row = *row;
+        }
+        is_good_outcome(&self.outcome) && all_draws(self.draws.as_slice())
+    }
 }
 
 impl Copied for Reply {

@@ -12,7 +12,7 @@ pub struct Captured {
     pub session: u32,
     /// How many calls of the session stand before it.
     pub place: u32,
-    /// Its place in the capture's one order, from 0.
+    /// Where it stands among all calls of the capture, from 0.
     pub stamp: u32,
     /// How many numbered commits stand before it.
     pub seen: u64,

@@ -1,5 +1,6 @@
-ghost use Rattle.std.specs.Prelude.{◌≡◌};
-ghost use Rattle.desk_values.specs.Fault.{fault_number};
+ghost use Rattle.std.specs.Prelude.{◌≡◌, Some, IfSome};
+ghost use Rattle.desk_values.specs.declared.fault.Fault.{Fault};
+ghost use Rattle.desk_values.specs.Fault.{fault_number, fault_numbered};
 
 /// Why a call is refused. The causes are the profile's own, each with a number.
 #[derive(Clone, Copy, Debug, PartialEq, Eq)]
@@ -44,6 +45,35 @@ pub enum Fault {
     TooManyRows,
 }
 
+const ALL: [Fault; 19] = [
+    Fault::Syntax,
+    Fault::UnknownTable,
+    Fault::UnknownColumn,
+    Fault::UnknownSequence,
+    Fault::UnknownService,
+    Fault::Kinds,
+    Fault::BindMissing,
+    Fault::Locked,
+    Fault::DuplicateKey,
+    Fault::NullValue,
+    Fault::OutOfRange,
+    Fault::TextTooLong,
+    Fault::ZeroDivisor,
+    Fault::Overflow,
+    Fault::ReadOnly,
+    Fault::NotConnected,
+    Fault::AlreadyConnected,
+    Fault::UnderWay,
+    Fault::TooManyRows,
+];
+
+#[tactic(auto, unfolding(crate::specs::Fault::fault_numbered))]
+fn numbered(number: u32) -> Option<Fault>
+    ensures { result ≡ fault_numbered number }
+{
+    ALL.iter().copied().find(|fault| fault.number() == number)
+}
+
 impl Fault {
     /// The fault's number in texts.
     pub fn number(self) -> u32
@@ -70,5 +100,14 @@ impl Fault {
             Fault::UnderWay => 32,
             Fault::TooManyRows => 33,
         }
+    }
+
+    /// The fault with this number, where there is one.
+    pub fn from_number(number: u32) -> Option<Fault>
+        ensures value { result ≡ fault_numbered number }
+        ensures some { IfSome result (λ fault. fault_number fault ≡ number) }
+        ensures only { (fault : Fault) → fault_number fault ≡ number → result ≡ Some fault }
+    {
+        numbered(number)
     }
 }

@@ -6,20 +6,31 @@
 
 mod call;
 mod capture;
+mod escape;
 mod fault;
+pub mod fields;
+pub mod laws;
 mod list;
 mod memory;
+mod read_err;
+mod reading;
 mod reserved;
 mod same;
 mod text;
 mod value;
+mod well_formed;
+mod writing;
 
 pub use call::{Call, Outcome, Reply};
 pub use capture::{CallList, Captured, Event, History, SessionLists};
 pub use fault::Fault;
 pub use list::List;
 pub use memory::{Copied, Memory};
+pub use read_err::ReadErr;
+pub use reading::{read_value, read_values};
 pub use reserved::Reserved;
 pub use same::Same;
 pub use text::{TEXT_LIMIT, Txt, TxtErr};
 pub use value::{BIND_LIMIT, BindErr, Binds, Bytes, Image, Images, RowList, Stamps, Value, Values};
+pub use well_formed::{all_draws, rows_ascend};
+pub use writing::{write_value, write_values};

@@ -67,6 +67,11 @@ impl<T> List<T> {
         List { items }
     }
 
+    /// The allocator that the items are kept by.
+    pub fn allocator(&self) -> Global {
+        *self.items.allocator()
+    }
+
     /// The vector of the items.
     pub fn into_vec(self) -> Vec<T>
         ensures { result.items ≡ self }
@@ -97,12 +102,21 @@ impl<T: Drop> List<T> {
     }
 }
 
+impl<T: Copied> List<T> {
+    /// A list of copies of these items.
+    pub fn from_slice(alloc: Global, items: &[T]) -> Result<Self, Memory>
+        ensures { IfOk result (λ list. list ≡ items.now) }
+    {
+        let mut list = List::new(alloc);
+        for item in items {
+            list.push(item.copy()?)?;
+        }
+        Ok(list)
+    }
+}
+
 impl<T: Copied> Copied for List<T> {
     fn copy(&self) -> Result<List<T>, Memory> {
-        let mut copy = List::new(*self.items.allocator());
-        for item in self.items.as_slice() {
-            copy.push(item.copy()?)?;
-        }
-        Ok(copy)
+        List::from_slice(*self.items.allocator(), self.items.as_slice())
     }
 }

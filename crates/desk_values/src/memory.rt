@@ -38,3 +38,9 @@ impl Copied for u32 {
         Ok(*self)
     }
 }
+
+impl Copied for u64 {
+    fn copy(&self) -> Result<u64, Memory> {
+        Ok(*self)
+    }
+}

@@ -1,6 +1,7 @@
-ghost use Rattle.std.specs.Prelude.{◌≡◌, ◌+◌, ◌<◌, ◌≤◌, ◌↔◌, ◌++◌, ◌∷◌, [], length, slice_get, IfOk, IsOk, OnOk, OnErr, IsNone};
+ghost use Rattle.std.specs.Prelude.{◌≡◌, ◌+◌, ◌<◌, ◌≤◌, ◌↔◌, ◌++◌, ◌∷◌, [], length, slice_get, map, IfOk, IsOk, OnOk, OnErr, IsNone};
 ghost use Rattle.std.specs.Option.{option_copied};
 
+use crate::list::List;
 use crate::memory::{Copied, Memory};
 use std::alloc::Global;
 use std::marker::Model;
@@ -86,6 +87,19 @@ impl<T: Copied> Reserved<T> {
         let mut copy = Reserved::new(*self.items.allocator());
         for item in self.items.as_slice() {
             copy.push(item.copy()?)?;
+        }
+        Ok(copy)
+    }
+}
+
+impl<T: Copied> List<Reserved<T>> {
+    /// A list of lists with equal items. What room they have is left open.
+    pub fn copy(&self) -> Result<List<Reserved<T>>, Memory>
+        ensures { IfOk result (λ copy. map (λ list. list.items) copy ≡ map (λ list. list.items) self.now) }
+    {
+        let mut copy = List::new(self.allocator());
+        for list in self.as_slice() {
+            copy.push(list.copy()?)?;
         }
         Ok(copy)
     }

@@ -94,6 +94,14 @@ impl Binds {
         }
     }
 
+    /// The binds of a list of at most 16 values.
+    pub fn from_values(values: Values) -> Self
+        requires { length values ≤ 16 }
+        ensures { result ≡ values }
+    {
+        Binds { values }
+    }
+
     /// How many binds there are.
     pub fn len(&self) -> usize
         ensures count { result ≡ length self.now }
@@ -140,7 +148,7 @@ impl Copied for Binds {
     }
 }
 
-/// What a commit leaves of one row, or a row of a start.
+/// A row as a commit leaves it, or as a start has it.
 #[derive(Drop)]
 pub struct Image {
     /// The row's number.
@@ -165,5 +173,5 @@ impl Copied for Image {
     }
 }
 
-/// Images of rows. Those of a commit ascend by row.
+/// Images of rows. In a commit, the row numbers rise.
 pub type Images = List<Image>;

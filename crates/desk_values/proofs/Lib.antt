@@ -1,0 +1,12 @@
+pub mod Options
+pub mod Readers
+pub mod Cuts
+pub mod Numbers
+pub mod Tests
+pub mod Escapes
+pub mod Bytes
+pub mod ValueTexts
+pub mod Faults
+pub mod ReplyTexts
+pub mod CallTexts
+pub mod Lines

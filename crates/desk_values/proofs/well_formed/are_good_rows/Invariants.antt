@@ -1,0 +1,8 @@
+use Rattle.std.proofs.Common.{drop}
+use Rattle.std.specs.Prelude.{◌↔◌}
+use Rattle.std.specs.List.{AllByRecursion}
+use Rattle.desk_values.specs.Good.{IsGoodRow}
+use Rattle.desk_values.proofs.well_formed.are_good_rows.Given as goal
+
+abbrev pub invariant-loop-row : goal.invariant-loop-row
+invariant-loop-row l = AllByRecursion IsGoodRow (drop l.row-index l.rows) ↔ AllByRecursion IsGoodRow l.rows

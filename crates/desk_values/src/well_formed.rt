@@ -1,0 +1,148 @@
+//! Which replies have a text.
+
+ghost use Rattle.std.specs.Prelude.{◌≡◌, ◌↔◌, IsTrue};
+ghost use Rattle.std.specs.List.{AllByRecursion};
+ghost use Rattle.desk_values.specs.Good.{IsValue, IsValues, IsGoodRow, IsGoodImage, IsGoodDraw, IsGoodOutcome, Ascend};
+ghost use Rattle.desk_values.specs.Reading.{rows_ascend, all_draws};
+
+use crate::call::Outcome;
+use crate::value::{Image, Value, Values};
+
+/// Whether each row is below the next.
+pub fn rows_ascend(images: &[Image]) -> bool
+    ensures value { result ≡ rows_ascend images.now }
+    ensures fact { IsTrue result ↔ Ascend images.now }
+{
+    is_ascending(images)
+}
+
+fn is_ascending(images: &[Image]) -> bool
+    ensures { result ≡ rows_ascend images.now }
+{
+    let [first, others @ ..] = images else {
+        return true;
+    };
+    let mut row = first.row;
+    for image in others {
+        if image.row <= row {
+            return false;
+        }
+        row = image.row;
+    }
+    true
+}
+
+/// Whether there are only draws.
+pub fn all_draws(values: &[Value]) -> bool
+    ensures value { result ≡ all_draws values.now }
+    ensures fact { IsTrue result ↔ AllByRecursion IsGoodDraw values.now }
+{
+    know_values(values);
+    are_draws(values)
+}
+
+fn are_draws(values: &[Value]) -> bool
+    ensures { result ≡ all_draws values.now }
+{
+    for value in values {
+        let Value::Draw(_, _) = value else {
+            return false;
+        };
+    }
+    true
+}
+
+// Reads a value, so that its parts are known to be within the limits of their types.
+fn know_value(value: &Value)
+    ensures { IsValue value.now }
+{
+    match value {
+        Value::Null => {}
+        Value::Int(number) => {
+            let _number = *number;
+        }
+        Value::Text(text) => {
+            let _text = text.as_str();
+        }
+        Value::Row(row) => {
+            let _row = *row;
+        }
+        Value::Draw(sequence, drawn) => {
+            let _sequence = *sequence;
+            let _drawn = *drawn;
+        }
+    }
+}
+
+fn know_values(values: &[Value])
+    ensures { IsValues values.now }
+{
+    for value in values {
+        know_value(value);
+    }
+}
+
+fn is_good_row(row: &Values) -> bool
+    ensures { IsTrue result ↔ IsGoodRow row.now }
+{
+    know_values(row.as_slice());
+    !row.is_empty()
+}
+
+fn are_good_rows(rows: &[Values]) -> bool
+    ensures { IsTrue result ↔ AllByRecursion IsGoodRow rows.now }
+{
+    for row in rows {
+        if !is_good_row(row) {
+            return false;
+        }
+    }
+    true
+}
+
+fn is_good_image(image: &Image) -> bool
+    ensures { IsTrue result ↔ IsGoodImage image.now }
+{
+    let _row = image.row;
+    if image.table > 31 {
+        return false;
+    }
+    match &image.left {
+        Some(values) => is_good_row(values),
+        None => true,
+    }
+}
+
+fn are_good_images(images: &[Image]) -> bool
+    ensures { IsTrue result ↔ AllByRecursion IsGoodImage images.now }
+{
+    for image in images {
+        if !is_good_image(image) {
+            return false;
+        }
+    }
+    true
+}
+
+pub fn is_good_outcome(outcome: &Outcome) -> bool
+    ensures { IsTrue result ↔ IsGoodOutcome outcome.now }
+{
+    match outcome {
+        Outcome::Rows(rows) => are_good_rows(rows.as_slice()),
+        Outcome::Count(count) => {
+            let _count = *count;
+            true
+        }
+        Outcome::Committed(images) => {
+            are_good_images(images.as_slice()) && rows_ascend(images.as_slice())
+        }
+        Outcome::RolledBack
+        | Outcome::Marked
+        | Outcome::Connected
+        | Outcome::Disconnected
+        | Outcome::Refused(_) => true,
+    }
+}
+
+#[cfg(test)]
+mod tests;
