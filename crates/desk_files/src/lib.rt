@@ -1,0 +1,26 @@
+//! The outside world as traits: files by name, and a sink of bytes.
+//!
+//! Enters: names and bytes. Leaves: bytes, and which fault came. The objects in memory touch nothing
+//! but memory; the real ones touch the system's files and the standard output, and nothing is claimed
+//! of what those hold.
+#![tactic(auto)]
+
+mod calls;
+mod fault;
+mod files;
+mod mem_files;
+mod mem_sink;
+mod real_files;
+mod sink;
+mod std_sink;
+
+pub use fault::{Failed, FileErr, WriteErr};
+pub use files::{FILE_LIMIT, Files};
+pub use mem_files::MemFiles;
+pub use mem_sink::MemSink;
+pub use real_files::RealFiles;
+pub use sink::Sink;
+pub use std_sink::StdSink;
+
+#[cfg(test)]
+mod tests;

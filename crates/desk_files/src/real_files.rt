@@ -1,0 +1,119 @@
+ghost use Rattle.std.specs.Prelude.{◌≡◌, ◌≢◌, ◌↔◌, ◌≤◌, None, length, IfOk, IfErr, IfSome, OnOk, OnErr, if◌then◌else◌};
+ghost use Rattle.std.specs.IoError.{error_kind};
+ghost use Rattle.desk_files.specs.Answers.{is_read_failed};
+ghost use Rattle.desk_files.specs.Memory.{raised};
+
+use crate::fault::{FileErr, WriteErr};
+use crate::files::{FILE_LIMIT, Files};
+use desk_values::{Bytes, Txt};
+use std::alloc::Global;
+use std::fs::OpenFile;
+use std::io::{ErrorKind, Read};
+use std::marker::Model;
+use std::path::Path;
+use std::{fs, io, rt};
+
+/// The files of the system, which it does not tell. A relative name starts at the folder where the
+/// program runs. Contracts see the count of faults.
+#[derive(Drop)]
+pub struct RealFiles<'a, R> {
+    system: &'a R,
+    alloc: Global,
+    faults: u64,
+}
+
+impl<'a, R> Model for RealFiles<'a, R> {
+    ghost use Rattle.std.specs.Prelude.{ℕ};
+
+    ghost Value = { ℕ };
+
+    ghost view = { λ a. a.faults };
+}
+
+impl<'a, R: rt::Files> RealFiles<'a, R> {
+    /// The files that `system` reaches, with no fault so far.
+    pub fn new(system: &'a R, alloc: Global) -> Self
+        ensures { result ≡ 0 }
+    {
+        RealFiles {
+            system,
+            alloc,
+            faults: 0,
+        }
+    }
+}
+
+impl<R> RealFiles<'_, R> {
+    // What an error of the system means to a reader. All but want of a file and of memory are faults.
+    fn read_fault(&mut self, error: &io::Error) -> FileErr
+        ensures missing { (result ≡ FileErr.Missing) ↔ (error_kind error.now ≡ ErrorKind.NotFound) }
+        ensures memory { (result ≡ FileErr.Memory) ↔ (error_kind error.now ≡ ErrorKind.OutOfMemory) }
+        ensures short { result ≢ FileErr.TooLong }
+        ensures failed { result ≡ FileErr.Failed → self.new ≡ raised self.old }
+        ensures unfailed { result ≢ FileErr.Failed → self.new ≡ self.old }
+    {
+        match error.kind() {
+            ErrorKind::NotFound => FileErr::Missing,
+            ErrorKind::OutOfMemory => FileErr::Memory,
+            _ => {
+                self.faults = self.faults.saturating_add(1);
+                FileErr::Failed
+            }
+        }
+    }
+}
+
+impl<R: rt::Files> Files for RealFiles<'_, R> {
+    ghost content = { λ _. None };
+
+    ghost faults = { λ count. count };
+
+    fn read(&mut self, name: &Txt) -> Result<Bytes, FileErr>
+        ensures limit { IfOk result (λ bytes. length bytes ≤ FILE_LIMIT) }
+        ensures count { self.new ≡ (if is_read_failed result then raised self.old else self.old) }
+    {
+        match read_file(self.system, self.alloc, name.as_str()) {
+            Ok(Some(bytes)) => Ok(bytes),
+            Ok(None) => Err(FileErr::TooLong),
+            Err(error) => Err(self.read_fault(&error)),
+        }
+    }
+
+    /// Makes the folders above the file where they are missing. It never answers `Memory`.
+    fn write(&mut self, name: &Txt, bytes: &[u8]) -> Result<(), WriteErr>
+        ensures ok { OnOk result (self.new ≡ self.old) }
+        ensures err { IfErr result (λ error. error ≡ WriteErr.Failed) }
+        ensures failed { OnErr result (self.new ≡ raised self.old) }
+    {
+        if write_file(self.system, name.as_str(), bytes).is_err() {
+            self.faults = self.faults.saturating_add(1);
+            return Err(WriteErr::Failed);
+        }
+        Ok(())
+    }
+}
+
+// The bytes of a file, or `None` where it is too long. Past the limit at most one byte is read.
+fn read_file<R: rt::Files>(system: &R, alloc: Global, name: &str) -> io::Result<Option<Bytes>>
+    ensures { IfOk result (λ read. IfSome read (λ bytes. length bytes ≤ FILE_LIMIT)) }
+{
+    let file = fs::open(system, name)?;
+    let length = file.metadata()?.len();
+    if length > FILE_LIMIT as u64 {
+        return Ok(None);
+    }
+    // With room for one byte more, the read that finds the end takes no further memory.
+    let mut bytes = Vec::with_capacity(alloc, length as usize + 1)?;
+    file.take(FILE_LIMIT as u64 + 1).read_to_end(&mut bytes)?;
+    if bytes.len() > FILE_LIMIT {
+        return Ok(None);
+    }
+    Ok(Some(Bytes::from_vec(bytes)))
+}
+
+fn write_file(system: &impl rt::Files, name: &str, bytes: &[u8]) -> io::Result<()> {
+    if let Some(folder) = Path::new(name).parent() {
+        fs::create_dir_all(system, folder)?;
+    }
+    fs::write(system, name, bytes)
+}
