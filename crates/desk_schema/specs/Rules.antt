@@ -1,0 +1,161 @@
+-- Which line may follow the lines before it.
+use Rattle.std.specs.Prelude.{ℕ, ℤ, ◌≡◌, ◌<◌, ◌≤◌, ◌≤ℤ◌, ◌^◌, Bool, true, false, ◌==◌, if◌then◌else◌, List, [], ◌∷◌, ◌++◌, length, Option, None, IsSomeAnd, slice_get, FitsSigned}
+use Rattle.std.specs.Int.{w64}
+use Rattle.std.specs.Option.{option_map}
+use Rattle.std.specs.List.{AllByRecursion, AllZip, Contains, filter_map, fold}
+use Rattle.desk_values.specs.declared.value.Value.{Value}
+use Rattle.desk_values.specs.declared.value.Value.TheVariants as value
+use Rattle.desk_values.specs.declared.value.Image.{Image}
+use Rattle.desk_values.specs.Good.{IsTxt}
+use Rattle.desk_schema.specs.declared.line.StartLine.{StartLine}
+use Rattle.desk_schema.specs.declared.line.StartLine.TheVariants.{Head, Level as LevelLine, Seq as SeqLine, Service as ServiceLine, Table as TableLine, Column as ColumnLine, Row as RowLine, NextRow, Sessions, End}
+use Rattle.desk_schema.specs.declared.line.ColumnKind.{ColumnKind}
+use Rattle.desk_schema.specs.declared.line.ColumnKind.TheVariants as written
+use Rattle.desk_schema.specs.declared.schema.Kind.{Kind}
+use Rattle.desk_schema.specs.declared.schema.Kind.TheVariants as numbered
+use Rattle.desk_schema.specs.declared.schema.Service.{Service}
+use Rattle.desk_schema.specs.declared.schema.Table.{Table}
+use Rattle.desk_schema.specs.declared.schema.Column.{Column}
+use Rattle.desk_schema.specs.Name.{IsName}
+use Rattle.desk_schema.specs.Schema.{table_names, column_names, service_names, columns_of}
+use Rattle.desk_schema.specs.Line.{sequence_names, next_values, services_of, tables_of, rows_of, last_columns}
+
+-- the place of each kind of line in the order of a file
+abbrev pub place : StartLine → ℕ
+place Head = 1
+place (LevelLine level) = 2
+place (SeqLine name next) = 3
+place (ServiceLine name rights) = 4
+place (TableLine name) = 5
+place (ColumnLine name kind not_null) = 6
+place (RowLine row table values) = 7
+place (NextRow row) = 8
+place (Sessions count) = 9
+place End = 10
+
+-- the place of the last line, 0 where there is none
+abbrev pub last_place : List StartLine → ℕ
+last_place lines = fold (λ _ line. place line) 0 lines
+
+-- from the one place to the other
+pub record IsWithin (low high last : ℕ) : Type 0 where
+  pub from : low ≤ last
+  pub to : last ≤ high
+
+-- `seq`, after `level` or `seq`: at most 16, with names of their own
+pub record SequenceMayFollow (last : ℕ) (sequences : List (List ℕ)) (name : List ℕ) (next : ℕ) : Type 0 where
+  pub order : IsWithin 2 3 last
+  pub count : length sequences < 16
+  pub is_name : IsName name
+  pub distinct : ¬ Contains sequences name
+  pub least : 1 ≤ next
+  pub most : next ≤ 549755813888
+
+-- `svc`, after `level`, `seq` or `svc`: at most 16, with names of their own
+pub record ServiceMayFollow (last : ℕ) (services : List Service) (name : List ℕ) : Type 0 where
+  pub order : IsWithin 2 4 last
+  pub count : length services < 16
+  pub is_name : IsName name
+  pub distinct : ¬ Contains (service_names services) name
+
+-- `table`, after `level`, `seq`, `svc` or `col`, since a table has columns: at most 32, with names of their own
+pub record TableMayFollow (last : ℕ) (tables : List Table) (name : List ℕ) : Type 0 where
+  pub order : IsWithin 2 6 last
+  pub whole : ¬ (last ≡ 5)
+  pub count : length tables < 32
+  pub is_name : IsName name
+  pub distinct : ¬ Contains (table_names tables) name
+
+pub record IsRange (low high : ℤ) : Type 0 where
+  pub low_fits : FitsSigned w64 low
+  pub high_fits : FitsSigned w64 high
+  pub order : low ≤ℤ high
+
+-- a range with a number in it, a length from 1 to 1,000, or a sequence that is there
+abbrev pub IsKind : List (List ℕ) → ColumnKind → Type 0
+IsKind sequences (written.Int low high) = IsRange low high
+IsKind sequences (written.Text most) = (1 ≤ most) × (most ≤ 1000)
+IsKind sequences (written.Seq sequence) = Contains sequences sequence
+
+-- `col`, after `table` or `col`: at most 16 of a table, with names of their own; the first is not null
+pub record ColumnMayFollow (last : ℕ) (sequences : List (List ℕ)) (columns : List Column) (name : List ℕ) (kind : ColumnKind) (not_null : Bool) : Type 0 where
+  pub order : IsWithin 5 6 last
+  pub count : length columns < 16
+  pub is_name : IsName name
+  pub distinct : ¬ Contains (column_names columns) name
+  pub is_kind : IsKind sequences kind
+  pub key : length columns ≡ 0 → not_null ≡ true
+
+-- a value that is there is of the column's kind: a number in the range, a text that is not too long, or a value that was
+-- drawn from the sequence
+abbrev pub IsOfKind : List ℕ → Kind → Value → Type 0
+IsOfKind nexts (numbered.Int low high) (value.Int n) = (low ≤ℤ n) × (n ≤ℤ high)
+IsOfKind nexts (numbered.Text most) (value.Text text) = IsTxt text × (length text ≤ most)
+IsOfKind nexts (numbered.Seq sequence) (value.Draw drawn n) = (drawn ≡ sequence) × (1 ≤ n) × IsSomeAnd (slice_get nexts sequence) (λ next. n < next)
+IsOfKind nexts kind other = ⊥
+
+-- no value, where the column may be null, or one of its kind
+abbrev pub IsAllowed : List ℕ → Column → Value → Type 0
+IsAllowed nexts column value.Null = column.not_null ≡ false
+IsAllowed nexts column other = IsOfKind nexts column.kind other
+
+-- the first value of a row is its key
+abbrev pub key_of : List Value → Value
+key_of [] = value.Null
+key_of (key ∷ others) = key
+
+abbrev pub key_in : ℕ → Image → Option Value
+key_in table row = if row.table == table then option_map key_of row.left else None
+
+-- the keys of a table's rows
+abbrev pub keys_of : ℕ → List Image → List Value
+keys_of table rows = filter_map (key_in table) rows
+
+-- each row has a number below this one
+abbrev pub AreBelow : ℕ → List Image → Type 0
+AreBelow number rows = AllByRecursion (λ row. row.row < number) rows
+
+-- `row`, after `col` or `row`: at most 100,000, with rising numbers from 1, and one value for each column, each allowed there
+pub record RowFits (last : ℕ) (tables : List Table) (nexts : List ℕ) (rows : List Image) (row table : ℕ) (values : List Value) : Type 0 where
+  pub order : IsWithin 6 7 last
+  pub count : length rows < 100000
+  pub least : 1 ≤ row
+  pub most : row < 2 ^ 64
+  pub rising : AreBelow row rows
+  pub is_table : table < length tables
+  pub allowed : AllZip (IsAllowed nexts) (columns_of tables table) values
+
+-- its key is that of no earlier row of the table
+pub record RowMayFollow (last : ℕ) (tables : List Table) (nexts : List ℕ) (rows : List Image) (row table : ℕ) (values : List Value) : Type 0 where
+  pub fits : RowFits last tables nexts rows row table values
+  pub key : ¬ Contains (keys_of table rows) (key_of values)
+
+-- `nextrow`, after anything from `level` to `row`, since a table has columns: over every row
+pub record NextRowMayFollow (last : ℕ) (rows : List Image) (next : ℕ) : Type 0 where
+  pub order : IsWithin 2 7 last
+  pub whole : ¬ (last ≡ 5)
+  pub least : 1 ≤ next
+  pub most : next ≤ 549755813888
+  pub above : AreBelow next rows
+
+-- the line may follow the lines before it
+abbrev pub MayFollow : List StartLine → StartLine → Type 0
+MayFollow before Head = before ≡ []
+MayFollow before (LevelLine level) = (last_place before ≡ 1) × (level ≡ 1)
+MayFollow before (SeqLine name next) = SequenceMayFollow (last_place before) (sequence_names before) name next
+MayFollow before (ServiceLine name rights) = ServiceMayFollow (last_place before) (services_of before) name
+MayFollow before (TableLine name) = TableMayFollow (last_place before) (tables_of before) name
+MayFollow before (ColumnLine name kind not_null) = ColumnMayFollow (last_place before) (sequence_names before) (last_columns (tables_of before)) name kind not_null
+MayFollow before (RowLine row table values) = RowMayFollow (last_place before) (tables_of before) (next_values before) (rows_of before) row table values
+MayFollow before (NextRow next) = NextRowMayFollow (last_place before) (rows_of before) next
+MayFollow before (Sessions count) = (last_place before ≡ 8) × (count ≤ 64)
+MayFollow before End = last_place before ≡ 9
+
+-- after the lines before, each of these may follow
+abbrev pub AreLinesAfter : List StartLine → List StartLine → Type 0
+AreLinesAfter before [] = Unit {0}
+AreLinesAfter before (line ∷ lines) = MayFollow before line × AreLinesAfter (before ++ line ∷ []) lines
+
+-- each line may follow the lines before it
+abbrev pub AreLines : List StartLine → Type 0
+AreLines lines = AreLinesAfter [] lines

@@ -1,0 +1,229 @@
+ghost use Rattle.std.specs.Prelude.{◌≡◌, ◌++◌, ◌∷◌, [], ◌↔◌, IfOk, IsTrue, OnOk, OnErr};
+ghost use Rattle.desk_schema.specs.declared.line.StartLine.{StartLine};
+ghost use Rattle.desk_schema.specs.Last.{place_of_last};
+ghost use Rattle.desk_schema.specs.Line.{next_values, rows_of, sequence_names, tables_of, with_name};
+ghost use Rattle.desk_schema.specs.Rules.{AreLines, last_place, MayFollow, RowFits};
+ghost use Rattle.desk_schema.specs.Start.{start_of, Judges, JudgesUnlessMemory};
+ghost use Rattle.desk_schema.specs.declared.draft.DraftErr.TheVariants.{Memory as OutOfMemory};
+
+use crate::keys::{KeySet, row_key};
+use crate::parts::{last_columns, last_line, push_column, push_row, push_sequence};
+use crate::rules::{
+    Last, fits_row, may_add_column, may_add_sequence, may_add_service, may_add_table, may_finish,
+};
+use crate::schema::{Column, Kind, Rights, Schema, Service, Table};
+use crate::start::Start;
+use desk_values::{Copied, Image, List, Memory, Txt, Value, Values};
+use std::alloc::{AllocFailed, Global};
+use std::marker::Model;
+
+/// Why a line was not added to a [`Draft`].
+#[derive(Clone, Copy, Debug, PartialEq, Eq)]
+pub enum DraftErr {
+    /// It would break a rule of the lines of a start.
+    Rule,
+    /// Want of memory.
+    Memory,
+}
+
+impl From<Memory> for DraftErr {
+    ghost from_gives = { λ _ e. e ≡ OutOfMemory };
+
+    fn from(_error: Memory) -> DraftErr {
+        DraftErr::Memory
+    }
+}
+
+impl<T: Drop> From<AllocFailed<T>> for DraftErr {
+    ghost from_gives = { λ _ e. e ≡ OutOfMemory };
+
+    fn from(_error: AllocFailed<T>) -> DraftErr {
+        DraftErr::Memory
+    }
+}
+
+/// The one level of the SQL rules.
+const LEVEL: u32 = 1;
+
+/// A start whose lines come one after the other. Contracts see the lines so far.
+#[derive(Drop)]
+pub struct Draft {
+    level: u32,
+    sequences: Vec<Txt>,
+    next_values: Vec<u64>,
+    services: List<Service>,
+    tables: Vec<Table>,
+    rows: Vec<Image>,
+    keys: KeySet,
+}
+
+impl Model for Draft {
+    ghost use Rattle.std.specs.Prelude.{List as Sequence};
+    ghost use Rattle.desk_schema.specs.declared.line.StartLine.{StartLine};
+    ghost use Rattle.desk_schema.specs.Draft.{IsDraft};
+    ghost use Rattle.desk_schema.specs.Start.{part_lines};
+
+    ghost Value = { Sequence StartLine };
+
+    ghost view = { λ a. part_lines (record { level = a.level; sequences = a.sequences.items; services = a.services; tables = a.tables.items }) a.next_values.items a.rows.items };
+
+    ghost invariant = { λ a. IsDraft (record { level = a.level; sequences = a.sequences.items; services = a.services; tables = a.tables.items }) a.next_values.items a.rows.items a.keys };
+}
+
+impl Draft {
+    /// A draft with its first two lines.
+    pub fn new(alloc: Global, level: u32) -> Result<Draft, DraftErr>
+        ensures ok { IfOk result (λ draft. draft ≡ StartLine.Head ∷ StartLine.Level level ∷ []) }
+        ensures rule { Judges result (MayFollow (StartLine.Head ∷ []) (StartLine.Level level)) }
+    {
+        if level != LEVEL {
+            return Err(DraftErr::Rule);
+        }
+        Ok(Draft {
+            level,
+            sequences: Vec::new(alloc),
+            next_values: Vec::new(alloc),
+            services: List::new(alloc),
+            tables: Vec::new(alloc),
+            rows: Vec::new(alloc),
+            keys: KeySet::new(alloc),
+        })
+    }
+
+    /// Adds a sequence with its next value.
+    pub fn add_seq(&mut self, name: &Txt, next: u64) -> Result<(), DraftErr>
+        ensures ok { OnOk result (self.new ≡ self.old ++ StartLine.Seq name.now next ∷ []) }
+        ensures rule { Judges result (MayFollow self.old (StartLine.Seq name.now next)) }
+        ensures err { OnErr result (self.new ≡ self.old) }
+    {
+        if !may_add_sequence(self.last(), self.sequences.as_slice(), name, next) {
+            return Err(DraftErr::Rule);
+        }
+        let name = name.copy()?;
+        push_sequence(&mut self.sequences, name, &mut self.next_values, next)?;
+        Ok(())
+    }
+
+    /// Adds a service.
+    pub fn add_service(&mut self, name: &Txt, rights: Rights) -> Result<(), DraftErr>
+        ensures ok { OnOk result (self.new ≡ self.old ++ StartLine.Service name.now rights ∷ []) }
+        ensures rule { Judges result (MayFollow self.old (StartLine.Service name.now rights)) }
+        ensures err { OnErr result (self.new ≡ self.old) }
+    {
+        if !may_add_service(self.last(), self.services.as_slice(), name) {
+            return Err(DraftErr::Rule);
+        }
+        let name = name.copy()?;
+        self.services.push(Service { name, rights })?;
+        Ok(())
+    }
+
+    /// Adds a table. Its columns come next.
+    pub fn add_table(&mut self, name: &Txt) -> Result<(), DraftErr>
+        ensures ok { OnOk result (self.new ≡ self.old ++ StartLine.Table name.now ∷ []) }
+        ensures rule { Judges result (MayFollow self.old (StartLine.Table name.now)) }
+        ensures err { OnErr result (self.new ≡ self.old) }
+    {
+        if !may_add_table(self.last(), self.tables.as_slice(), name) {
+            return Err(DraftErr::Rule);
+        }
+        let name = name.copy()?;
+        let columns = List::new(*self.tables.allocator());
+        self.tables.push(Table { name, columns })?;
+        Ok(())
+    }
+
+    /// Adds a column to the last table. Where no sequence has the number of a `Kind::Seq`, that is against the rules.
+    pub fn add_col(&mut self, name: &Txt, kind: Kind, not_null: bool) -> Result<(), DraftErr>
+        ensures ok { OnOk result (self.new ≡ self.old ++ StartLine.Column name.now (with_name (sequence_names self.old) kind) not_null ∷ []) }
+        ensures rule { Judges result (MayFollow self.old (StartLine.Column name.now (with_name (sequence_names self.old) kind) not_null)) }
+        ensures err { OnErr result (self.new ≡ self.old) }
+    {
+        let sequences = self.sequences.as_slice();
+        let columns = last_columns(self.tables.as_slice());
+        if !may_add_column(self.last(), sequences, columns, name, kind, not_null) {
+            return Err(DraftErr::Rule);
+        }
+        let name = name.copy()?;
+        push_column(
+            &mut self.tables,
+            Column {
+                name,
+                kind,
+                not_null,
+            },
+        )?;
+        Ok(())
+    }
+
+    /// Adds a row of a table.
+    pub fn add_row(&mut self, row: u64, table: u32, values: Values) -> Result<(), DraftErr>
+        ensures ok { OnOk result (self.new ≡ self.old ++ StartLine.Row row table values ∷ []) }
+        ensures rule { JudgesUnlessMemory result (MayFollow self.old (StartLine.Row row table values)) }
+        ensures err { OnErr result (self.new ≡ self.old) }
+    {
+        if !self.fits(row, table, values.as_slice()) {
+            return Err(DraftErr::Rule);
+        }
+        let key = row_key(*self.rows.allocator(), table, values.as_slice())?;
+        let image = Image {
+            row,
+            table,
+            left: Some(values),
+        };
+        if !push_row(&mut self.rows, image, &mut self.keys, key)? {
+            return Err(DraftErr::Rule);
+        }
+        Ok(())
+    }
+
+    /// The start of the lines so far and of the number of the next row. An `Err` drops the draft.
+    pub fn finish(self, next_row: u64) -> Result<Start, DraftErr>
+        ensures ok { IfOk result (λ start. start ≡ start_of (self ++ StartLine.NextRow next_row ∷ [])) }
+        ensures rule { Judges result (MayFollow self (StartLine.NextRow next_row)) }
+        ensures lines { AreLines self }
+    {
+        if !may_finish(self.last(), self.rows.as_slice(), next_row) {
+            return Err(DraftErr::Rule);
+        }
+        let schema = Schema::from_parts(
+            self.level,
+            List::from_vec(self.sequences),
+            self.services,
+            List::from_vec(self.tables),
+        );
+        Ok(Start::from_parts(
+            schema,
+            List::from_vec(self.rows),
+            next_row,
+            self.next_values,
+        ))
+    }
+
+    /// The kind of the last line.
+    fn last(&self) -> Last
+        ensures { place_of_last result ≡ last_place self.now }
+    {
+        last_line(
+            self.sequences.as_slice(),
+            self.services.as_slice(),
+            self.tables.as_slice(),
+            self.rows.as_slice(),
+        )
+    }
+
+    /// Whether a row may come next but for its key.
+    fn fits(&self, row: u64, table: u32, values: &[Value]) -> bool
+        ensures { IsTrue result ↔ RowFits (last_place self.now) (tables_of self.now) (next_values self.now) (rows_of self.now) row table values.now }
+    {
+        fits_row(
+            self.last(),
+            self.tables.as_slice(),
+            self.next_values.as_slice(),
+            self.rows.as_slice(),
+            row,
+            table,
+            values,
+        )
+    }
+}

@@ -1,0 +1,96 @@
+ghost use Rattle.std.specs.Prelude.{◌≡◌, slice_get, IfOk, IsTrue, ◌↔◌};
+ghost use Rattle.desk_schema.specs.Start.{IsStart};
+
+use crate::schema::Schema;
+use desk_values::{Copied, Images, Memory, Same};
+use std::marker::Model;
+
+/// What a replay starts from: a schema, rows, the number of the next row and the next value of each sequence.
+#[derive(Drop)]
+pub struct Start {
+    schema: Schema,
+    rows: Images,
+    next_row: u64,
+    next_values: Vec<u64>,
+}
+
+impl Model for Start {
+    ghost use Rattle.desk_schema.specs.Start.{StartView, IsStart};
+
+    ghost Value = { StartView };
+
+    ghost view = { λ a. record { schema = a.schema; rows = a.rows; next_row = a.next_row; next_values = a.next_values.items } };
+
+    ghost invariant = { λ a. IsStart (record { schema = a.schema; rows = a.rows; next_row = a.next_row; next_values = a.next_values.items }) };
+}
+
+impl Copied for Start {
+    fn copy(&self) -> Result<Start, Memory> {
+        Ok(Start {
+            schema: self.schema.copy()?,
+            rows: self.rows.copy()?,
+            next_row: self.next_row,
+            next_values: self.next_values.clone()?,
+        })
+    }
+}
+
+impl Start {
+    /// The start of these parts.
+    pub(crate) fn from_parts(
+        schema: Schema,
+        rows: Images,
+        next_row: u64,
+        next_values: Vec<u64>,
+    ) -> Start
+        requires { IsStart (record { schema = schema; rows = rows; next_row = next_row; next_values = next_values.items }) }
+        ensures { result ≡ record { schema = schema; rows = rows; next_row = next_row; next_values = next_values.items } }
+    {
+        Start {
+            schema,
+            rows,
+            next_row,
+            next_values,
+        }
+    }
+
+    /// The schema.
+    pub fn schema(&self) -> &Schema
+        ensures value { result.now ≡ self.now.schema }
+        ensures valid { IsStart self.now }
+    {
+        &self.schema
+    }
+
+    /// The rows, by ascending number.
+    pub fn rows(&self) -> &Images
+        ensures value { result.now ≡ self.now.rows }
+        ensures valid { IsStart self.now }
+    {
+        &self.rows
+    }
+
+    /// The number of the next row.
+    pub fn next_row(&self) -> u64
+        ensures { result ≡ self.now.next_row }
+    {
+        self.next_row
+    }
+
+    /// The next value of a sequence, `None` where there is no such sequence.
+    pub fn next_value(&self, seq: u32) -> Option<u64>
+        ensures { result ≡ slice_get self.now.next_values seq }
+    {
+        self.next_values.get(seq as usize).copied()
+    }
+
+    /// Whether the two starts are equal. Services are compared in order.
+    pub fn same(&self, other: &Start) -> bool
+        ensures { IsTrue result ↔ (self.now ≡ other.now) }
+    {
+        self.schema.same(&other.schema)
+            && self.rows.same(&other.rows)
+            && self.next_row == other.next_row
+            && self.next_values.as_slice() == other.next_values.as_slice()
+    }
+}
