@@ -1,0 +1,17 @@
+pub mod Cuts
+pub mod Alphabet
+pub mod SessionLines
+pub mod SessionSteps
+pub mod Spaces
+pub mod SessionReader
+pub mod Texts
+pub mod SessionLoop
+pub mod Names
+pub mod SimpleReader
+pub mod StartReader
+pub mod Sequences
+pub mod Failures
+pub mod StartLoop
+pub mod StartEnd
+pub mod StartTail
+pub mod Unique

@@ -1,0 +1,12 @@
+pub mod Cuts
+pub mod NameReading
+pub mod Reading
+pub mod SessionFile
+pub mod SessionReading
+pub mod SessionRest
+pub mod SimpleReading
+pub mod SimpleStatement
+pub mod StartFile
+pub mod StartReading
+pub mod StartSteps
+pub mod Supported
