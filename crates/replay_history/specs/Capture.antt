@@ -1,5 +1,5 @@
 -- Which calls are a legal capture, whatever machine answers them.
-use Rattle.std.specs.Prelude.{◌≡◌, ℕ, zero, suc, ◌+◌, ◌<◌, ◌≤◌, ◌⊎◌, Bool, true, false, if◌then◌else◌, nat_lt, Option, None, Some, List, [], ◌∷◌, length, take, count_by, slice_get, Contains}
+use Rattle.std.specs.Prelude.{◌≡◌, ℕ, zero, suc, ◌+◌, ◌<◌, ◌≤◌, ◌⊎◌, Bool, true, false, if◌then◌else◌, nat_eq, nat_lt, Option, None, Some, List, [], ◌∷◌, length, take, count_by, slice_get, Contains}
 use Rattle.std.specs.List.{AllByRecursion, Any}
 use Rattle.desk_values.specs.declared.value.Value.{Value}
 use Rattle.desk_values.specs.declared.value.Value.TheVariants.{Null, Int, Text, Row, Draw}
@@ -23,6 +23,10 @@ commits Marked = false
 commits Connected = false
 commits Disconnected = false
 commits (Refused fault) = false
+
+-- how many calls of a session stand before a stamp
+abbrev pub session_calls_before : List Captured → ℕ → ℕ → ℕ
+session_calls_before calls session k = count_by (λ (call : Captured). nat_eq call.session session) (take k calls)
 
 -- how many numbered commits stand before a stamp
 abbrev pub commits_before : List Captured → ℕ → ℕ
@@ -67,6 +71,8 @@ IsRun {S} gives first (call ∷ calls) last = (next : S) × gives first call.ses
 -- what is said of each call by itself and the calls before it
 pub record FitsIn (rows : List Image) (calls : List Captured) (k : ℕ) (call : Captured) : Type 0 where
   pub stamp : call.stamp ≡ k
+  pub session : call.session < 64
+  pub place : call.place ≡ session_calls_before calls call.session k
   pub number : call.number ≡ number_of calls k call
   pub seen : call.seen ≡ commits_before calls k
   pub ends : call.began ≤ call.ended

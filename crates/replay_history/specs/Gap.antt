@@ -1,5 +1,5 @@
 -- The time between the calls of a session, and the pause that a replay makes of it.
-use Rattle.std.specs.Prelude.{◌≡◌, ℕ, suc, ◌-◌, ◌*◌, ◌/◌, ◌<◌, Option, None, Some, List, slice_get}
+use Rattle.std.specs.Prelude.{◌≡◌, ℕ, suc, ◌-◌, ◌*◌, ◌/◌, ◌<◌, Option, None, Some, List, slice_get, ◌==◌, if◌then◌else◌}
 use Rattle.desk_values.specs.declared.capture.Captured.{Captured}
 
 -- in this list by stamp, the call with this stamp
@@ -18,3 +18,7 @@ IsGap calls call gap = ((call.place ≡ 0) → gap ≡ call.began) × ((j : ℕ)
 -- that many hundredths of a gap, rounded down
 abbrev pub pause_of : ℕ → ℕ → ℕ
 pause_of gap percent = gap * percent / 100
+
+-- the pause of a call: its gap by the one percentage for the first call of a session, else by the other
+abbrev pub IsPause : List Captured → ℕ → ℕ → Captured → ℕ → Type 0
+IsPause calls connect think call pause = (gap : ℕ) × IsGap calls call gap × (pause ≡ pause_of gap (if call.place == 0 then connect else think))

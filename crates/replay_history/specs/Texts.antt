@@ -1,5 +1,5 @@
 -- The texts of a history, a report and tables. A file is lines, each ended by a line feed.
-use Rattle.std.specs.Prelude.{ℕ, List, [], ◌∷◌, ◌++◌, Option, None, Some, codes, unwrap_or, slice_index}
+use Rattle.std.specs.Prelude.{ℕ, List, [], ◌∷◌, ◌++◌, codes, slice_index}
 use Rattle.std.specs.List.{flat_map}
 use Rattle.std.specs.Fmt.{decimal}
 use Rattle.desk_values.specs.declared.value.Image.{Image}
@@ -9,7 +9,6 @@ use Rattle.desk_values.specs.Text.{reply_text, left_text}
 use Rattle.replay_history.specs.declared.mode.Mode.{Mode}
 use Rattle.replay_history.specs.declared.report.Line.{Line}
 use Rattle.replay_history.specs.declared.report.Report.{Report}
-use Rattle.replay_history.specs.declared.report.Class.{Class}
 use Rattle.replay_history.specs.declared.report.Class.TheVariants.{Same, NewError, GoneError, MutatedError, RowsModified, RowsFetched, RowContents, Images, Shape}
 use Rattle.replay_history.specs.Mode.{mode_word}
 use Rattle.replay_history.specs.Class.{class_word}
@@ -29,20 +28,29 @@ journal_text mode history = line (codes "journal 1 " ++ mode_word mode) ++ (flat
 abbrev pub count_line : List ℕ → ℕ → List ℕ
 count_line word count = line (word ++ 32 ∷ decimal count)
 
+-- where a call stands: its stamp, its session and its place there
+abbrev pub place_text : Line → List ℕ
+place_text l = decimal l.stamp ++ 32 ∷ (decimal l.session ++ 32 ∷ decimal l.place)
+
 abbrev pub line_text : Line → List ℕ
-line_text l = decimal l.stamp ++ 32 ∷ (decimal l.session ++ 32 ∷ (decimal l.place ++ 32 ∷ class_word l.class))
+line_text l = place_text l ++ 32 ∷ class_word l.class
 
--- the count of each class, in their order
-abbrev pub counts_text : List Class → List ℕ → List ℕ
-counts_text [] counts = []
-counts_text (class ∷ classes) [] = count_line (class_word class) 0 ++ counts_text classes []
-counts_text (class ∷ classes) (count ∷ counts) = count_line (class_word class) count ++ counts_text classes counts
+-- the counts of the classes, in their order
+abbrev pub error_counts : List ℕ → List ℕ
+error_counts counts =
+    count_line (class_word Same) (slice_index counts 0) ++ (count_line (class_word NewError) (slice_index counts 1) ++ (count_line (class_word GoneError) (slice_index counts 2) ++ count_line (class_word MutatedError) (slice_index counts 3)))
 
-abbrev pub all_classes : List Class
-all_classes = Same ∷ NewError ∷ GoneError ∷ MutatedError ∷ RowsModified ∷ RowsFetched ∷ RowContents ∷ Images ∷ Shape ∷ []
+abbrev pub row_counts : List ℕ → List ℕ
+row_counts counts = count_line (class_word RowsModified) (slice_index counts 4) ++ (count_line (class_word RowsFetched) (slice_index counts 5) ++ count_line (class_word RowContents) (slice_index counts 6))
+
+abbrev pub other_counts : List ℕ → List ℕ
+other_counts counts = count_line (class_word Images) (slice_index counts 7) ++ count_line (class_word Shape) (slice_index counts 8)
+
+abbrev pub counts_text : List ℕ → List ℕ
+counts_text counts = error_counts counts ++ (row_counts counts ++ other_counts counts)
 
 abbrev pub report_text : Report → List ℕ
-report_text r = line (codes "report 1") ++ (count_line (codes "calls") r.calls ++ (counts_text all_classes r.counts ++ (flat_map (λ l. line (line_text l)) r.lines ++ line (codes "end"))))
+report_text r = line (codes "report 1") ++ (count_line (codes "calls") r.calls ++ (counts_text r.counts ++ (flat_map (λ l. line (line_text l)) r.lines ++ line (codes "end"))))
 
 -- a committed row: its number, its table and its values
 abbrev pub row_text : Image → List ℕ

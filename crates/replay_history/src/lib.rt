@@ -11,3 +11,6 @@ mod report;
 
 pub use mode::Mode;
 pub use report::{Class, Line, Lines, Report};
+
+#[cfg(test)]
+mod tests;

@@ -8,7 +8,7 @@ pub enum Mode {
     Off,
     /// The numbered commits that it saw when it was captured.
     Scn,
-    /// Those of them that wrote a table which it refers to.
+    /// As with `Scn`, but for commits that touched none of the tables it speaks of.
     Object,
     /// Every call before it in the captured order.
     Order,

@@ -68,6 +68,6 @@ pub struct Report {
     pub calls: u64,
     /// How many there were of each class, in the order of [`Class`].
     pub counts: [u64; 9],
-    /// A line for each call that is not the same, by stamp.
+    /// One line per call that differs, stamps rising.
     pub lines: Lines,
 }
