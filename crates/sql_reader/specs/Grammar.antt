@@ -1,0 +1,163 @@
+-- The statement that tokens spell, with one case for each rule of the grammar.
+use Rattle.std.specs.Prelude.{◌≡◌, ℕ, suc, ◌≤◌, ℤ, Bool, true, false, List, [], ◌∷◌, ◌++◌, length, Option, None, Some}
+use Rattle.sql_reader.specs.declared.tree.Op.{Op}
+use Rattle.sql_reader.specs.declared.tree.Op.TheVariants as op
+use Rattle.sql_reader.specs.declared.tree.Key.{Key}
+use Rattle.sql_reader.specs.declared.part.Part.{Part}
+use Rattle.sql_reader.specs.declared.part.Part.TheVariants.{Disjunction, Conjunction, Negation, Comparison, Sum, Product, Factor, Primary}
+use Rattle.sql_reader.specs.declared.token.Keyword.TheVariants as word
+use Rattle.sql_reader.specs.declared.token.Sign.TheVariants as sign
+use Rattle.sql_reader.specs.declared.token.Token.{Token}
+use Rattle.sql_reader.specs.declared.token.Token.TheVariants as token
+use Rattle.sql_reader.specs.Plain.{Expression, null, int, text, bind, column, rowid, neg, not, bin, is_null, not_null, Aggregate, count, total, least, greatest, Given, value, drawn, Assignment, Selection, columns, values, aggregates, Parsed, select, next, insert, update, delete, commit, rollback, set_read_only}
+
+-- the part of an expression in which the operator stands
+abbrev pub line_of : Op → Part
+line_of op.Or = Disjunction
+line_of op.And = Conjunction
+line_of op.Eq = Comparison
+line_of op.Ne = Comparison
+line_of op.Lt = Comparison
+line_of op.Le = Comparison
+line_of op.Gt = Comparison
+line_of op.Ge = Comparison
+line_of op.Add = Sum
+line_of op.Sub = Sum
+line_of op.Mul = Product
+line_of op.Div = Product
+
+-- how loose a part of an expression is
+abbrev pub looseness : Part → ℕ
+looseness Primary = 0
+looseness Factor = 1
+looseness Product = 2
+looseness Sum = 3
+looseness Comparison = 4
+looseness Negation = 5
+looseness Conjunction = 6
+looseness Disjunction = 7
+
+-- what stands before and after an operator of the line without parentheses
+abbrev pub left_of : Part → Part
+left_of Comparison = Sum
+left_of line = line
+
+abbrev pub right_of : Part → Part
+right_of Disjunction = Conjunction
+right_of Conjunction = Negation
+right_of Comparison = Sum
+right_of Sum = Product
+right_of other = Factor
+
+abbrev pub operator_token : Op → Token
+operator_token op.Or = token.Word word.Or
+operator_token op.And = token.Word word.And
+operator_token op.Eq = token.Sign sign.Equal
+operator_token op.Ne = token.Sign sign.NotEqual
+operator_token op.Lt = token.Sign sign.Less
+operator_token op.Le = token.Sign sign.LessOrEqual
+operator_token op.Gt = token.Sign sign.Greater
+operator_token op.Ge = token.Sign sign.GreaterOrEqual
+operator_token op.Add = token.Sign sign.Plus
+operator_token op.Sub = token.Sign sign.Minus
+operator_token op.Mul = token.Sign sign.Star
+operator_token op.Div = token.Sign sign.Slash
+
+-- Reads part depth tokens e: the tokens are the expression e as that part, where parentheses, NOT and unary minus
+-- nest at most depth deep. Operators of one line group to the left.
+pub data Reads : Part → ℕ → List Token → Expression → Type 0 where
+  conjunction : {d : ℕ} {ts : List Token} {e : Expression} → Reads Conjunction d ts e → Reads Disjunction d ts e
+  or_ : {d : ℕ} {ts us : List Token} {o : Op} {a b : Expression} → line_of o ≡ Disjunction → Reads Disjunction d ts a → Reads Conjunction d us b → Reads Disjunction d (ts ++ operator_token o ∷ us) (bin o a b)
+  negation : {d : ℕ} {ts : List Token} {e : Expression} → Reads Negation d ts e → Reads Conjunction d ts e
+  and_ : {d : ℕ} {ts us : List Token} {o : Op} {a b : Expression} → line_of o ≡ Conjunction → Reads Conjunction d ts a → Reads Negation d us b → Reads Conjunction d (ts ++ operator_token o ∷ us) (bin o a b)
+  comparison : {d : ℕ} {ts : List Token} {e : Expression} → Reads Comparison d ts e → Reads Negation d ts e
+  not_ : {d : ℕ} {ts : List Token} {e : Expression} → Reads Negation d ts e → Reads Negation (suc d) (token.Word word.Not ∷ ts) (not e)
+  sum_ : {d : ℕ} {ts : List Token} {e : Expression} → Reads Sum d ts e → Reads Comparison d ts e
+  compare_ : {d : ℕ} {ts us : List Token} {o : Op} {a b : Expression} → line_of o ≡ Comparison → Reads Sum d ts a → Reads Sum d us b → Reads Comparison d (ts ++ operator_token o ∷ us) (bin o a b)
+  is_null_ : {d : ℕ} {ts : List Token} {e : Expression} → Reads Sum d ts e → Reads Comparison d (ts ++ token.Word word.Is ∷ token.Word word.Null ∷ []) (is_null e)
+  not_null_ : {d : ℕ} {ts : List Token} {e : Expression} → Reads Sum d ts e → Reads Comparison d (ts ++ token.Word word.Is ∷ token.Word word.Not ∷ token.Word word.Null ∷ []) (not_null e)
+  product : {d : ℕ} {ts : List Token} {e : Expression} → Reads Product d ts e → Reads Sum d ts e
+  add_ : {d : ℕ} {ts us : List Token} {o : Op} {a b : Expression} → line_of o ≡ Sum → Reads Sum d ts a → Reads Product d us b → Reads Sum d (ts ++ operator_token o ∷ us) (bin o a b)
+  factor : {d : ℕ} {ts : List Token} {e : Expression} → Reads Factor d ts e → Reads Product d ts e
+  multiply_ : {d : ℕ} {ts us : List Token} {o : Op} {a b : Expression} → line_of o ≡ Product → Reads Product d ts a → Reads Factor d us b → Reads Product d (ts ++ operator_token o ∷ us) (bin o a b)
+  primary : {d : ℕ} {ts : List Token} {e : Expression} → Reads Primary d ts e → Reads Factor d ts e
+  minus_ : {d : ℕ} {ts : List Token} {e : Expression} → Reads Factor d ts e → Reads Factor (suc d) (token.Sign sign.Minus ∷ ts) (neg e)
+  number : {d : ℕ} {n : ℤ} → Reads Primary d (token.Number n ∷ []) (int n)
+  string : {d : ℕ} {t : List ℕ} → Reads Primary d (token.Text t ∷ []) (text t)
+  null_ : {d : ℕ} → Reads Primary d (token.Word word.Null ∷ []) null
+  bind_ : {d : ℕ} {n : ℕ} → Reads Primary d (token.Bind n ∷ []) (bind n)
+  name : {d : ℕ} {n : List ℕ} → Reads Primary d (token.Name n ∷ []) (column n)
+  rowid_ : {d : ℕ} → Reads Primary d (token.Word word.Rowid ∷ []) rowid
+  parentheses : {d : ℕ} {ts : List Token} {e : Expression} → Reads Disjunction d ts e → Reads Primary (suc d) (token.Sign sign.Open ∷ (ts ++ token.Sign sign.Close ∷ [])) e
+
+-- an expression, nested at most 32 deep
+abbrev pub IsExpression : List Token → Expression → Type 0
+IsExpression ts e = Reads Disjunction 32 ts e
+
+-- members with commas between them
+pub data Joined {A : Type 0} (IsMember : List Token → A → Type 0) : List Token → List A → Type 0 where
+  last : {ts : List Token} {x : A} → IsMember ts x → Joined IsMember ts (x ∷ [])
+  more : {ts us : List Token} {x : A} {xs : List A} → IsMember ts x → Joined IsMember us xs → Joined IsMember (ts ++ token.Sign sign.Comma ∷ us) (x ∷ xs)
+
+-- a list has at most 16 members
+abbrev pub IsList : {A : Type 0} → (List Token → A → Type 0) → List Token → List A → Type 0
+IsList IsMember ts xs = Joined IsMember ts xs × (length xs ≤ 16)
+
+pub data IsName : List Token → List ℕ → Type 0 where
+  name : {n : List ℕ} → IsName (token.Name n ∷ []) n
+
+pub data IsKey : List Token → Key → Type 0 where
+  plain : {n : List ℕ} → IsKey (token.Name n ∷ []) (record { name = n; desc = false })
+  ascending : {n : List ℕ} → IsKey (token.Name n ∷ token.Word word.Asc ∷ []) (record { name = n; desc = false })
+  descending : {n : List ℕ} → IsKey (token.Name n ∷ token.Word word.Desc ∷ []) (record { name = n; desc = true })
+
+pub data IsAggregate : List Token → Aggregate → Type 0 where
+  count_ : IsAggregate (token.Word word.Count ∷ token.Sign sign.Open ∷ token.Sign sign.Star ∷ token.Sign sign.Close ∷ []) count
+  sum_ : {ts : List Token} {e : Expression} → IsExpression ts e → IsAggregate (token.Word word.Sum ∷ token.Sign sign.Open ∷ (ts ++ token.Sign sign.Close ∷ [])) (total e)
+  min_ : {ts : List Token} {e : Expression} → IsExpression ts e → IsAggregate (token.Word word.Min ∷ token.Sign sign.Open ∷ (ts ++ token.Sign sign.Close ∷ [])) (least e)
+  max_ : {ts : List Token} {e : Expression} → IsExpression ts e → IsAggregate (token.Word word.Max ∷ token.Sign sign.Open ∷ (ts ++ token.Sign sign.Close ∷ [])) (greatest e)
+
+pub data IsInput : List Token → Given → Type 0 where
+  value_ : {ts : List Token} {e : Expression} → IsExpression ts e → IsInput ts (value e)
+  next_ : {n : List ℕ} → IsInput (token.Name n ∷ token.Sign sign.Dot ∷ token.Word word.Nextval ∷ []) (drawn n)
+
+pub data IsSetting : List Token → Assignment → Type 0 where
+  set_ : {n : List ℕ} {ts : List Token} {e : Expression} → IsExpression ts e → IsSetting (token.Name n ∷ token.Sign sign.Equal ∷ ts) (record { name = n; to = e })
+
+pub data IsWhere : List Token → Option Expression → Type 0 where
+  all_ : IsWhere [] None
+  where_ : {ts : List Token} {e : Expression} → IsExpression ts e → IsWhere (token.Word word.Where ∷ ts) (Some e)
+
+pub data IsOrder : List Token → List Key → Type 0 where
+  by_row : IsOrder [] []
+  by_keys : {ts : List Token} {keys : List Key} → IsList IsKey ts keys → IsOrder (token.Word word.Order ∷ token.Word word.By ∷ ts) keys
+
+pub data IsForUpdate : List Token → Bool → Type 0 where
+  free : IsForUpdate [] false
+  held : IsForUpdate (token.Word word.For ∷ token.Word word.Update ∷ []) true
+
+-- what a SELECT of rows asks for
+pub data IsSelection : List Token → Selection → Type 0 where
+  star : IsSelection (token.Sign sign.Star ∷ []) columns
+  list : {ts : List Token} {es : List Expression} → IsList IsExpression ts es → IsSelection ts (values es)
+
+pub data IsColumns : List Token → Option (List (List ℕ)) → Type 0 where
+  all_ : IsColumns [] None
+  some_ : {ts : List Token} {names : List (List ℕ)} → IsList IsName ts names → IsColumns (token.Sign sign.Open ∷ (ts ++ token.Sign sign.Close ∷ [])) (Some names)
+
+-- a statement without the semicolon at its end
+pub data IsBody : List Token → Parsed → Type 0 where
+  select_ : {ts ws os fs : List Token} {items : Selection} {table : List ℕ} {condition : Option Expression} {keys : List Key} {for_update : Bool} → IsSelection ts items → IsWhere ws condition → IsOrder os keys → IsForUpdate fs for_update → IsBody (token.Word word.Select ∷ (ts ++ token.Word word.From ∷ token.Name table ∷ (ws ++ (os ++ fs)))) (select table items condition keys for_update)
+  aggregate_ : {ts ws : List Token} {items : List Aggregate} {table : List ℕ} {condition : Option Expression} → IsList IsAggregate ts items → IsWhere ws condition → IsBody (token.Word word.Select ∷ (ts ++ token.Word word.From ∷ token.Name table ∷ ws)) (select table (aggregates items) condition [] false)
+  draw_ : {n : List ℕ} → IsBody (token.Word word.Select ∷ token.Name n ∷ token.Sign sign.Dot ∷ token.Word word.Nextval ∷ token.Word word.From ∷ token.Word word.Dual ∷ []) (next n)
+  insert_ : {cs is : List Token} {table : List ℕ} {names : Option (List (List ℕ))} {inputs : List Given} → IsColumns cs names → IsList IsInput is inputs → IsBody (token.Word word.Insert ∷ token.Word word.Into ∷ token.Name table ∷ (cs ++ token.Word word.Values ∷ token.Sign sign.Open ∷ (is ++ token.Sign sign.Close ∷ []))) (insert table names inputs)
+  update_ : {ss ws : List Token} {table : List ℕ} {settings : List Assignment} {condition : Option Expression} → IsList IsSetting ss settings → IsWhere ws condition → IsBody (token.Word word.Update ∷ token.Name table ∷ token.Word word.Set ∷ (ss ++ ws)) (update table settings condition)
+  delete_ : {ws : List Token} {table : List ℕ} {condition : Option Expression} → IsWhere ws condition → IsBody (token.Word word.Delete ∷ token.Word word.From ∷ token.Name table ∷ ws) (delete table condition)
+  commit_ : IsBody (token.Word word.Commit ∷ []) commit
+  rollback_ : IsBody (token.Word word.Rollback ∷ []) rollback
+  set_read_only_ : IsBody (token.Word word.Set ∷ token.Word word.Transaction ∷ token.Word word.Read ∷ token.Word word.Only ∷ []) set_read_only
+
+-- a statement, with or without a semicolon at its end
+pub data IsStatementOf : List Token → Parsed → Type 0 where
+  bare : {ts : List Token} {s : Parsed} → IsBody ts s → IsStatementOf ts s
+  ended : {ts : List Token} {s : Parsed} → IsBody ts s → IsStatementOf (ts ++ token.Sign sign.Semicolon ∷ []) s

@@ -1,0 +1,9 @@
+pub mod Plain
+pub mod Words
+pub mod Lexical
+pub mod Grammar
+pub mod Spelling
+pub mod Written
+pub mod Scan
+pub mod Descent
+pub mod Sentences

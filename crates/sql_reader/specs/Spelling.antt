@@ -1,0 +1,30 @@
+-- Which text spells which statement.
+use Rattle.std.specs.Prelude.{◌≡◌, ℕ, List, Option, None, Some, Result, Ok, Err}
+use Rattle.sql_reader.specs.declared.error.SqlErr.{SqlErr}
+use Rattle.sql_reader.specs.declared.error.SqlErr.TheVariants as error
+use Rattle.sql_reader.specs.declared.token.Token.{Token}
+use Rattle.sql_reader.specs.Plain.{Parsed}
+use Rattle.sql_reader.specs.Lexical.{Tokens}
+use Rattle.sql_reader.specs.Grammar.{IsStatementOf}
+
+-- the text is tokens that are the statement
+abbrev pub Spells : List ℕ → Parsed → Type 0
+Spells text statement = (tokens : List Token) × Tokens text tokens × IsStatementOf tokens statement
+
+-- some text spells the statement
+abbrev pub IsStatement : Parsed → Type 0
+IsStatement statement = (text : List ℕ) × Spells text statement
+
+abbrev pub Fails : {Y : Type 0} → SqlErr → Option Y → Type 0
+Fails error.Syntax read = read ≡ None
+Fails error.Memory read = Unit {0}
+
+-- What was returned, seen by view, is what reading gives, and Syntax where it gives nothing. Want of memory may come any time.
+abbrev pub Gives : {X Y : Type 0} → (X → Y) → Result X SqlErr → Option Y → Type 0
+Gives view (Ok x) read = read ≡ Some (view x)
+Gives view (Err e) read = Fails e read
+
+-- the same of what may be absent
+abbrev pub Finds : {X Y : Type 0} → (X → Y) → Option X → Option Y → Type 0
+Finds view None read = read ≡ None
+Finds view (Some x) read = read ≡ Some (view x)

@@ -1,0 +1,38 @@
+ghost use Rattle.std.specs.Prelude.{◌≡◌};
+ghost use Rattle.sql_reader.specs.declared.error.SqlErr.TheVariants.{Memory as OutOfMemory};
+
+use desk_values::Memory;
+use std::alloc::{AllocError, AllocFailed};
+
+/// Why a text gave no statement.
+#[derive(Clone, Copy, Debug, PartialEq, Eq)]
+pub enum SqlErr {
+    /// The text spells no statement.
+    Syntax,
+    /// Want of memory.
+    Memory,
+}
+
+impl From<Memory> for SqlErr {
+    ghost from_gives = { λ _ e. e ≡ OutOfMemory };
+
+    fn from(_error: Memory) -> SqlErr {
+        SqlErr::Memory
+    }
+}
+
+impl From<AllocError> for SqlErr {
+    ghost from_gives = { λ _ e. e ≡ OutOfMemory };
+
+    fn from(_error: AllocError) -> SqlErr {
+        SqlErr::Memory
+    }
+}
+
+impl<T: Drop> From<AllocFailed<T>> for SqlErr {
+    ghost from_gives = { λ _ e. e ≡ OutOfMemory };
+
+    fn from(_error: AllocFailed<T>) -> SqlErr {
+        SqlErr::Memory
+    }
+}

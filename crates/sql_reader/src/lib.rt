@@ -1,0 +1,29 @@
+//! Statements of SQL as text and as trees.
+//!
+//! Enters: the text of a statement, or a tree. Leaves: the one tree that the text spells, or one text that
+//! spells the tree. It touches nothing but memory.
+#![tactic(auto)]
+
+mod copy;
+mod descent;
+mod error;
+mod part;
+mod read;
+mod scanner;
+mod sentences;
+mod token;
+mod tree;
+mod write;
+mod writer;
+
+pub use error::SqlErr;
+pub use part::Part;
+pub use read::{one_statement, read_statement};
+pub use token::{KEYWORDS, Keyword, NAME_LIMIT, SIGNS, Sign, Token};
+pub use tree::{
+    Agg, Aggs, Expr, Exprs, Input, Inputs, Items, Key, Keys, Names, Op, Sets, Setting, Statement,
+};
+pub use write::{fewest_parentheses, write_statement};
+
+#[cfg(test)]
+mod tests;

@@ -1,0 +1,36 @@
+ghost use Rattle.std.specs.Prelude.{◌≡◌, ℕ, List, Some, IfOk};
+ghost use Rattle.sql_reader.specs.Plain.{Parsed, parsed_of};
+ghost use Rattle.sql_reader.specs.Spelling.{Spells, IsStatement, Gives};
+ghost use Rattle.sql_reader.specs.Sentences.{read_at};
+
+use crate::error::SqlErr;
+use crate::scanner::scan;
+use crate::sentences::statement;
+use crate::tree::Statement;
+use desk_values::Txt;
+use std::alloc::Global;
+
+/// The statement that the text spells, and `Syntax` where it spells none.
+pub fn read_statement(alloc: Global, text: &Txt) -> Result<Statement, SqlErr>
+    // The text spells what is given.
+    ensures ok { IfOk result (λ statement. Spells text.now (parsed_of statement)) }
+    // It can be written.
+    ensures written { IfOk result (λ statement. IsStatement (parsed_of statement)) }
+    // What the text spells is given, unless memory runs out.
+    ensures only { (statement : Parsed) → Spells text.now statement → Gives parsed_of result (Some statement) }
+{
+    read(alloc, text.as_str().as_bytes())
+}
+
+#[tactic(auto, unfolding(crate::specs::Sentences::read_at))]
+fn read(alloc: Global, text: &[u8]) -> Result<Statement, SqlErr>
+    ensures { Gives parsed_of result (read_at text.now) }
+{
+    let tokens = scan(alloc, text)?;
+    statement(alloc, &tokens)
+}
+
+/// A text spells at most one statement.
+pub fn one_statement()
+    ensures { (text : List ℕ) (a b : Parsed) → Spells text a → Spells text b → a ≡ b }
+{}

@@ -1,0 +1,249 @@
+//! From bytes to tokens, from left to right. Each token is the longest that fits.
+
+ghost use Rattle.std.specs.Prelude.{◌≡◌, ◌∷◌, IfOk, MatchOption, false};
+ghost use Rattle.std.specs.List.{prefix_len};
+ghost use Rattle.sql_reader.specs.Spelling.{Gives};
+ghost use Rattle.sql_reader.specs.Lexical.{is_space, is_part, folded};
+ghost use Rattle.sql_reader.specs.Scan.{begins_quote, txt_at, keyword_at, word_at, value_at, number_at, bind_number, bind_at, content_at, string_at, sign_at, run_of, behind_run, token_at, step_at, tokens_at, scanned};
+
+use crate::error::SqlErr;
+use crate::token::{KEYWORDS, Keyword, NAME_LIMIT, SIGNS, Sign, Token};
+use desk_values::{Txt, TxtErr};
+use std::alloc::{AllocError, Global};
+
+fn space(byte: u8) -> bool
+    ensures { result ≡ is_space byte }
+{
+    byte == b' ' || byte == b'\t' || byte == b'\n' || byte == b'\r'
+}
+
+fn part(byte: u8) -> bool
+    ensures { result ≡ is_part byte }
+{
+    byte.is_ascii_alphanumeric() || byte == b'_'
+}
+
+// The letters, digits and `_` at the front, and the rest.
+fn split_run(bytes: &[u8]) -> (&[u8], &[u8])
+    ensures run { result.0.now ≡ run_of bytes.now }
+    ensures rest { result.1.now ≡ behind_run bytes.now }
+{
+    bytes.split_at(run_len(bytes))
+}
+
+fn run_len(bytes: &[u8]) -> usize
+    ensures { result ≡ prefix_len is_part bytes.now }
+{
+    bytes.iter().take_while(|byte| part(**byte)).count()
+}
+
+#[tactic(auto, unfolding(crate::specs::Scan::txt_at))]
+fn txt(alloc: Global, bytes: &[u8]) -> Result<Txt, SqlErr>
+    ensures { Gives (λ text. text) result (txt_at bytes.now) }
+{
+    match Txt::from_bytes(alloc, bytes) {
+        Ok(text) => Ok(text),
+        Err(TxtErr::Memory) => Err(SqlErr::Memory),
+        Err(TxtErr::TooLong) => Err(SqlErr::Syntax),
+        Err(TxtErr::NotUtf8) => Err(SqlErr::Syntax),
+    }
+}
+
+#[tactic(auto, unfolding(crate::specs::Scan::keyword_at))]
+fn keyword(word: &[u8]) -> Option<Keyword>
+    ensures { result ≡ keyword_at word.now }
+{
+    KEYWORDS
+        .iter()
+        .copied()
+        .find(|keyword| keyword.word() == word)
+}
+
+fn lower(alloc: Global, run: &[u8]) -> Result<Vec<u8>, AllocError>
+    ensures { IfOk result (λ lower. lower.items ≡ folded run.now) }
+{
+    run.iter()
+        .map(|byte| byte.to_ascii_lowercase())
+        .collect(alloc)
+}
+
+#[tactic(auto, unfolding(crate::specs::Scan::word_at))]
+fn word(alloc: Global, run: &[u8]) -> Result<Token, SqlErr>
+    ensures { Gives (λ t. t) result (word_at run.now) }
+{
+    let folded = lower(alloc, run)?;
+    if let Some(keyword) = keyword(&folded) {
+        return Ok(Token::Word(keyword));
+    }
+    if folded.len() > NAME_LIMIT {
+        return Err(SqlErr::Syntax);
+    }
+    Ok(Token::Name(txt(alloc, &folded)?))
+}
+
+#[tactic(auto, unfolding(crate::specs::Scan::number_at))]
+fn number(run: &[u8]) -> Result<Token, SqlErr>
+    ensures { Gives (λ t. t) result (number_at run.now) }
+{
+    match value(run) {
+        Some(value) => Ok(Token::Number(value)),
+        None => Err(SqlErr::Syntax),
+    }
+}
+
+// The number of the digits, where it is in range.
+#[tactic(auto, unfolding(crate::specs::Scan::value_at))]
+fn value(run: &[u8]) -> Option<i64>
+    ensures { result ≡ value_at run.now }
+{
+    let mut value: u128 = 0;
+    for digit in run {
+        if !digit.is_ascii_digit() {
+            return None;
+        }
+        let next = value * 10 + u128::from(*digit - b'0');
+        if next > i64::MAX as u128 {
+            return None;
+        }
+        value = next;
+    }
+    Some(value as i64)
+}
+
+#[tactic(auto, unfolding(crate::specs::Scan::bind_at))]
+fn bind(run: &[u8]) -> Result<Token, SqlErr>
+    ensures { Gives (λ t. t) result (bind_at run.now) }
+{
+    match bind_value(run) {
+        Some(number) => Ok(Token::Bind(number)),
+        None => Err(SqlErr::Syntax),
+    }
+}
+
+// A number from 1 to 16.
+#[tactic(auto, unfolding(crate::specs::Scan::bind_number))]
+fn bind_value(run: &[u8]) -> Option<u32>
+    ensures { result ≡ bind_number run.now }
+{
+    match run {
+        [digit] if b'1' <= *digit && *digit <= b'9' => Some(u32::from(*digit - b'0')),
+        [ten, digit] if *ten == b'1' && b'0' <= *digit && *digit <= b'6' => {
+            Some(u32::from(*digit - b'0') + 10)
+        }
+        _ => None,
+    }
+}
+
+// The bytes of a string behind its first quote, and the rest behind the last.
+fn content(alloc: Global, bytes: &[u8]) -> Result<(Vec<u8>, &[u8]), SqlErr>
+    ensures { Gives (λ x. (x.0.items, x.1.now)) result (content_at bytes.now) }
+{
+    let mut content = Vec::new(alloc);
+    let mut rest = bytes;
+    while let Some((first, after)) = rest.split_first() {
+        if *first != b'\'' {
+            rest = after;
+        } else if let Some(behind) = behind_quote(after) {
+            rest = behind;
+        } else {
+            return Ok((content, after));
+        }
+        content.push(*first)?;
+    }
+    Err(SqlErr::Syntax)
+}
+
+// What stands behind a quote, where one is first.
+fn behind_quote(bytes: &[u8]) -> Option<&[u8]>
+    ensures { MatchOption result (begins_quote bytes.now ≡ false) (λ behind. bytes.now ≡ 39 ∷ behind.now) }
+{
+    let (first, behind) = bytes.split_first()?;
+    (*first == b'\'').then_some(behind)
+}
+
+#[tactic(auto, unfolding(crate::specs::Scan::string_at))]
+fn string(alloc: Global, bytes: &[u8]) -> Result<(Token, &[u8]), SqlErr>
+    ensures { Gives (λ x. (x.0, x.1.now)) result (string_at bytes.now) }
+{
+    let (content, rest) = content(alloc, bytes)?;
+    Ok((Token::Text(txt(alloc, &content)?), rest))
+}
+
+// The longest sign.
+#[tactic(auto, unfolding(crate::specs::Scan::sign_at))]
+fn sign(bytes: &[u8]) -> Result<(Token, &[u8]), SqlErr>
+    ensures { Gives (λ x. (x.0, x.1.now)) result (sign_at bytes.now) }
+{
+    if let Some(rest) = bytes.strip_prefix(b"!=") {
+        return Ok((Token::Sign(Sign::NotEqual), rest));
+    }
+    for sign in SIGNS {
+        if let Some(rest) = bytes.strip_prefix(sign.text()) {
+            return Ok((Token::Sign(sign), rest));
+        }
+    }
+    Err(SqlErr::Syntax)
+}
+
+#[tactic(auto, unfolding(crate::specs::Scan::token_at))]
+fn token<'a>(
+    alloc: Global,
+    first: u8,
+    others: &'a [u8],
+    bytes: &'a [u8],
+) -> Result<(Token, &'a [u8]), SqlErr>
+    requires { bytes.now ≡ first ∷ others.now }
+    ensures { Gives (λ x. (x.0, x.1.now)) result (token_at first others.now) }
+{
+    if first.is_ascii_alphabetic() {
+        let (run, rest) = split_run(bytes);
+        return Ok((word(alloc, run)?, rest));
+    }
+    if first.is_ascii_digit() {
+        let (run, rest) = split_run(bytes);
+        return Ok((number(run)?, rest));
+    }
+    match first {
+        b':' => {
+            let (run, rest) = split_run(others);
+            Ok((bind(run)?, rest))
+        }
+        b'\'' => string(alloc, others),
+        _ => sign(bytes),
+    }
+}
+
+// One space or one token, and the rest.
+#[tactic(auto, unfolding(crate::specs::Scan::step_at))]
+fn step(alloc: Global, bytes: &[u8]) -> Result<(Option<Token>, &[u8]), SqlErr>
+    ensures { Gives (λ x. (x.0, x.1.now)) result (step_at bytes.now) }
+{
+    match bytes {
+        [] => Ok((None, bytes)),
+        [first, others @ ..] if space(*first) => Ok((None, others)),
+        [first, others @ ..] => {
+            let (token, rest) = token(alloc, *first, others, bytes)?;
+            Ok((Some(token), rest))
+        }
+    }
+}
+
+/// The tokens that the bytes spell.
+#[tactic(auto, unfolding(crate::specs::Scan::scanned))]
+pub fn scan(alloc: Global, bytes: &[u8]) -> Result<Vec<Token>, SqlErr>
+    ensures { Gives (λ tokens. tokens.items) result (scanned bytes.now) }
+{
+    let mut tokens = Vec::new(alloc);
+    let mut rest = bytes;
+    for _ in 0..bytes.len() {
+        let (token, after) = step(alloc, rest)?;
+        if let Some(token) = token {
+            tokens.push(token)?;
+        }
+        rest = after;
+    }
+    if !rest.is_empty() {
+        return Err(SqlErr::Syntax);
+    }
+    Ok(tokens)
+}

@@ -1,0 +1,26 @@
+ghost use Rattle.std.specs.Prelude.{◌≡◌, ◌≤◌, List, IfOk};
+ghost use Rattle.sql_reader.specs.declared.token.Token.{Token};
+ghost use Rattle.sql_reader.specs.Grammar.{IsStatementOf};
+ghost use Rattle.sql_reader.specs.Plain.{Parsed, parsed_of};
+ghost use Rattle.sql_reader.specs.Spelling.{Spells, IsStatement};
+ghost use Rattle.sql_reader.specs.Written.{opened, statement_tokens, written};
+
+use crate::tree::Statement;
+use crate::writer::text;
+use desk_values::{Bytes, Memory};
+use std::alloc::Global;
+
+/// One text that spells the statement: keywords in upper case, one space between any two tokens, and parentheses
+/// only where the tree needs them. It may have over 1,000 bytes.
+pub fn write_statement(alloc: Global, statement: &Statement) -> Result<Bytes, Memory>
+    requires { IsStatement (parsed_of statement.now) }
+    ensures written { IfOk result (λ bytes. bytes ≡ written (parsed_of statement.now)) }
+    ensures spells { IfOk result (λ bytes. Spells bytes (parsed_of statement.now)) }
+{
+    text(alloc, statement)
+}
+
+/// No tokens that are the statement have fewer parentheses than those that are written.
+pub fn fewest_parentheses()
+    ensures { (statement : Parsed) (tokens : List Token) → IsStatementOf tokens statement → opened (statement_tokens statement) ≤ opened tokens }
+{}
