@@ -1,0 +1,99 @@
+-- Laws of the values and truths of expressions.
+use Rattle.std.specs.Prelude.{ℕ, ◌≡◌, true, ◌||◌, List, Some, None, Result, Ok, Err, slice_get}
+use Rattle.std.specs.Option.{unwrap_or}
+use Rattle.std.specs.Result.{result_err}
+use Rattle.desk_values.specs.declared.value.Value.{Value}
+use Rattle.desk_values.specs.declared.value.Value.TheVariants.{Null}
+use Rattle.desk_values.specs.declared.fault.Fault.{Fault}
+use Rattle.sql_reader.specs.declared.tree.Op.{Op}
+use Rattle.sql_reader.specs.declared.tree.Op.TheVariants.{Add, Sub, Mul, Div, Eq, Ne, Lt, Le, Gt, Ge, And, Or}
+use Rattle.sql_eval.specs.declared.logic.Truth.{Truth}
+use Rattle.sql_eval.specs.declared.logic.Truth.TheVariants.{True, False, Unknown}
+use Rattle.desk_schema.specs.declared.schema.Column.{Column}
+use Rattle.sql_eval.specs.declared.kind.PartKind.{PartKind}
+use Rattle.sql_eval.specs.declared.kind.PartKind.TheVariants.{Truth as Condition}
+use Rattle.sql_eval.specs.Kinds.{is_taken, kind_at, kind_of, kind_of_value}
+use Rattle.sql_eval.specs.Logic.{negation, conjunction, disjunction}
+use Rattle.sql_eval.specs.Plain.{Term}
+use Rattle.sql_eval.specs.Plain as term
+use Rattle.sql_eval.specs.Value.{is_null_value, truth_value, value_of}
+use Rattle.sql_eval.specs.Faults.{condition_parts, fault_among, parts}
+
+-- a row of a truth table: what a connective makes of a truth and of True, False and Unknown
+pub record IsTableRow (connective : Truth → Truth → Truth) (left t f u : Truth) : Type 0 where
+  pub with_true : connective left True ≡ t
+  pub with_false : connective left False ≡ f
+  pub with_unknown : connective left Unknown ≡ u
+
+-- the truth tables of the standard (ISO/IEC 9075-2, boolean value expression)
+pub record AreStandardTables : Type 0 where
+  pub not_true : negation True ≡ False
+  pub not_false : negation False ≡ True
+  pub not_unknown : negation Unknown ≡ Unknown
+  pub and_true : IsTableRow conjunction True True False Unknown
+  pub and_false : IsTableRow conjunction False False False False
+  pub and_unknown : IsTableRow conjunction Unknown Unknown False Unknown
+  pub or_true : IsTableRow disjunction True True True True
+  pub or_false : IsTableRow disjunction False True False Unknown
+  pub or_unknown : IsTableRow disjunction Unknown True Unknown Unknown
+
+-- NOT, AND and OR of conditions with a truth go by the tables, for any row
+abbrev pub NotGoesByTable : Type 0
+NotGoesByTable = (level row : ℕ) (values binds : List Value) (a : Term) (s : Truth) → truth_value level row values binds a ≡ Ok s → truth_value level row values binds (term.not a) ≡ Ok (negation s)
+
+abbrev pub GoesByTable : Op → (Truth → Truth → Truth) → Type 0
+GoesByTable op table = (level row : ℕ) (values binds : List Value) (a b : Term) (s t : Truth) → truth_value level row values binds a ≡ Ok s → truth_value level row values binds b ≡ Ok t → truth_value level row values binds (term.bin op a b) ≡ Ok (table s t)
+
+-- an operator that compares
+abbrev pub IsComparison : Op → Type 0
+IsComparison Eq = Unit {0}
+IsComparison Ne = Unit {0}
+IsComparison Lt = Unit {0}
+IsComparison Le = Unit {0}
+IsComparison Gt = Unit {0}
+IsComparison Ge = Unit {0}
+IsComparison other = ⊥
+
+-- an operator that calculates
+abbrev pub IsArithmetic : Op → Type 0
+IsArithmetic Add = Unit {0}
+IsArithmetic Sub = Unit {0}
+IsArithmetic Mul = Unit {0}
+IsArithmetic Div = Unit {0}
+IsArithmetic other = ⊥
+
+-- compared with Null, on the left and on the right
+abbrev pub NullIsUnknown : Type 0
+NullIsUnknown = (level row : ℕ) (values binds : List Value) (op : Op) (a b : Term) (v : Value) → IsComparison op
+    → value_of level row values binds a ≡ Ok Null → value_of level row values binds b ≡ Ok v
+    → (truth_value level row values binds (term.bin op a b) ≡ Ok Unknown) × (truth_value level row values binds (term.bin op b a) ≡ Ok Unknown)
+
+-- calculated with Null, also divided by zero
+abbrev pub NullIsNull : Type 0
+NullIsNull = (level row : ℕ) (values binds : List Value) (op : Op) (a b : Term) (v : Value) → IsArithmetic op
+    → value_of level row values binds a ≡ Ok Null → value_of level row values binds b ≡ Ok v
+    → (value_of level row values binds (term.bin op a b) ≡ Ok Null) × (value_of level row values binds (term.bin op b a) ≡ Ok Null)
+
+-- the fault of a value and of a truth are those among the parts: the zero divisor of any part before the overflow of any
+abbrev pub ValueFaultIsAmongParts : Type 0
+ValueFaultIsAmongParts = (level row : ℕ) (values binds : List Value) (e : Term) → result_err (value_of level row values binds e) ≡ fault_among level row values binds (parts e)
+
+abbrev pub TruthFaultIsAmongParts : Type 0
+TruthFaultIsAmongParts = (level row : ℕ) (values binds : List Value) (e : Term) → result_err (truth_value level row values binds e) ≡ fault_among level row values binds (condition_parts e)
+
+-- ---- expressions that keep the rules of kinds
+
+-- each value of a row is Null or of its column's kind
+abbrev pub FitColumns : List Column → List Value → Type 0
+FitColumns columns values = (n : ℕ) (target : PartKind) → kind_at columns n ≡ Some target → is_taken target (kind_of_value (unwrap_or (slice_get values n) Null)) ≡ true
+
+-- such an expression has a value of its kind, or Null
+abbrev pub ValueHasItsKind : Type 0
+ValueHasItsKind = (level row : ℕ) (columns : List Column) (values binds : List Value) (e : Term) (kind : PartKind) (v : Value) → FitColumns columns values
+    → kind_of columns binds e ≡ Some kind → value_of level row values binds e ≡ Ok v → is_taken kind (kind_of_value v) ≡ true
+
+-- such a comparison is unknown only where one side is Null
+abbrev pub UnknownMeansNull : Type 0
+UnknownMeansNull = (level row : ℕ) (columns : List Column) (values binds : List Value) (op : Op) (a b : Term) (v w : Value) → IsComparison op → FitColumns columns values
+    → kind_of columns binds (term.bin op a b) ≡ Some Condition → value_of level row values binds a ≡ Ok v → value_of level row values binds b ≡ Ok w
+    → truth_value level row values binds (term.bin op a b) ≡ Ok Unknown → (is_null_value v || is_null_value w) ≡ true

@@ -1,0 +1,9 @@
+pub mod Plain
+pub mod Logic
+pub mod Value
+pub mod Seen
+pub mod Kinds
+pub mod Names
+pub mod Check
+pub mod Faults
+pub mod Laws

@@ -1,0 +1,205 @@
+-- Names of tables, columns and sequences in a statement, and the numbers for them.
+use Rattle.std.specs.Prelude.{ℕ, Bool, true, false, ◌||◌, nat_eq, List, [], ◌∷◌, map, Option, None, Some, is_none}
+use Rattle.std.specs.Option.{unwrap_or}
+use Rattle.std.specs.List.{list_any}
+use Rattle.desk_schema.specs.declared.schema.Column.{Column}
+use Rattle.desk_schema.specs.declared.schema.Table.{Table}
+use Rattle.desk_schema.specs.Schema.{place_ignoring_case, table_names}
+use Rattle.sql_reader.specs.declared.tree.Key.{Key}
+use Rattle.sql_reader.specs.Plain.{Expression, Aggregate, Given, Assignment, Selection, Parsed}
+use Rattle.sql_reader.specs.Plain as source
+use Rattle.sql_eval.specs.declared.ready.ReadyKey.{ReadyKey}
+use Rattle.sql_eval.specs.Plain.{Term, Total, Entry, Change, Asked, Plan}
+use Rattle.sql_eval.specs.Plain as plain
+
+-- no name of the list is this one
+abbrev pub is_unknown : List (List ℕ) → List ℕ → Bool
+is_unknown names name = is_none (place_ignoring_case names name)
+
+-- the number of a name; 0 for a name that is not there
+abbrev pub number_of : List (List ℕ) → List ℕ → ℕ
+number_of names name = unwrap_or (place_ignoring_case names name) 0
+
+-- ---- tables
+
+-- the table of a statement
+abbrev pub table_of : Parsed → Option (List ℕ)
+table_of (source.select table asked condition keys held) = Some table
+table_of (source.next sequence) = None
+table_of (source.insert table named inputs) = Some table
+table_of (source.update table settings condition) = Some table
+table_of (source.delete table condition) = Some table
+table_of source.commit = None
+table_of source.rollback = None
+table_of source.set_read_only = None
+
+-- the statement's table is not in the schema
+abbrev pub is_unknown_table : List Table → Option (List ℕ) → Bool
+is_unknown_table tables None = false
+is_unknown_table tables (Some name) = is_unknown (table_names tables) name
+
+abbrev pub table_number : List Table → Option (List ℕ) → ℕ
+table_number tables None = 0
+table_number tables (Some name) = number_of (table_names tables) name
+
+-- ---- columns
+
+-- a column of the expression is not in the table
+abbrev pub has_unknown : List (List ℕ) → Expression → Bool
+has_unknown names source.null = false
+has_unknown names (source.int n) = false
+has_unknown names (source.text t) = false
+has_unknown names (source.bind n) = false
+has_unknown names (source.column name) = is_unknown names name
+has_unknown names source.rowid = false
+has_unknown names (source.neg e) = has_unknown names e
+has_unknown names (source.not e) = has_unknown names e
+has_unknown names (source.bin op a b) = has_unknown names a || has_unknown names b
+has_unknown names (source.is_null e) = has_unknown names e
+has_unknown names (source.not_null e) = has_unknown names e
+
+-- a column or ROWID stands in the expression
+abbrev pub names_row : Expression → Bool
+names_row source.null = false
+names_row (source.int n) = false
+names_row (source.text t) = false
+names_row (source.bind n) = false
+names_row (source.column name) = true
+names_row source.rowid = true
+names_row (source.neg e) = names_row e
+names_row (source.not e) = names_row e
+names_row (source.bin op a b) = names_row a || names_row b
+names_row (source.is_null e) = names_row e
+names_row (source.not_null e) = names_row e
+
+abbrev pub where_has_unknown : List (List ℕ) → Option Expression → Bool
+where_has_unknown names None = false
+where_has_unknown names (Some e) = has_unknown names e
+
+abbrev pub total_has_unknown : List (List ℕ) → Aggregate → Bool
+total_has_unknown names source.count = false
+total_has_unknown names (source.total e) = has_unknown names e
+total_has_unknown names (source.least e) = has_unknown names e
+total_has_unknown names (source.greatest e) = has_unknown names e
+
+abbrev pub asked_has_unknown : List (List ℕ) → Selection → Bool
+asked_has_unknown names source.columns = false
+asked_has_unknown names (source.values es) = list_any (has_unknown names) es
+asked_has_unknown names (source.aggregates as_) = list_any (total_has_unknown names) as_
+
+-- an input may name nothing of a row
+abbrev pub input_names_row : Given → Bool
+input_names_row (source.value e) = names_row e
+input_names_row (source.drawn name) = false
+
+abbrev pub list_has_unknown : List (List ℕ) → Option (List (List ℕ)) → Bool
+list_has_unknown names None = false
+list_has_unknown names (Some given) = list_any (is_unknown names) given
+
+abbrev pub setting_has_unknown : List (List ℕ) → Assignment → Bool
+setting_has_unknown names setting = is_unknown names setting.name || has_unknown names setting.to
+
+-- a column is not in the table, or stands in an input
+abbrev pub misnames_column : List (List ℕ) → Parsed → Bool
+misnames_column names (source.select table asked condition keys held) = asked_has_unknown names asked || where_has_unknown names condition || list_any (λ (key : Key). is_unknown names key.name) keys
+misnames_column names (source.next sequence) = false
+misnames_column names (source.insert table named inputs) = list_has_unknown names named || list_any input_names_row inputs
+misnames_column names (source.update table settings condition) = list_any (setting_has_unknown names) settings || where_has_unknown names condition
+misnames_column names (source.delete table condition) = where_has_unknown names condition
+misnames_column names source.commit = false
+misnames_column names source.rollback = false
+misnames_column names source.set_read_only = false
+
+-- ---- sequences
+
+abbrev pub input_lacks_sequence : List (List ℕ) → Given → Bool
+input_lacks_sequence sequences (source.value e) = false
+input_lacks_sequence sequences (source.drawn name) = is_unknown sequences name
+
+-- a sequence is not in the schema
+abbrev pub lacks_sequence : List (List ℕ) → Parsed → Bool
+lacks_sequence sequences (source.select table asked condition keys held) = false
+lacks_sequence sequences (source.next name) = is_unknown sequences name
+lacks_sequence sequences (source.insert table named inputs) = list_any (input_lacks_sequence sequences) inputs
+lacks_sequence sequences (source.update table settings condition) = false
+lacks_sequence sequences (source.delete table condition) = false
+lacks_sequence sequences source.commit = false
+lacks_sequence sequences source.rollback = false
+lacks_sequence sequences source.set_read_only = false
+
+-- ---- the statement with numbers for names, part by part
+
+abbrev pub term_in : List (List ℕ) → Expression → Term
+term_in names source.null = plain.null
+term_in names (source.int n) = plain.int n
+term_in names (source.text t) = plain.text t
+term_in names (source.bind n) = plain.bind n
+term_in names (source.column name) = plain.column (number_of names name)
+term_in names source.rowid = plain.rowid
+term_in names (source.neg e) = plain.neg (term_in names e)
+term_in names (source.not e) = plain.not (term_in names e)
+term_in names (source.bin op a b) = plain.bin op (term_in names a) (term_in names b)
+term_in names (source.is_null e) = plain.is_null (term_in names e)
+term_in names (source.not_null e) = plain.not_null (term_in names e)
+
+abbrev pub where_in : List (List ℕ) → Option Expression → Option Term
+where_in names None = None
+where_in names (Some e) = Some (term_in names e)
+
+abbrev pub total_in : List (List ℕ) → Aggregate → Total
+total_in names source.count = plain.count
+total_in names (source.total e) = plain.total (term_in names e)
+total_in names (source.least e) = plain.least (term_in names e)
+total_in names (source.greatest e) = plain.greatest (term_in names e)
+
+abbrev pub asked_in : List (List ℕ) → Selection → Asked
+asked_in names source.columns = plain.columns
+asked_in names (source.values es) = plain.values (map (term_in names) es)
+asked_in names (source.aggregates as_) = plain.totals (map (total_in names) as_)
+
+abbrev pub key_in : List (List ℕ) → Key → ReadyKey
+key_in names key = record { column = number_of names key.name; desc = key.desc }
+
+abbrev pub entry_in : List (List ℕ) → List (List ℕ) → Given → Entry
+entry_in names sequences (source.value e) = plain.value (term_in names e)
+entry_in names sequences (source.drawn name) = plain.drawn (number_of sequences name)
+
+abbrev pub change_in : List (List ℕ) → Assignment → Change
+change_in names setting = record { column = number_of names setting.name; to = term_in names setting.to }
+
+abbrev pub places_in : List (List ℕ) → Option (List (List ℕ)) → Option (List ℕ)
+places_in names None = None
+places_in names (Some given) = Some (map (number_of names) given)
+
+-- the statement, where this is the number of its table
+abbrev pub plan_in : ℕ → List (List ℕ) → List (List ℕ) → Parsed → Plan
+plan_in number names sequences (source.select table asked condition keys held) = plain.select number (asked_in names asked) (where_in names condition) (map (key_in names) keys) held
+plan_in number names sequences (source.next name) = plain.next (number_of sequences name)
+plan_in number names sequences (source.insert table named inputs) = plain.insert number (places_in names named) (map (entry_in names sequences) inputs)
+plan_in number names sequences (source.update table settings condition) = plain.update number (map (change_in names) settings) (where_in names condition)
+plan_in number names sequences (source.delete table condition) = plain.delete number (where_in names condition)
+plan_in number names sequences source.commit = plain.commit
+plan_in number names sequences source.rollback = plain.rollback
+plan_in number names sequences source.set_read_only = plain.set_read_only
+
+-- ---- a column that is named twice
+
+-- two members of the list have one number
+abbrev pub has_twice : {X : Type 0} → (X → ℕ) → List X → Bool
+has_twice number [] = false
+has_twice number (first ∷ others) = list_any (λ other. nat_eq (number other) (number first)) others || has_twice number others
+
+abbrev pub list_has_twice : Option (List ℕ) → Bool
+list_has_twice None = false
+list_has_twice (Some places) = has_twice (λ place. place) places
+
+-- a column is named twice in an INSERT's list or in SET; in ORDER BY it may be
+abbrev pub repeats_column : Plan → Bool
+repeats_column (plain.select table asked condition keys held) = false
+repeats_column (plain.next sequence) = false
+repeats_column (plain.insert table named entries) = list_has_twice named
+repeats_column (plain.update table changes condition) = has_twice (λ (c : Change). c.column) changes
+repeats_column (plain.delete table condition) = false
+repeats_column plain.commit = false
+repeats_column plain.rollback = false
+repeats_column plain.set_read_only = false

@@ -1,0 +1,145 @@
+-- The value of an expression for one row, and the truth of a condition. So far only level 1 of the rules is told.
+use Rattle.std.specs.Prelude.{ℕ, ◌-◌, ◌^◌, ℤ, pos, negsuc, ◌+ℤ◌, ◌-ℤ◌, ◌*ℤ◌, neg_ℤ, int_div, Bool, true, false, ◌&&◌, not, nat_eq, nat_lt, if◌then◌else◌, List, Option, None, Some, Result, Ok, Err, slice_get}
+use Rattle.std.specs.Option.{option_map, unwrap_or}
+use Rattle.std.specs.Ordering.{nat_cmp, int_cmp, is_eq, is_lt, is_le, is_gt, is_ge}
+use Rattle.std.specs.Cmp.Lexicographic.{slice_cmp}
+use Rattle.std.specs.declared.cmp.Ordering.{Ordering}
+use Rattle.desk_values.specs.declared.value.Value.{Value}
+use Rattle.desk_values.specs.declared.value.Value.TheVariants.{Null, Int, Text, Row, Draw}
+use Rattle.desk_values.specs.declared.fault.Fault.{Fault}
+use Rattle.desk_values.specs.declared.fault.Fault.TheVariants.{ZeroDivisor, Overflow}
+use Rattle.sql_reader.specs.declared.tree.Op.{Op}
+use Rattle.sql_reader.specs.declared.tree.Op.TheVariants.{Add, Sub, Mul, Div, Eq, Ne, Lt, Le, Gt, Ge, And, Or}
+use Rattle.sql_eval.specs.declared.logic.Truth.{Truth}
+use Rattle.sql_eval.specs.declared.logic.Truth.TheVariants.{Unknown}
+use Rattle.sql_eval.specs.Logic.{negation, conjunction, disjunction, truth_of_test}
+use Rattle.sql_eval.specs.Plain.{Term}
+use Rattle.sql_eval.specs.Plain as term
+
+-- ---- faults: every part is evaluated, and of two faults the zero divisor is told
+
+abbrev pub worse : Fault → Fault → Fault
+worse ZeroDivisor other = ZeroDivisor
+worse fault other = other
+
+-- what two parts have, or the worse of their faults
+abbrev pub both : {A B : Type 0} → Result A Fault → Result B Fault → Result (A × B) Fault
+both (Ok a) (Ok b) = Ok (a, b)
+both (Ok a) (Err fault) = Err fault
+both (Err fault) (Ok b) = Err fault
+both (Err fault) (Err other) = Err (worse fault other)
+
+-- an operation on what a part has; a part whose operand has a fault adds none
+abbrev pub then_apply : {A B : Type 0} → (A → Result B Fault) → Result A Fault → Result B Fault
+then_apply f (Ok a) = f a
+then_apply f (Err fault) = Err fault
+
+-- ---- numbers
+
+-- the number is within 64 bits
+abbrev pub is_in_range : ℤ → Bool
+is_in_range (pos n) = nat_lt n (2 ^ 63)
+is_in_range (negsuc n) = nat_lt n (2 ^ 63)
+
+abbrev pub number : ℤ → Result Value Fault
+number n = if is_in_range n then Ok (Int n) else Err Overflow
+
+abbrev pub is_zero : ℤ → Bool
+is_zero (pos n) = nat_eq n 0
+is_zero (negsuc n) = false
+
+-- level 1 truncates toward zero
+abbrev pub quotient : ℕ → ℤ → ℤ → ℤ
+quotient level a b = int_div a b
+
+abbrev pub of_numbers : ℕ → Op → ℤ → ℤ → Result Value Fault
+of_numbers level Add a b = number (a +ℤ b)
+of_numbers level Sub a b = number (a -ℤ b)
+of_numbers level Mul a b = number (a *ℤ b)
+of_numbers level Div a b = if is_zero b then Err ZeroDivisor else number (quotient level a b)
+of_numbers level other a b = Ok Null
+
+-- arithmetic with a Null is Null
+abbrev pub arithmetic : ℕ → Op → Value → Value → Result Value Fault
+arithmetic level op (Int a) (Int b) = of_numbers level op a b
+arithmetic level op other value = Ok Null
+
+abbrev pub minus : Value → Result Value Fault
+minus (Int a) = number (neg_ℤ a)
+minus other = Ok Null
+
+-- ---- comparisons
+
+-- level 1 compares texts byte by byte
+abbrev pub text_order : ℕ → List ℕ → List ℕ → Ordering
+text_order level a b = slice_cmp nat_cmp a b
+
+-- the order of two numbers or two texts; ids have none
+abbrev pub order : ℕ → Value → Value → Option Ordering
+order level (Int a) (Int b) = Some (int_cmp a b)
+order level (Text a) (Text b) = Some (text_order level a b)
+order level other value = None
+
+-- whether two values of one kind are equal; nobody knows of a Null
+abbrev pub equal : ℕ → Value → Value → Option Bool
+equal level (Row a) (Row b) = Some (nat_eq a b)
+equal level (Draw p a) (Draw q b) = Some (nat_eq p q && nat_eq a b)
+equal level a b = option_map is_eq (order level a b)
+
+abbrev pub comparison : ℕ → Op → Value → Value → Option Bool
+comparison level Eq a b = equal level a b
+comparison level Ne a b = option_map not (equal level a b)
+comparison level Lt a b = option_map is_lt (order level a b)
+comparison level Le a b = option_map is_le (order level a b)
+comparison level Gt a b = option_map is_gt (order level a b)
+comparison level Ge a b = option_map is_ge (order level a b)
+comparison level other a b = None
+
+abbrev pub is_null_value : Value → Bool
+is_null_value Null = true
+is_null_value other = false
+
+-- ---- expressions
+
+-- the bind of a number from 1
+abbrev pub bind_at : List Value → ℕ → Option Value
+bind_at binds number = if nat_eq number 0 then None else slice_get binds (number - 1)
+
+-- the value of an expression; a condition has none
+abbrev pub value_of : ℕ → ℕ → List Value → List Value → Term → Result Value Fault
+value_of level row values binds term.null = Ok Null
+value_of level row values binds (term.int n) = Ok (Int n)
+value_of level row values binds (term.text t) = Ok (Text t)
+value_of level row values binds (term.bind n) = Ok (unwrap_or (bind_at binds n) Null)
+value_of level row values binds (term.column n) = Ok (unwrap_or (slice_get values n) Null)
+value_of level row values binds term.rowid = Ok (Row row)
+value_of level row values binds (term.neg e) = then_apply minus (value_of level row values binds e)
+value_of level row values binds (term.bin op a b) = then_apply (λ (p : Value × Value). arithmetic level op p.0 p.1) (both (value_of level row values binds a) (value_of level row values binds b))
+value_of level row values binds (term.not e) = Ok Null
+value_of level row values binds (term.is_null e) = Ok Null
+value_of level row values binds (term.not_null e) = Ok Null
+
+-- what is asked of an operator between two conditions
+abbrev pub is_connective : Op → Bool
+is_connective And = true
+is_connective Or = true
+is_connective other = false
+
+abbrev pub connected : Op → Truth → Truth → Truth
+connected And s t = conjunction s t
+connected other s t = disjunction s t
+
+-- the truth of a condition
+abbrev pub truth_value : ℕ → ℕ → List Value → List Value → Term → Result Truth Fault
+truth_value level row values binds (term.not e) = then_apply (λ (t : Truth). Ok (negation t)) (truth_value level row values binds e)
+truth_value level row values binds (term.bin op a b) = if is_connective op
+    then then_apply (λ (p : Truth × Truth). Ok (connected op p.0 p.1)) (both (truth_value level row values binds a) (truth_value level row values binds b))
+    else then_apply (λ (p : Value × Value). Ok (truth_of_test (comparison level op p.0 p.1))) (both (value_of level row values binds a) (value_of level row values binds b))
+truth_value level row values binds (term.is_null e) = then_apply (λ (v : Value). Ok (truth_of_test (Some (is_null_value v)))) (value_of level row values binds e)
+truth_value level row values binds (term.not_null e) = then_apply (λ (v : Value). Ok (truth_of_test (Some (not (is_null_value v))))) (value_of level row values binds e)
+truth_value level row values binds other = Ok Unknown
+
+-- the value is a text
+abbrev pub IsTextOf : Result Value Fault → Type 0
+IsTextOf (Ok (Text t)) = Unit {0}
+IsTextOf other = ⊥

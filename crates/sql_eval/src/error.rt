@@ -1,0 +1,39 @@
+ghost use Rattle.std.specs.Prelude.{◌≡◌};
+ghost use Rattle.sql_eval.specs.declared.error.CheckErr.TheVariants.{Memory as CheckMemory};
+ghost use Rattle.sql_eval.specs.declared.error.EvalErr.TheVariants.{Memory as EvalMemory};
+
+use desk_values::{Fault, Memory};
+
+/// Why a statement did not pass the checks.
+#[derive(Clone, Copy, Debug, PartialEq, Eq)]
+pub enum CheckErr {
+    /// The check of lowest rank that fails.
+    Refused(Fault),
+    /// Want of memory.
+    Memory,
+}
+
+impl From<Memory> for CheckErr {
+    ghost from_gives = { λ _ e. e ≡ CheckMemory };
+
+    fn from(_error: Memory) -> CheckErr {
+        CheckErr::Memory
+    }
+}
+
+/// Why an expression has no value.
+#[derive(Clone, Copy, Debug, PartialEq, Eq)]
+pub enum EvalErr {
+    /// A divisor is zero, or else a number leaves 64 bits.
+    Refused(Fault),
+    /// Want of memory.
+    Memory,
+}
+
+impl From<Memory> for EvalErr {
+    ghost from_gives = { λ _ e. e ≡ EvalMemory };
+
+    fn from(_error: Memory) -> EvalErr {
+        EvalErr::Memory
+    }
+}

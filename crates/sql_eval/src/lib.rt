@@ -1,0 +1,31 @@
+//! What a statement means for a row.
+//!
+//! Enters: a statement, a schema, binds, and the values of a row. Leaves: the statement with numbers for names,
+//! values, truth, or the fault that the rules give. It touches nothing but memory.
+#![tactic(auto)]
+
+mod binds;
+mod checks;
+mod error;
+mod kind;
+mod laws;
+mod logic;
+mod names;
+mod numbers;
+mod ready;
+mod rules;
+mod seen;
+#[cfg(test)]
+mod tests;
+mod value;
+
+pub use checks::check;
+pub use error::{CheckErr, EvalErr};
+pub use kind::PartKind;
+pub use laws::{faults_of_parts, null_operands, three_valued_logic, values_have_their_kind};
+pub use logic::Truth;
+pub use ready::{
+    Checked, CheckedList, Columns, Ready, ReadyAgg, ReadyAggs, ReadyInput, ReadyInputs, ReadyItems,
+    ReadyKey, ReadyKeys, ReadySets, ReadySetting,
+};
+pub use value::{eval, truth_of};

@@ -1,0 +1,48 @@
+ghost use Rattle.std.specs.Prelude.{◌≡◌};
+ghost use Rattle.sql_eval.specs.Logic.{conjunction, disjunction, negation};
+
+/// A truth value of SQL.
+#[derive(Clone, Copy, Debug, PartialEq, Eq)]
+pub enum Truth {
+    /// It holds.
+    True,
+    /// It does not hold.
+    False,
+    /// Nobody knows, as of a comparison with Null.
+    Unknown,
+}
+
+impl Truth {
+    /// `NOT`
+    pub fn negated(self) -> Truth
+        ensures { result ≡ negation self }
+    {
+        match self {
+            Truth::True => Truth::False,
+            Truth::False => Truth::True,
+            Truth::Unknown => Truth::Unknown,
+        }
+    }
+
+    /// `AND`
+    pub fn and(self, other: Truth) -> Truth
+        ensures { result ≡ conjunction self other }
+    {
+        match (self, other) {
+            (Truth::False, _) | (_, Truth::False) => Truth::False,
+            (Truth::Unknown, _) | (_, Truth::Unknown) => Truth::Unknown,
+            (Truth::True, Truth::True) => Truth::True,
+        }
+    }
+
+    /// `OR`
+    pub fn or(self, other: Truth) -> Truth
+        ensures { result ≡ disjunction self other }
+    {
+        match (self, other) {
+            (Truth::True, _) | (_, Truth::True) => Truth::True,
+            (Truth::Unknown, _) | (_, Truth::Unknown) => Truth::Unknown,
+            (Truth::False, Truth::False) => Truth::False,
+        }
+    }
+}
