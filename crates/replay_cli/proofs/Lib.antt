@@ -1,0 +1,11 @@
+pub mod KeyLemmas
+pub mod Steps
+pub mod Runs
+pub mod Passing
+pub mod Tested
+pub mod Order
+pub mod Starts
+pub mod Loading
+pub mod Running
+pub mod Reasons
+pub mod Ending

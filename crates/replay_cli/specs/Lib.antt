@@ -1,0 +1,9 @@
+pub mod Machine
+pub mod Keys
+pub mod OneSession
+pub mod Words
+pub mod Lines
+pub mod Folder
+pub mod Command
+pub mod Texts
+pub mod Status

@@ -1,0 +1,93 @@
+//! The test whether the calls of one session are a legal capture.
+
+ghost use Rattle.std.specs.Prelude.{◌≡◌, ◌↔◌, ◌<◌, ◌^◌, ◌+◌, if◌then◌else◌, IfOk, IsTrue};
+ghost use Rattle.std.specs.Bool.{OnTrue, OnFalse};
+ghost use Rattle.replay_history.specs.Capture.{IsLegalCapture, commits};
+ghost use Rattle.capture_format.specs.Supported.{AreSupportedCalls};
+ghost use Rattle.replay_cli.specs.Machine.{Answers, Database, Gives, IsOnly, opening};
+ghost use Rattle.replay_cli.specs.OneSession.{ArePlaced, FitsAfter};
+
+use crate::machine::Machine;
+use desk_schema::Start;
+use desk_values::{Captured, Memory, Outcome, Same};
+use std::alloc::Global;
+
+/// The greatest number of calls of a capture.
+pub const CALL_LIMIT: usize = 100_000;
+
+/// Whether the calls are a legal capture from this start: each fits after the calls before it, and the machine
+/// gives just the recorded replies.
+pub fn is_legal(alloc: Global, start: Start, calls: &[Captured]) -> Result<bool, Memory>
+    requires placed { ArePlaced calls.now }
+    requires supported { AreSupportedCalls calls.now }
+    ensures { IfOk result (λ legal. IsTrue legal ↔ IsLegalCapture start.rows Answers (opening start) calls.now) }
+{
+    if calls.len() > CALL_LIMIT {
+        return Ok(false);
+    }
+    let mut machine = Machine::load(alloc, start)?;
+    let mut committed = 0;
+    let mut ended = 0;
+    for (k, call) in calls.iter().enumerate() {
+        if !fits_after(call, k, committed, ended) {
+            return Ok(false);
+        }
+        if !replies_so(&mut machine, call)? {
+            return Ok(false);
+        }
+        committed = counted(committed, &call.reply.outcome);
+        ended = call.ended;
+    }
+    Ok(true)
+}
+
+/// Whether the outcome is that of a numbered commit.
+fn commits(outcome: &Outcome) -> bool
+    ensures { result ≡ commits outcome.now }
+{
+    match outcome {
+        Outcome::Committed(images) => !images.is_empty(),
+        _ => false,
+    }
+}
+
+/// How many numbered commits there are after one call more.
+fn counted(committed: u64, outcome: &Outcome) -> u64
+    requires { committed + 1 < 2 ^ 64 }
+    ensures { result ≡ (if commits outcome.now then committed + 1 else committed) }
+{
+    if commits(outcome) {
+        committed + 1
+    } else {
+        committed
+    }
+}
+
+/// Whether a call with this stamp fits after so many numbered commits, and after a call that ended then.
+fn fits_after(call: &Captured, stamp: usize, committed: u64, ended: u64) -> bool
+    requires { committed + 1 < 2 ^ 64 }
+    ensures { IsTrue result ↔ FitsAfter stamp committed ended call.now }
+{
+    let number = if commits(&call.reply.outcome) {
+        committed + 1
+    } else {
+        0
+    };
+    call.stamp as usize == stamp
+        && call.number == number
+        && call.seen == committed
+        && call.began <= call.ended
+        && ended <= call.began
+}
+
+/// Whether the machine gives the recorded reply. It has executed the call then.
+fn replies_so(machine: &mut Machine, call: &Captured) -> Result<bool, Memory>
+    requires { machine.old.next_row < 2 ^ 63 }
+    ensures yes { IfOk result (λ same. OnTrue same (Gives machine.old call.now.call call.now.reply machine.new × IsOnly (Gives machine.old call.now.call) call.now.reply machine.new)) }
+    ensures no { IfOk result (λ same. OnFalse same ((new : Database) → ¬ Gives machine.old call.now.call call.now.reply new)) }
+{
+    match machine.step(&call.call)? {
+        Some(reply) => Ok(reply.same(&call.reply)),
+        None => Ok(false),
+    }
+}

@@ -1,0 +1,20 @@
+//! The commands of the desk: words and files to a replay, its texts and a status.
+//!
+//! Enters: the words of a command, and the outside as traits. Leaves: files, one line and a status. It touches the
+//! files and the sink that it is handed, and nothing else.
+#![tactic(auto)]
+
+mod failure;
+mod legality;
+pub mod machine;
+mod main_call;
+mod replay;
+mod run;
+mod texts;
+mod words;
+
+pub use main_call::replay_main;
+pub use texts::{journal_text, report_text, tables_text};
+
+#[cfg(test)]
+mod tests;

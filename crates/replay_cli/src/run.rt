@@ -1,0 +1,176 @@
+//! The command `run CAPTURE OUT`: a capture is read, tested and replayed, and its texts are written.
+
+ghost use Rattle.std.specs.Prelude.{◌≡◌, ◌≤◌, ◌↔◌, length, Some, IfOk, IfErr, IsErrOf, IsSomeAnd, OnOk, OnErr};
+ghost use Rattle.std.specs.FinMap as map;
+ghost use Rattle.desk_files.specs.Outside.{FileMap, HasRisen, KeepsOthers, Told};
+ghost use Rattle.capture_format.specs.Supported.{AreSupportedCalls};
+ghost use Rattle.replay_history.specs.Capture.{IsLegalCapture};
+ghost use Rattle.replay_cli.specs.Machine.{Answers, opening};
+ghost use Rattle.replay_cli.specs.OneSession.{ArePlaced, IsReplay};
+ghost use Rattle.replay_cli.specs.Words.{start_name, session_name};
+ghost use Rattle.replay_cli.specs.Folder.{AfterWrites, CutShort, FileSays, file_limit, IsOutside, ReadsBytes, ReadsCalls, ReadsStart, ReplaySays, Written, texts_of, with_all};
+ghost use Rattle.replay_cli.specs.Command.{IsNoCommand, RunSays};
+ghost use Rattle.replay_cli.specs.Texts.{texts_in};
+
+use crate::failure::Failure;
+use crate::legality::is_legal;
+use crate::replay::{Replayed, replay};
+use crate::texts::{journal_text, report_text, tables_text};
+use crate::words::{Folders, folders_of, name_in};
+use capture_format::{FormErr, StartFile, read_session, read_start};
+use desk_files::{FileErr, Files, WriteErr};
+use desk_schema::Start;
+use desk_values::{Bytes, CallList, Captured, Copied, List as Items, Memory, Txt};
+use replay_history::{Mode, Report};
+use std::alloc::Global;
+
+/// What a replay writes.
+#[derive(Drop)]
+struct Texts {
+    journal: Bytes,
+    report: Bytes,
+    tables: Bytes,
+}
+
+/// Does what the words say, and gives the number of calls that were replayed.
+pub fn run<F: Files>(alloc: Global, words: &[Txt], files: &mut F) -> Result<u64, Failure>
+    ensures command { IsErrOf result Failure.BadCommand ↔ IsNoCommand words.now }
+    ensures says { Told (F.content files.old) (λ before. IsSomeAnd (F.content files.new) (λ after. RunSays words.now before after result)) }
+    ensures failed { IsErrOf result Failure.DeviceFault → HasRisen (F.faults files.old) (F.faults files.new) }
+    ensures count { F.faults files.old ≤ F.faults files.new }
+{
+    let Some(folders) = folders_of(words) else {
+        return Err(Failure::BadCommand);
+    };
+    let start = load_start(alloc, folders.capture, files)?;
+    let calls = load_session(alloc, folders.capture, files)?;
+    let replayed = replay_legal(alloc, start.start, calls.as_slice())?;
+    let count = calls.len() as u64;
+    let texts = texts_of(alloc, count, &replayed)?;
+    write_texts(alloc, folders.out, &texts, files)?;
+    Ok(count)
+}
+
+/// The start file of a capture.
+fn load_start<F: Files>(alloc: Global, capture: &Txt, files: &mut F) -> Result<StartFile, Failure>
+    requires { length capture.now ≤ 900 }
+    ensures command { ¬ IsErrOf result Failure.BadCommand }
+    ensures says { Told (F.content files.old) (λ before. FileSays ReadsStart (start_name capture.now) (map.get before (start_name capture.now)) result) }
+    ensures content { F.content files.new ≡ F.content files.old }
+    ensures failed { IsErrOf result Failure.DeviceFault → HasRisen (F.faults files.old) (F.faults files.new) }
+    ensures count { F.faults files.old ≤ F.faults files.new }
+{
+    let name = name_in(alloc, capture, "/start.cap")?;
+    let bytes = load(&name, files)?;
+    match read_start(alloc, bytes.as_slice()) {
+        Ok(file) => Ok(file),
+        Err(FormErr::NotYet) => Err(Failure::NotYet(name)),
+        Err(FormErr::Memory) => Err(Failure::OutOfMemory),
+    }
+}
+
+/// The calls of the one session of a capture.
+fn load_session<F: Files>(alloc: Global, capture: &Txt, files: &mut F) -> Result<CallList, Failure>
+    requires { length capture.now ≤ 900 }
+    ensures command { ¬ IsErrOf result Failure.BadCommand }
+    ensures says { Told (F.content files.old) (λ before. FileSays (λ bytes calls. ReadsCalls bytes calls.items) (session_name capture.now) (map.get before (session_name capture.now)) result) }
+    ensures placed { IfOk result (λ calls. ArePlaced calls.items) }
+    ensures supported { IfOk result (λ calls. AreSupportedCalls calls.items) }
+    ensures content { F.content files.new ≡ F.content files.old }
+    ensures failed { IsErrOf result Failure.DeviceFault → HasRisen (F.faults files.old) (F.faults files.new) }
+    ensures count { F.faults files.old ≤ F.faults files.new }
+{
+    let name = name_in(alloc, capture, "/session-000.cap")?;
+    let bytes = load(&name, files)?;
+    match read_session(alloc, bytes.as_slice(), 0) {
+        Ok(calls) => Ok(calls),
+        Err(FormErr::NotYet) => Err(Failure::NotYet(name)),
+        Err(FormErr::Memory) => Err(Failure::OutOfMemory),
+    }
+}
+
+/// The bytes of a file.
+fn load<F: Files>(name: &Txt, files: &mut F) -> Result<Bytes, Failure>
+    ensures command { ¬ IsErrOf result Failure.BadCommand }
+    ensures says { Told (F.content files.old) (λ before. FileSays ReadsBytes name.now (map.get before name.now) result) }
+    ensures limit { IfOk result (λ bytes. length bytes ≤ file_limit) }
+    ensures content { F.content files.new ≡ F.content files.old }
+    ensures failed { IsErrOf result Failure.DeviceFault → HasRisen (F.faults files.old) (F.faults files.new) }
+    ensures count { F.faults files.old ≤ F.faults files.new }
+{
+    match files.read(name) {
+        Ok(bytes) => Ok(bytes),
+        Err(FileErr::Missing) => Err(Failure::Missing(name.copy()?)),
+        Err(FileErr::TooLong) => Err(Failure::NotYet(name.copy()?)),
+        Err(FileErr::Failed) => Err(Failure::DeviceFault),
+        Err(FileErr::Memory) => Err(Failure::OutOfMemory),
+    }
+}
+
+/// The replay of a capture, if it is legal.
+fn replay_legal(alloc: Global, start: Start, calls: &[Captured]) -> Result<Replayed, Failure>
+    requires placed { ArePlaced calls.now }
+    requires supported { AreSupportedCalls calls.now }
+    ensures { ReplaySays start calls.now result }
+{
+    let first = start.copy()?;
+    if !is_legal(alloc, first, calls)? {
+        return Err(Failure::BadCapture);
+    }
+    Ok(replay(alloc, start, calls)?)
+}
+
+/// The texts of a replay in which every call was answered as it was captured.
+fn texts_of(alloc: Global, calls: u64, replayed: &Replayed) -> Result<Texts, Memory>
+    ensures { IfOk result (λ texts. texts_in texts ≡ texts_of calls replayed.now.history.items replayed.now.tables) }
+{
+    let report = Report {
+        calls,
+        counts: [calls, 0, 0, 0, 0, 0, 0, 0, 0],
+        lines: Items::new(alloc),
+    };
+    Ok(Texts {
+        journal: journal_text(alloc, Mode::Order, &replayed.history)?,
+        report: report_text(alloc, &report)?,
+        tables: tables_text(alloc, &replayed.tables)?,
+    })
+}
+
+/// Writes the texts, one file after the other.
+fn write_texts<F: Files>(
+    alloc: Global,
+    out: &Txt,
+    texts: &Texts,
+    files: &mut F,
+) -> Result<(), Failure>
+    requires { length out.now ≤ 900 }
+    ensures ok { OnOk result (Told (F.content files.old) (λ before. F.content files.new ≡ Some (with_all out.now (texts_in texts.now) before))) }
+    ensures memory { IsErrOf result Failure.OutOfMemory → Told (F.content files.old) (λ before. IsSomeAnd (F.content files.new) (AfterWrites out.now (texts_in texts.now) before)) }
+    ensures cut { OnErr result (Told (F.content files.old) (λ before. IsSomeAnd (F.content files.new) (CutShort out.now (texts_in texts.now) before))) }
+    ensures cause { IfErr result IsOutside }
+    ensures failed { IsErrOf result Failure.DeviceFault → HasRisen (F.faults files.old) (F.faults files.new) }
+    ensures count { F.faults files.old ≤ F.faults files.new }
+{
+    let journal = name_in(alloc, out, "/journal.txt")?;
+    let report = name_in(alloc, out, "/report.txt")?;
+    let tables = name_in(alloc, out, "/tables.txt")?;
+    write(&journal, texts.journal.as_slice(), files)?;
+    write(&report, texts.report.as_slice(), files)?;
+    write(&tables, texts.tables.as_slice(), files)?;
+    Ok(())
+}
+
+fn write<F: Files>(name: &Txt, bytes: &[u8], files: &mut F) -> Result<(), Failure>
+    ensures ok { OnOk result (Told (F.content files.old) (λ before. F.content files.new ≡ Some (map.insert before name.now bytes.now))) }
+    ensures others { Told (F.content files.old) (λ before. IsSomeAnd (F.content files.new) (KeepsOthers name.now before)) }
+    ensures memory { IsErrOf result Failure.OutOfMemory → F.content files.new ≡ F.content files.old }
+    ensures cause { IfErr result IsOutside }
+    ensures failed { IsErrOf result Failure.DeviceFault → HasRisen (F.faults files.old) (F.faults files.new) }
+    ensures count { F.faults files.old ≤ F.faults files.new }
+{
+    match files.write(name, bytes) {
+        Ok(()) => Ok(()),
+        Err(WriteErr::Failed) => Err(Failure::DeviceFault),
+        Err(WriteErr::Memory) => Err(Failure::OutOfMemory),
+    }
+}
