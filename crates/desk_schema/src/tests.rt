@@ -1,12 +1,17 @@
 use crate::{Draft, DraftErr, Kind, Rights, Start};
 use desk_values::{Copied, Txt, TxtErr, Value, Values};
 use std::alloc::Global;
+use std::process::Abort;
 use std::test::Fail;
 
 const REFUSED: Result<(), DraftErr> = Err(DraftErr::Rule);
 
-const LETTERS: [&str; 16] = [
+static LETTERS: [&str; 16] = [
     "a", "b", "c", "d", "e", "f", "g", "h", "i", "j", "k", "l", "m", "n", "o", "p",
+];
+
+static PAIRS: [&str; 16] = [
+    "aa", "ab", "ac", "ad", "ae", "af", "ag", "ah", "ai", "aj", "ak", "al", "am", "an", "ao", "ap",
 ];
 
 fn txt(alloc: Global, text: &str) -> Result<Txt, TxtErr> {
@@ -75,17 +80,12 @@ fn names_are_looked_up_whatever_their_case(rt: HostRuntime) -> Result<(), Fail> 
     let alloc = rt.alloc();
     let start = large_bank(alloc)?;
     let schema = start.schema();
-    for (name, table, column, sequence) in [
-        ("ACCT", Some(0), None, None),
-        ("item", Some(1), None, None),
-        ("Bal", None, Some(1), None),
-        ("S", None, None, Some(0)),
-    ] {
-        let name = txt(alloc, name)?;
-        assert_eq!(rt; schema.table_named(&name), table);
-        assert_eq!(rt; schema.column_named(0, &name), column);
-        assert_eq!(rt; schema.seq_named(&name), sequence);
-    }
+    assert_eq!(rt; schema.table_named(&txt(alloc, "ACCT")?), Some(0));
+    assert_eq!(rt; schema.table_named(&txt(alloc, "Bal")?), None);
+    assert_eq!(rt; schema.column_named(0, &txt(alloc, "Bal")?), Some(1));
+    assert_eq!(rt; schema.column_named(1, &txt(alloc, "Bal")?), None);
+    assert_eq!(rt; schema.seq_named(&txt(alloc, "S")?), Some(0));
+    assert_eq!(rt; schema.seq_named(&txt(alloc, "t")?), None);
     Ok(())
 }
 
@@ -93,13 +93,16 @@ fn names_are_looked_up_whatever_their_case(rt: HostRuntime) -> Result<(), Fail> 
 fn services_are_looked_up_byte_for_byte(rt: HostRuntime) -> Result<(), Fail> {
     let alloc = rt.alloc();
     let start = small_bank(alloc)?;
-    for (name, rights) in [
-        ("main", Some(Rights::ReadWrite)),
-        ("report", Some(Rights::ReadOnly)),
-        ("Report", None),
-    ] {
-        assert_eq!(rt; start.schema().service_named(&txt(alloc, name)?), rights);
-    }
+    let schema = start.schema();
+    assert_eq!(rt;
+        schema.service_named(&txt(alloc, "main")?),
+        Some(Rights::ReadWrite)
+    );
+    assert_eq!(rt;
+        schema.service_named(&txt(alloc, "report")?),
+        Some(Rights::ReadOnly)
+    );
+    assert_eq!(rt; schema.service_named(&txt(alloc, "Report")?), None);
     Ok(())
 }
 
@@ -130,6 +133,35 @@ fn a_copy_is_the_same_and_another_start_is_not(rt: HostRuntime) -> Result<(), Fa
     Ok(())
 }
 
+static BAD_SEQUENCES: [(&str, u64); 9] = [
+    ("s", 0),
+    ("s", 549_755_813_889),
+    ("", 1),
+    ("S", 1),
+    ("1s", 1),
+    ("a-b", 1),
+    ("rowid", 1),
+    ("abcdefghijklmnopqrstuvwxyz_1234", 1),
+    ("abcdefghijklmnopqrstuvwxyz_123", 1),
+];
+
+/// Asserts that each of these sequences is refused.
+fn refuse_sequences(
+    rt: &impl Abort,
+    alloc: Global,
+    draft: &mut Draft,
+    cases: &[(&str, u64)],
+) -> Result<(), Fail> {
+    for (name, next) in cases {
+        assert_eq!(rt;
+            draft.add_seq(&txt(alloc, name)?, *next),
+            REFUSED,
+            "{name} {next}"
+        );
+    }
+    Ok(())
+}
+
 #[test]
 fn bad_sequences_are_refused(rt: HostRuntime) -> Result<(), Fail> {
     let alloc = rt.alloc();
@@ -139,22 +171,38 @@ fn bad_sequences_are_refused(rt: HostRuntime) -> Result<(), Fail> {
         &txt(alloc, "abcdefghijklmnopqrstuvwxyz_123")?,
         549_755_813_888,
     )?;
-    for (name, next) in [
-        ("s", 0),
-        ("s", 549_755_813_889),
-        ("", 1),
-        ("S", 1),
-        ("1s", 1),
-        ("a-b", 1),
-        ("rowid", 1),
-        ("abcdefghijklmnopqrstuvwxyz_1234", 1),
-        ("abcdefghijklmnopqrstuvwxyz_123", 1),
-    ] {
-        assert_eq!(rt;
-            draft.add_seq(&txt(alloc, name)?, next),
-            REFUSED,
-            "{name} {next}"
-        );
+    refuse_sequences(&rt, alloc, &mut draft, &BAD_SEQUENCES)
+}
+
+/// Adds sequences of these names.
+fn add_sequences(alloc: Global, draft: &mut Draft, names: &[&str]) -> Result<(), Fail> {
+    for name in names {
+        draft.add_seq(&txt(alloc, name)?, 1)?;
+    }
+    Ok(())
+}
+
+/// Adds services of these names.
+fn add_services(alloc: Global, draft: &mut Draft, names: &[&str]) -> Result<(), Fail> {
+    for name in names {
+        draft.add_service(&txt(alloc, name)?, Rights::ReadOnly)?;
+    }
+    Ok(())
+}
+
+/// Adds columns of these names.
+fn add_columns(alloc: Global, draft: &mut Draft, names: &[&str]) -> Result<(), Fail> {
+    for name in names {
+        draft.add_col(&txt(alloc, name)?, Kind::Text(1000), true)?;
+    }
+    Ok(())
+}
+
+/// Adds tables of these names, each with columns of its letters.
+fn add_tables(alloc: Global, draft: &mut Draft, names: &[&str]) -> Result<(), Fail> {
+    for name in names {
+        draft.add_table(&txt(alloc, name)?)?;
+        add_columns(alloc, draft, &LETTERS)?;
     }
     Ok(())
 }
@@ -163,14 +211,10 @@ fn bad_sequences_are_refused(rt: HostRuntime) -> Result<(), Fail> {
 fn there_are_at_most_sixteen_sequences_and_services(rt: HostRuntime) -> Result<(), Fail> {
     let alloc = rt.alloc();
     let mut draft = Draft::new(alloc, 1)?;
-    for name in LETTERS {
-        draft.add_seq(&txt(alloc, name)?, 1)?;
-    }
     let late = txt(alloc, "late")?;
+    add_sequences(alloc, &mut draft, &LETTERS)?;
     assert_eq!(rt; draft.add_seq(&late, 1), REFUSED);
-    for name in LETTERS {
-        draft.add_service(&txt(alloc, name)?, Rights::ReadOnly)?;
-    }
+    add_services(alloc, &mut draft, &LETTERS)?;
     assert_eq!(rt; draft.add_service(&late, Rights::ReadOnly), REFUSED);
     Ok(())
 }
@@ -179,25 +223,27 @@ fn there_are_at_most_sixteen_sequences_and_services(rt: HostRuntime) -> Result<(
 fn there_are_at_most_sixteen_columns_and_thirty_two_tables(rt: HostRuntime) -> Result<(), Fail> {
     let alloc = rt.alloc();
     let mut draft = Draft::new(alloc, 1)?;
-    for name in LETTERS {
-        draft.add_table(&txt(alloc, name)?)?;
-        for column in LETTERS {
-            draft.add_col(&txt(alloc, column)?, Kind::Text(1000), true)?;
-        }
-        assert_eq!(rt;
-            draft.add_col(&txt(alloc, "q")?, Kind::Text(1), true),
-            REFUSED
-        );
-    }
-    for name in [
-        "aa", "ab", "ac", "ad", "ae", "af", "ag", "ah", "ai", "aj", "ak", "al", "am", "an", "ao",
-        "ap",
-    ] {
-        draft.add_table(&txt(alloc, name)?)?;
-        draft.add_col(&txt(alloc, "id")?, Kind::Text(1), true)?;
-    }
-    assert_eq!(rt; draft.add_table(&txt(alloc, "aq")?), REFUSED);
+    let late = txt(alloc, "late")?;
+    add_tables(alloc, &mut draft, &LETTERS)?;
+    assert_eq!(rt; draft.add_col(&late, Kind::Text(1), true), REFUSED);
+    add_tables(alloc, &mut draft, &PAIRS)?;
+    assert_eq!(rt; draft.add_table(&late), REFUSED);
     Ok(())
+}
+
+static BAD_COLUMNS: [(Kind, bool); 5] = [
+    (Kind::Int(2, 1), true),
+    (Kind::Text(0), true),
+    (Kind::Text(1001), true),
+    (Kind::Seq(1), true),
+    (Kind::Text(1000), false),
+];
+
+/// Asserts that each of these columns is refused.
+fn refuse_columns(rt: &impl Abort, draft: &mut Draft, name: &Txt, cases: &[(Kind, bool)]) {
+    for (kind, not_null) in cases {
+        assert_eq!(rt; draft.add_col(name, *kind, *not_null), REFUSED, "{kind:?}");
+    }
 }
 
 #[test]
@@ -207,15 +253,7 @@ fn bad_columns_are_refused(rt: HostRuntime) -> Result<(), Fail> {
     let id = txt(alloc, "id")?;
     assert_eq!(rt; draft.add_col(&id, Kind::Text(1), true), REFUSED);
     draft.add_table(&txt(alloc, "t")?)?;
-    for (kind, not_null) in [
-        (Kind::Int(2, 1), true),
-        (Kind::Text(0), true),
-        (Kind::Text(1001), true),
-        (Kind::Seq(1), true),
-        (Kind::Text(1000), false),
-    ] {
-        assert_eq!(rt; draft.add_col(&id, kind, not_null), REFUSED, "{kind:?}");
-    }
+    refuse_columns(&rt, &mut draft, &id, &BAD_COLUMNS);
     draft.add_col(&id, Kind::Int(1, 1), true)?;
     assert_eq!(rt; draft.add_col(&id, Kind::Int(1, 1), true), REFUSED);
     Ok(())
@@ -275,6 +313,35 @@ fn names(alloc: Global) -> Result<Draft, Fail> {
     Ok(draft)
 }
 
+static BAD_ROWS: [(u64, u32, &str, i64, u64); 8] = [
+    (7, 0, "x", 1, 1),
+    (8, 1, "x", 1, 1),
+    (8, 0, "abc", 1, 1),
+    (8, 0, "abcd", 1, 1),
+    (8, 0, "x", 10, 1),
+    (8, 0, "x", -1, 1),
+    (8, 0, "x", 1, 10),
+    (8, 0, "x", 1, 0),
+];
+
+/// Asserts that each of these rows is refused.
+fn refuse_rows(
+    rt: &impl Abort,
+    alloc: Global,
+    draft: &mut Draft,
+    cases: &[(u64, u32, &str, i64, u64)],
+) -> Result<(), Fail> {
+    for (row, table, name, id, drawn) in cases {
+        let values = named(alloc, name, *id, *drawn)?;
+        assert_eq!(rt;
+            draft.add_row(*row, *table, values),
+            REFUSED,
+            "{row} {name} {id} {drawn}"
+        );
+    }
+    Ok(())
+}
+
 #[test]
 fn bad_rows_are_refused(rt: HostRuntime) -> Result<(), Fail> {
     let alloc = rt.alloc();
@@ -285,22 +352,7 @@ fn bad_rows_are_refused(rt: HostRuntime) -> Result<(), Fail> {
         "row 0"
     );
     draft.add_row(7, 0, named(alloc, "abc", 9, 9)?)?;
-    for (row, table, name, id, drawn) in [
-        (7, 0, "x", 1, 1),
-        (8, 1, "x", 1, 1),
-        (8, 0, "abc", 1, 1),
-        (8, 0, "abcd", 1, 1),
-        (8, 0, "x", 10, 1),
-        (8, 0, "x", -1, 1),
-        (8, 0, "x", 1, 10),
-        (8, 0, "x", 1, 0),
-    ] {
-        assert_eq!(rt;
-            draft.add_row(row, table, named(alloc, name, id, drawn)?),
-            REFUSED,
-            "{row} {table} {name} {id} {drawn}"
-        );
-    }
+    refuse_rows(&rt, alloc, &mut draft, &BAD_ROWS)?;
     assert_eq!(rt;
         draft.add_row(8, 0, ints(alloc, &[1, 1, 1])?),
         REFUSED,
