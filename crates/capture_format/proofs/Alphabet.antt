@@ -1,5 +1,5 @@
 -- Which bytes stand in texts: digits in numbers, and no line feed or `>` in calls and replies.
-use Rattle.std.proofs.Common.{◌≡◌, ◌≢◌, cond, leb, eqb, ◌&&◌, not, ℕ, suc, ◌+◌, ◌-◌, ◌/◌, ◌%◌, ◌<◌, ◌≤◌, ◌^◌, Bool, true, false, List, [], ◌∷◌, ◌++◌, map, Option, Some, None, refl, arith, lit<}
+use Rattle.std.proofs.Common.{◌≡◌, ◌≢◌, cond, leb, eqb, ◌&&◌, not, ℕ, suc, ◌/◌, ◌%◌, ◌<◌, ◌≤◌, ◌^◌, Bool, true, false, List, [], ◌∷◌, ◌++◌, map, Option, Some, None, refl, arith, lit<}
 use Rattle.std.specs.Prelude.{ℤ, pos, negsuc, IfSome, FitsSigned, codes}
 use Rattle.std.specs.Int.{w64}
 use Rattle.std.specs.List.{AllByRecursion, flat_map, join_with_byte}

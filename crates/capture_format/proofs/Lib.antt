@@ -9,7 +9,6 @@ pub mod SessionLoop
 pub mod Names
 pub mod SimpleReader
 pub mod StartReader
-pub mod Sequences
 pub mod Failures
 pub mod StartLoop
 pub mod StartEnd

@@ -1,5 +1,5 @@
 -- What a line that was read says of the whole file.
-use Rattle.std.proofs.Common.{◌≡◌, ℕ, ◌+◌, ◌<◌, ◌^◌, List, [], ◌∷◌, ◌++◌, Option, Some, None, Result, Ok, Err, ap, sym, subst, ◌∙◌, arith}
+use Rattle.std.proofs.Common.{◌≡◌, ℕ, ◌<◌, ◌^◌, List, [], ◌∷◌, ◌++◌, Option, Some, None, Result, Ok, Err, ap, sym, subst, ◌∙◌, arith}
 use Rattle.std.specs.Prelude.{codes, IfOk}
 use Rattle.std.specs.Fmt.{decimal}
 use Rattle.desk_values.specs.declared.capture.Captured.{Captured}
@@ -8,7 +8,6 @@ use Rattle.desk_values.specs.declared.read_err.ReadErr.TheVariants as line_error
 use Rattle.desk_values.specs.Room.{Room}
 use Rattle.desk_values.specs.Reading.{Reads}
 use Rattle.capture_format.specs.declared.form.FormErr.{FormErr}
-use Rattle.capture_format.specs.declared.form.FormErr.TheVariants.{Memory}
 use Rattle.capture_format.specs.declared.session_line.CallLine.{CallLine}
 use Rattle.capture_format.specs.declared.session_line.SessionLine.{SessionLine}
 use Rattle.capture_format.specs.declared.session_line.SessionLine.TheVariants.{Head, Call, End}

@@ -1,5 +1,5 @@
 -- What is read of the text of a simple statement is spelled so, and what is spelled so is read.
-use Rattle.std.proofs.Common.{◌≡◌, ◌≢◌, inl, inr, ℕ, ◌+◌, ◌<◌, ◌^◌, cond, ltb, leb, nat_eq, ℤ, pos, negsuc, List, [], ◌∷◌, ◌++◌, length, map, drop, Some, None, refl, ap, sym, subst, ◌∙◌, arith, lit<}
+use Rattle.std.proofs.Common.{◌≡◌, ◌≢◌, inl, inr, ℕ, ◌<◌, ◌^◌, cond, ltb, leb, nat_eq, ℤ, pos, negsuc, List, [], ◌∷◌, ◌++◌, length, map, drop, Some, None, refl, ap, sym, subst, ◌∙◌, arith, lit<}
 use Rattle.std.specs.Prelude.{codes, FitsSigned}
 use Rattle.std.specs.Int.{w64}
 use Rattle.std.specs.List.{AllByRecursion, starts_with, join_with_byte}
@@ -18,7 +18,7 @@ use Rattle.desk_values.proofs.Cuts.{cut_at-joined, cut_at_parts, pieces-join, jo
 use Rattle.desk_values.proofs.Numbers.{numbers}
 use Rattle.capture_format.specs.declared.simple.Simple.{Simple}
 use Rattle.capture_format.specs.declared.simple.Simple.TheVariants.{Insert, Commit}
-use Rattle.capture_format.specs.Cuts.{behind}
+use Rattle.capture_format.specs.Cuts.{after_prefix}
 use Rattle.capture_format.specs.NameReading.{as_name}
 use Rattle.capture_format.specs.SimpleStatement.{numbers_text, simple_text, IsLiteral, AreLiterals, IsSimple}
 use Rattle.capture_format.specs.SimpleReading.{literal_of, literals_of, row_of, insert_parts, insert_of, simple_of}
@@ -104,20 +104,20 @@ row_again ns are =
 
 -- ---- a whole insert
 
-pub behind_taken : (front bytes rest : List ℕ) → behind front bytes ≡ Some rest → bytes ≡ front ++ rest
-behind_taken front bytes rest e =
+pub prefix_taken : (front bytes rest : List ℕ) → after_prefix front bytes ≡ Some rest → bytes ≡ front ++ rest
+prefix_taken front bytes rest e =
     let test = if_some (starts_with nat_eq bytes front) (drop (length front) bytes) rest e in
     (starts_is Decides-eqb bytes front (starts_with nat_eq bytes front) refl).0 test.0 ∙ ap (λ (r : List ℕ). front ++ r) test.1
 
 parts_taken : (bytes : List ℕ) (p : List ℕ × List ℕ) → insert_parts bytes ≡ Some p → bytes ≡ codes "INSERT INTO " ++ (p.0 ++ 32 ∷ (codes "VALUES (" ++ p.1))
 unfolding insert_parts
 parts_taken bytes p e =
-    let rest = bind_some (behind (codes "INSERT INTO ") bytes) _ p e in
+    let rest = bind_some (after_prefix (codes "INSERT INTO ") bytes) _ p e in
     let parts = bind_some (cut_at 32 rest.0) _ p rest.2 in
-    let row = bind_some (behind (codes "VALUES (") parts.0.1) (λ r. Some (parts.0.0, r)) p parts.2 in
+    let row = bind_some (after_prefix (codes "VALUES (") parts.0.1) (λ r. Some (parts.0.0, r)) p parts.2 in
     let cut = (cut_at_parts 32 rest.0 parts.0 parts.1).parts in
-    let e1 = behind_taken (codes "INSERT INTO ") bytes rest.0 rest.1 in
-    let e2 = behind_taken (codes "VALUES (") parts.0.1 row.0 row.1 in
+    let e1 = prefix_taken (codes "INSERT INTO ") bytes rest.0 rest.1 in
+    let e2 = prefix_taken (codes "VALUES (") parts.0.1 row.0 row.1 in
     let whole : bytes ≡ codes "INSERT INTO " ++ (parts.0.0 ++ 32 ∷ (codes "VALUES (" ++ row.0)) = e1 ∙ ap (λ (r : List ℕ). codes "INSERT INTO " ++ r) (cut ∙ ap (λ (r : List ℕ). parts.0.0 ++ 32 ∷ r) e2) in
     subst (λ (q : List ℕ × List ℕ). bytes ≡ codes "INSERT INTO " ++ (q.0 ++ 32 ∷ (codes "VALUES (" ++ q.1))) (same_Some _ _ row.2) whole
 

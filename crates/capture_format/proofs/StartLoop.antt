@@ -1,5 +1,5 @@
 -- What a line that was read says of the whole start file.
-use Rattle.std.proofs.Common.{◌≡◌, ◌≢◌, ◌⊎◌, inl, inr, ℕ, ◌+◌, ◌<◌, ◌≤◌, ◌^◌, Bool, true, false, List, [], ◌∷◌, ◌++◌, length, Option, Some, None, refl, ap, sym, subst, ◌∙◌, append_assoc, append-nil, length-append, arith, lit<}
+use Rattle.std.proofs.Common.{◌≡◌, ◌≢◌, ◌⊎◌, inl, inr, ℕ, ◌<◌, ◌≤◌, ◌^◌, Bool, true, false, List, [], ◌∷◌, ◌++◌, length, Option, Some, None, refl, ap, sym, subst, ◌∙◌, append_assoc, append-nil, length-append, arith, lit<}
 use Rattle.std.specs.Prelude.{codes, fold}
 use Rattle.std.specs.List.{AllByRecursion, last_or}
 use Rattle.std.specs.Fmt.{decimal, signed_decimal}
@@ -7,7 +7,6 @@ use Rattle.std.proofs.lemmas.Option.{same_Some}
 use Rattle.std.proofs.lemmas.List.Concat.{flat_map-append}
 use Rattle.desk_values.specs.Fields.{Lacks, cut_at}
 use Rattle.desk_values.specs.Text.{values_text}
-use Rattle.desk_values.specs.Reading.{at_end}
 use Rattle.desk_values.proofs.Options.{bind_some}
 use Rattle.desk_values.proofs.Cuts.{cut_at-joined, cut_at_parts}
 use Rattle.desk_schema.specs.declared.line.StartLine.{StartLine}
@@ -21,7 +20,7 @@ use Rattle.desk_schema.specs.Line.{rights_text, nulls_text, kind_text, line_text
 use Rattle.desk_schema.specs.Rules.{place, last_place, MayFollow, AreLinesAfter, AreLines}
 use Rattle.capture_format.specs.StartFile.{IsColumnKind, IsStartLine, IsStartFile}
 use Rattle.capture_format.specs.StartReading.{start_line_of}
-use Rattle.capture_format.specs.StartSteps.{next_line_of, StartSoFar, IsNoStart}
+use Rattle.capture_format.specs.StartSteps.{next_line_of, StartSoFar, IsNoStart, IsNextRow}
 use Rattle.capture_format.proofs.Cuts.{all_append}
 use Rattle.capture_format.proofs.Alphabet.{AreTextBytes, text_word, text_decimal, text_signed, text_values}
 use Rattle.capture_format.proofs.SessionSteps.{visible_all}
@@ -234,7 +233,7 @@ next_shorter rest x e =
     let is = ap length (next_taken rest x e).1 in
     omega (arith, is, length-append (line_text x.0) (10 ∷ x.1))
 
-pub place_of_next_row : (l : StartLine) → place l ≡ 8 → (row : ℕ) × (l ≡ line.NextRow row)
+pub place_of_next_row : (l : StartLine) → IsNextRow l → (row : ℕ) × (l ≡ line.NextRow row)
 place_of_next_row line.Head is = absurd (omega arith)
 place_of_next_row (line.Level level) is = absurd (omega arith)
 place_of_next_row (line.Seq name next) is = absurd (omega arith)
@@ -247,5 +246,5 @@ place_of_next_row (line.Sessions count) is = absurd (omega arith)
 place_of_next_row line.End is = absurd (omega arith)
 
 -- a line that was not added, and is not that of the next row
-pub not_added : (before : List StartLine) (l : StartLine) → place l ≡ 8 ⊎ (¬ (MayFollow before l)) → ((row : ℕ) → l ≡ line.NextRow row → ⊥) → ¬ (MayFollow before l)
+pub not_added : (before : List StartLine) (l : StartLine) → IsNextRow l ⊎ (¬ (MayFollow before l)) → ((row : ℕ) → l ≡ line.NextRow row → ⊥) → ¬ (MayFollow before l)
 not_added before l reason other = elim reason [ inl next ↦ λ may. let row = place_of_next_row l next in other row.0 row.1 | inr broken ↦ broken ]

@@ -1,5 +1,5 @@
 -- A file is spelled in one way.
-use Rattle.std.proofs.Common.{◌≡◌, ◌⊎◌, inl, inr, ℕ, ◌+◌, ◌<◌, ◌≤◌, ◌^◌, List, [], ◌∷◌, ◌++◌, Option, Some, None, refl, ap, sym, subst, ◌∙◌}
+use Rattle.std.proofs.Common.{◌≡◌, inl, inr, ℕ, ◌+◌, List, [], ◌∷◌, ◌++◌, refl, ap, sym, subst, ◌∙◌}
 use Rattle.std.specs.Prelude.{codes}
 use Rattle.std.specs.Fmt.{decimal}
 use Rattle.std.specs.List.{AllByRecursion}
@@ -9,12 +9,11 @@ use Rattle.desk_schema.specs.declared.line.StartLine.{StartLine}
 use Rattle.desk_schema.specs.Line.{lines_text}
 use Rattle.capture_format.specs.declared.start.StartFile.{StartFile}
 use Rattle.capture_format.specs.declared.session_line.CallLine.{CallLine}
-use Rattle.capture_format.specs.declared.session_line.SessionLine.{SessionLine}
-use Rattle.capture_format.specs.declared.session_line.SessionLine.TheVariants.{Head, Call, End}
+use Rattle.capture_format.specs.declared.session_line.SessionLine.TheVariants.{Call, End}
 use Rattle.capture_format.specs.StartFile.{IsStartLine, SpellsStart, file_of}
 use Rattle.capture_format.specs.StartSteps.{next_line_of}
-use Rattle.capture_format.specs.SessionFile.{call_line_text, session_line_text, IsCallLine, IsSessionLine, SpellsSession, captured_of}
-use Rattle.capture_format.specs.SessionRest.{end_text, line_of, IsRest}
+use Rattle.capture_format.specs.SessionFile.{call_line_text, IsCallLine, SpellsSession, captured_of}
+use Rattle.capture_format.specs.SessionRest.{line_of, IsRest}
 use Rattle.capture_format.specs.SessionReading.{session_line_of}
 use Rattle.capture_format.proofs.Texts.{lines}
 use Rattle.capture_format.proofs.SessionLines.{text_of_session}

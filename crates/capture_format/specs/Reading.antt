@@ -8,11 +8,13 @@ use Rattle.capture_format.specs.declared.form.FormErr.TheVariants.{NotYet, Memor
 use Rattle.desk_values.specs.declared.read_err.ReadErr.{ReadErr}
 use Rattle.desk_values.specs.declared.read_err.ReadErr.TheVariants as line
 
+-- what reading a session file answers where these calls are spelled: just them, or want of memory
 abbrev pub ReadsCalls : Result (Room Captured) FormErr → List Captured → Type 0
 ReadsCalls (Ok found) calls = found.items ≡ calls
 ReadsCalls (Err NotYet) calls = ⊥
 ReadsCalls (Err Memory) calls = Unit {0}
 
+-- the same of a reader that answers with one value
 abbrev pub ReadsFile : {X : Type 0} → Result X FormErr → X → Type 0
 ReadsFile (Ok found) file = found ≡ file
 ReadsFile (Err NotYet) file = ⊥

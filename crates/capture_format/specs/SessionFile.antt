@@ -70,6 +70,7 @@ abbrev pub MayGoOn : ℕ → List SessionLine → List SessionLine → Type 0
 MayGoOn session before [] = Unit {0}
 MayGoOn session before (line ∷ lines) = MayFollow session before line × MayGoOn session (before ++ line ∷ []) lines
 
+-- each line may follow those before it, and the first may begin the file of this session
 abbrev pub AreSessionLines : ℕ → List SessionLine → Type 0
 AreSessionLines session lines = MayGoOn session [] lines
 
@@ -83,6 +84,7 @@ pub record IsSessionFile (session : ℕ) (bytes : List ℕ) (lines : List Sessio
   pub text : bytes ≡ session_lines_text lines
   pub ended : last_or None lines ≡ Some End
 
+-- the call of a line, in this session and at this place
 abbrev pub captured_of : ℕ → ℕ → CallLine → Captured
 captured_of session place line = record { session = session; place = place; stamp = line.stamp; seen = line.seen; number = line.number; began = line.began; ended = line.ended; call = line.call; reply = line.reply }
 

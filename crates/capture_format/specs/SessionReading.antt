@@ -1,10 +1,8 @@
 -- What the line of a session file says, where it says something.
-use Rattle.std.specs.Prelude.{ℕ, ◌+◌, ◌^◌, Bool, true, false, nat_lt, nat_le, nat_eq, ◌==◌, if◌then◌else◌, List, [], ◌∷◌, length, drop, Option, None, Some, codes}
+use Rattle.std.specs.Prelude.{ℕ, ◌^◌, nat_le, nat_eq, ◌==◌, if◌then◌else◌, List, [], ◌∷◌, drop, Option, None, Some, codes}
 use Rattle.std.specs.Option.{option_map}
 use Rattle.std.specs.List.{starts_with}
 use Rattle.std.specs.Str.{bytes_eq}
-use Rattle.desk_values.specs.declared.call.Call.{Call as AnyCall}
-use Rattle.desk_values.specs.declared.call.Reply.{Reply}
 use Rattle.desk_values.specs.Fields.{cut_at}
 use Rattle.desk_values.specs.Reading.{◌>>=◌, number_of, number_below, call_of, reply_of}
 use Rattle.capture_format.specs.declared.session_line.CallLine.{CallLine}
@@ -25,6 +23,7 @@ commit_number_of bytes = if bytes_eq bytes (codes "-") then Some 0 else (do
   n ← number_of bytes
   if n == 0 then None else Some n)
 
+-- the number of a commit, and what stands behind the space after it
 unfoldable pub commit_number_at : List ℕ → Option (ℕ × List ℕ)
 commit_number_at bytes = do
   parts ← cut_at 32 bytes
@@ -52,6 +51,7 @@ exchange_of bytes = do
   reply ← reply_of answered
   Some (record { call = call; reply = reply })
 
+-- the line of a call: stamp, began, ended, seen, number, and what was asked and answered
 unfoldable pub call_line_of : List ℕ → Option CallLine
 call_line_of bytes = do
   stamp ← number_at 4294967295 bytes
@@ -71,5 +71,6 @@ abbrev pub head_or_call : List ℕ → Option ℕ → Option SessionLine
 head_or_call bytes (Some session) = Some (Head session)
 head_or_call bytes None = option_map Call (call_line_of bytes)
 
+-- the line of a session file: the end, the head, or a call
 unfoldable pub session_line_of : List ℕ → Option SessionLine
 session_line_of bytes = if bytes_eq bytes (codes "end") then Some End else head_or_call bytes (head_of bytes)

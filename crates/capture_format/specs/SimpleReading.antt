@@ -1,11 +1,11 @@
 -- What the text of a simple statement says, where it says something.
-use Rattle.std.specs.Prelude.{ℕ, ℤ, nat_le, nat_eq, ◌==◌, if◌then◌else◌, List, [], ◌∷◌, length, drop, Option, None, Some, codes}
+use Rattle.std.specs.Prelude.{ℕ, ℤ, nat_le, if◌then◌else◌, List, length, Option, None, Some, codes}
 use Rattle.std.specs.Str.{bytes_eq}
 use Rattle.desk_values.specs.Fields.{cut_at, pieces}
 use Rattle.desk_values.specs.Reading.{◌>>=◌, at_end, number_of, not_negative, each_of}
 use Rattle.capture_format.specs.declared.simple.Simple.{Simple}
 use Rattle.capture_format.specs.declared.simple.Simple.TheVariants.{Insert, Commit}
-use Rattle.capture_format.specs.Cuts.{behind}
+use Rattle.capture_format.specs.Cuts.{after_prefix}
 use Rattle.capture_format.specs.NameReading.{as_name}
 
 -- a number from 0 to 9223372036854775807
@@ -27,11 +27,12 @@ row_of bytes = do
 -- what stands for the table of an insert, and what stands behind its `(`
 unfoldable pub insert_parts : List ℕ → Option (List ℕ × List ℕ)
 insert_parts bytes = do
-  rest ← behind (codes "INSERT INTO ") bytes
+  rest ← after_prefix (codes "INSERT INTO ") bytes
   parts ← cut_at 32 rest
-  row ← behind (codes "VALUES (") parts.1
+  row ← after_prefix (codes "VALUES (") parts.1
   Some (parts.0, row)
 
+-- the insert that the bytes spell
 unfoldable pub insert_of : List ℕ → Option Simple
 insert_of bytes = do
   parts ← insert_parts bytes
@@ -39,5 +40,6 @@ insert_of bytes = do
   numbers ← row_of parts.1
   Some (Insert table numbers)
 
+-- the commit or the insert that the bytes spell
 unfoldable pub simple_of : List ℕ → Option Simple
 simple_of bytes = if bytes_eq bytes (codes "COMMIT") then Some Commit else insert_of bytes

@@ -1,5 +1,5 @@
 -- The start file: which lines have a text, and what they say together.
-use Rattle.std.specs.Prelude.{◌≡◌, ℕ, ◌<◌, ◌^◌, Bool, List, [], ◌∷◌, Option, None, Some, FitsSigned}
+use Rattle.std.specs.Prelude.{◌≡◌, ℕ, ◌<◌, ◌^◌, List, [], ◌∷◌, None, Some, FitsSigned}
 use Rattle.std.specs.Int.{w64}
 use Rattle.std.specs.List.{AllByRecursion, last_or}
 use Rattle.desk_values.specs.Good.{IsValues}
@@ -45,6 +45,7 @@ sessions_from count [] = count
 sessions_from count (Sessions next ∷ lines) = sessions_from next lines
 sessions_from count (other ∷ lines) = sessions_from count lines
 
+-- the number of sessions that the lines say, 0 where they say none
 abbrev pub sessions_of : List StartLine → ℕ
 sessions_of lines = sessions_from 0 lines
 

@@ -1,5 +1,5 @@
 -- What the line of a start file says, where it says something.
-use Rattle.std.specs.Prelude.{ℕ, ◌^◌, Bool, true, false, if◌then◌else◌, List, [], ◌∷◌, Option, None, Some, codes}
+use Rattle.std.specs.Prelude.{ℕ, ◌^◌, Bool, true, false, if◌then◌else◌, List, Option, None, Some, codes}
 use Rattle.std.specs.Option.{option_map}
 use Rattle.std.specs.Str.{bytes_eq}
 use Rattle.desk_values.specs.Fields.{cut_at}
@@ -26,6 +26,7 @@ word_of bytes = if bytes_eq bytes (codes "level") then Some word.Level
     else (if bytes_eq bytes (codes "sessions") then Some word.Sessions
     else None)))))))
 
+-- what a service may do
 unfoldable pub rights_of : List ℕ → Option Rights
 rights_of bytes = if bytes_eq bytes (codes "rw") then Some ReadWrite else (if bytes_eq bytes (codes "ro") then Some ReadOnly else None)
 
@@ -33,6 +34,7 @@ rights_of bytes = if bytes_eq bytes (codes "rw") then Some ReadWrite else (if by
 unfoldable pub nulls_of : List ℕ → Option Bool
 nulls_of bytes = if bytes_eq bytes (codes "notnull") then Some true else (if bytes_eq bytes (codes "null") then Some false else None)
 
+-- a sequence's name and its next value
 unfoldable pub sequence_of : List ℕ → Option StartLine
 sequence_of bytes = do
   parts ← cut_at 32 bytes
@@ -40,6 +42,7 @@ sequence_of bytes = do
   next ← number_of parts.1
   Some (line.Seq name next)
 
+-- a service's name and its rights
 unfoldable pub service_of : List ℕ → Option StartLine
 service_of bytes = do
   parts ← cut_at 32 bytes
@@ -79,6 +82,7 @@ kind_at bytes = do
       else (if bytes_eq parts.0 (codes "seq") then drawn_at parts.1
       else None))
 
+-- a column's name, its kind, and whether it is not null
 unfoldable pub column_of : List ℕ → Option StartLine
 column_of bytes = do
   parts ← cut_at 32 bytes
@@ -87,6 +91,7 @@ column_of bytes = do
   not_null ← nulls_of kind.1
   Some (line.Column name kind.0 not_null)
 
+-- a row's number, its table's number, and its values
 unfoldable pub row_of : List ℕ → Option StartLine
 row_of bytes = do
   parts ← cut_at 32 bytes
@@ -114,6 +119,7 @@ worded_of bytes = do
   word ← word_of parts.0
   fields_of word parts.1
 
+-- the line of a start file: the first, the last, or one of several fields
 unfoldable pub start_line_of : List ℕ → Option StartLine
 start_line_of bytes = if bytes_eq bytes (codes "start 1") then Some line.Head
     else (if bytes_eq bytes (codes "end") then Some line.End

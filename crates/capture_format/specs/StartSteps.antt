@@ -1,5 +1,5 @@
 -- Reading a start file line by line.
-use Rattle.std.specs.Prelude.{◌≡◌, ℕ, ◌≤◌, nat_le, if◌then◌else◌, List, [], ◌∷◌, ◌++◌, length, Option, None, Some, Result, Ok, Err}
+use Rattle.std.specs.Prelude.{◌≡◌, ℕ, nat_le, if◌then◌else◌, List, ◌++◌, Option, None, Some, Result, Ok, Err}
 use Rattle.std.specs.Borrow.{Bor}
 use Rattle.std.specs.List.{AllByRecursion}
 use Rattle.desk_values.specs.Fields.{cut_at}
@@ -9,8 +9,7 @@ use Rattle.desk_schema.specs.declared.line.StartLine.TheVariants.{Sessions, End}
 use Rattle.desk_schema.specs.declared.draft.DraftErr.{DraftErr}
 use Rattle.desk_schema.specs.declared.draft.DraftErr.TheVariants as draft
 use Rattle.desk_schema.specs.Line.{lines_text}
-use Rattle.desk_schema.specs.Rules.{last_place, AreLines}
-use Rattle.desk_schema.specs.Schema.{SchemaView}
+use Rattle.desk_schema.specs.Rules.{place, last_place, IsWithin, AreLines}
 use Rattle.desk_schema.specs.Start.{StartView, start_of}
 use Rattle.capture_format.specs.declared.form.FormErr.{FormErr}
 use Rattle.capture_format.specs.declared.form.FormErr.TheVariants.{NotYet, Memory}
@@ -24,10 +23,12 @@ next_line_of bytes = do
   line ← start_line_of parts.0
   Some (line, parts.1)
 
+-- the number of sessions of a line that says it, up to 64
 abbrev pub sessions_in : StartLine → Option ℕ
 sessions_in (Sessions count) = if nat_le count 64 then Some count else None
 sessions_in other = None
 
+-- the number of sessions, where the line is the end and no bytes follow it
 abbrev pub ends_with : StartLine → List ℕ → ℕ → Option ℕ
 ends_with End rest count = at_end rest count
 ends_with other rest count = None
@@ -66,6 +67,14 @@ pub record StartSoFar (whole : List ℕ) (before : List StartLine) (rest : List 
 -- the bytes are no start file
 abbrev pub IsNoStart : List ℕ → Type 0
 IsNoStart bytes = (lines : List StartLine) → IsStartFile bytes lines → ⊥
+
+-- the lines are past the level, and the next row is still to come
+abbrev pub IsUnderWay : List StartLine → Type 0
+IsUnderWay lines = IsWithin 2 7 (last_place lines)
+
+-- the line is that of the next row
+abbrev pub IsNextRow : StartLine → Type 0
+IsNextRow line = place line ≡ 8
 
 -- the lines up to the one with the next row, which declare this start
 pub record IsDeclared (whole : List ℕ) (start : StartView) (rest : List ℕ) : Type 0 where

@@ -1,5 +1,5 @@
 -- What is replayed so far: one session over columns of numbers, that connects, inserts and commits.
-use Rattle.std.specs.Prelude.{◌≡◌, ℕ, List, [], ◌∷◌, Option, Some, None, IsSome, IsNone, IsSomeAnd}
+use Rattle.std.specs.Prelude.{◌≡◌, ℕ, List, [], Option, IsSome, IsNone, IsSomeAnd}
 use Rattle.std.specs.List.{AllByRecursion}
 use Rattle.desk_values.specs.declared.value.Value.{Value}
 use Rattle.desk_values.specs.declared.value.Value.TheVariants.{Null, Int, Text, Row, Draw}
@@ -22,6 +22,7 @@ IsSupportedCall (Connect service) = Unit {0}
 IsSupportedCall (Sql text binds) = (binds ≡ []) × IsSimpleText text
 IsSupportedCall Disconnect = ⊥
 
+-- a number, and neither null nor a text nor an id
 abbrev pub IsInt : Value → Type 0
 IsInt Null = ⊥
 IsInt (Int n) = Unit {0}
@@ -48,12 +49,15 @@ IsSupportedAnswer (Refused fault) made = ⊥
 abbrev pub IsSupportedReply : Reply → Type 0
 IsSupportedReply reply = (reply.draws ≡ []) × IsSupportedAnswer reply.outcome reply.made
 
+-- a call and its reply that are both replayed so far
 abbrev pub IsSupportedCaptured : Captured → Type 0
 IsSupportedCaptured captured = IsSupportedCall captured.call × IsSupportedReply captured.reply
 
+-- all of the calls, with their replies, are replayed so far
 abbrev pub AreSupportedCalls : List Captured → Type 0
 AreSupportedCalls calls = AllByRecursion IsSupportedCaptured calls
 
+-- the column holds numbers
 abbrev pub IsIntKind : Kind → Type 0
 IsIntKind (kind.Int low high) = Unit {0}
 IsIntKind (kind.Text most) = ⊥

@@ -12,7 +12,9 @@ use desk_values::{
 };
 use std::alloc::Global;
 
-/// The call that all the bytes spell. `Bad` where they spell none.
+/// The call that all the bytes spell: `connect tmain` with the service, `sql tCOMMIT [i1]` with the statement's text and
+/// its binds, or `disconnect`. Texts are read by [`desk_values::fields::read_text`] and binds, up to 16, by
+/// [`read_values`]. `Bad` exactly where the bytes spell no call; `Memory` for want of memory.
 pub fn read_call(alloc: Global, bytes: &[u8]) -> Result<Call, ReadErr>
     ensures ok { IfOk result (λ call. IsCall call × (bytes.now ≡ call_text call)) }
     ensures only { (call : Call) → IsCall call → bytes.now ≡ call_text call → Reads result (Some call) }
@@ -52,7 +54,7 @@ fn sql(alloc: Global, bytes: &[u8]) -> Result<Call, ReadErr>
     Ok(Call::Sql(text, Binds::from_values(binds)))
 }
 
-/// The one text of a call.
+/// The one text of a call, as [`read_call`] reads it. It fails for want of memory alone.
 pub fn write_call(alloc: Global, call: &Call) -> Result<Bytes, Memory>
     ensures { IfOk result (λ bytes. bytes ≡ call_text call.now) }
 {
@@ -61,7 +63,7 @@ pub fn write_call(alloc: Global, call: &Call) -> Result<Bytes, Memory>
     Ok(text)
 }
 
-/// Appends the one text of a call. An `Err` changes nothing.
+/// Appends the one text of a call, as [`read_call`] reads it. An `Err` is want of memory, and changes nothing.
 pub fn append_call(call: &Call, to: &mut Bytes) -> Result<(), Memory>
     ensures ok { OnOk result (to.new ≡ to.old ++ call_text call.now) }
     ensures err { OnErr result (to.new ≡ to.old) }

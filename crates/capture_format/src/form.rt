@@ -3,31 +3,14 @@ ghost use Rattle.capture_format.specs.declared.form.FormErr.TheVariants.{Memory 
 
 use desk_schema::DraftErr;
 use desk_values::{Memory, ReadErr};
-use std::alloc::{AllocError, AllocFailed};
 
 /// Why a file was not read.
 #[derive(Clone, Copy, Debug, PartialEq, Eq)]
 pub enum FormErr {
-    /// The bytes are no file of the form that is read so far.
+    /// The bytes are no file of the form that is read.
     NotYet,
-    /// Want of memory.
+    /// Want of memory. The bytes may be such a file.
     Memory,
-}
-
-impl From<AllocError> for FormErr {
-    ghost from_gives = { λ _ e. e ≡ OutOfMemory };
-
-    fn from(_error: AllocError) -> FormErr {
-        FormErr::Memory
-    }
-}
-
-impl<T: Drop> From<AllocFailed<T>> for FormErr {
-    ghost from_gives = { λ _ e. e ≡ OutOfMemory };
-
-    fn from(_error: AllocFailed<T>) -> FormErr {
-        FormErr::Memory
-    }
 }
 
 impl From<Memory> for FormErr {

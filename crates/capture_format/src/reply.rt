@@ -8,6 +8,7 @@ ghost use Rattle.desk_values.specs.Good.{IsGoodReply};
 ghost use Rattle.desk_values.specs.Text.{values_text, rows_text, left_text, image_text, images_text, outcome_text, made_text, reply_text};
 ghost use Rattle.desk_values.specs.Reading.{Reads, ReadsAs, number_below, fault_of, each_of, filled_of, open_rows_of, rows_of, left_of, image_of, images_of, word_outcome_of, field_outcome_of, outcome_of, draws_of, made_of, reply_of};
 
+use crate::pieces::{Piece, read_pieces};
 use desk_values::fields::{append_u64, cut, read_u32, read_u64};
 use desk_values::{
     Bytes, Fault, Image, Images, List, Memory, Outcome, ReadErr, Reply, RowList, Values, all_draws,
@@ -15,7 +16,14 @@ use desk_values::{
 };
 use std::alloc::Global;
 
-/// The reply that all the bytes spell. `Bad` where they spell none.
+/// How many tables a schema may have: their numbers are below it.
+const TABLE_LIMIT: u32 = 32;
+
+/// The reply that all the bytes spell: the outcome, the draws in brackets, and the made row behind `r` or `-`, with
+/// spaces between. The outcome is `connected`, `disconnected`, `rolledback` or `marked`; `rows` with each row in brackets,
+/// or `-`; `count` with how many rows; `committed` with the images, or `-`; or `refused` with the fault's number. An image
+/// is `3:0:[i3,i7]`, that is the row's number, its table's, and the values that are left or `gone`; images ascend by row.
+/// `Bad` exactly where the bytes spell no reply; `Memory` for want of memory.
 pub fn read_reply(alloc: Global, bytes: &[u8]) -> Result<Reply, ReadErr>
     ensures ok { IfOk result (λ reply. IsGoodReply reply × (bytes.now ≡ reply_text reply)) }
     ensures only { (reply : Reply) → IsGoodReply reply → bytes.now ≡ reply_text reply → Reads result (Some reply) }
@@ -110,7 +118,7 @@ fn rows_in(alloc: Global, bytes: &[u8]) -> Result<RowList, ReadErr>
     let mut rows = List::new(alloc);
     let mut rest = bytes;
     while let Some((row, after)) = cut(rest, b']') {
-        rows.push(filled(alloc, &rest[..row.len() + 1])?)?;
+        rows.push(nonempty_values(alloc, &rest[..row.len() + 1])?)?;
         rest = after;
     }
     if rest.is_empty() {
@@ -122,7 +130,7 @@ fn rows_in(alloc: Global, bytes: &[u8]) -> Result<RowList, ReadErr>
 
 // Values, at least one.
 #[tactic(auto, unfolding(desk_values::specs::Reading::filled_of))]
-fn filled(alloc: Global, bytes: &[u8]) -> Result<Values, ReadErr>
+fn nonempty_values(alloc: Global, bytes: &[u8]) -> Result<Values, ReadErr>
     ensures { Reads result (filled_of bytes.now) }
 {
     let values = read_values(alloc, bytes)?;
@@ -139,26 +147,12 @@ fn images(alloc: Global, bytes: &[u8]) -> Result<Images, ReadErr>
     if let b"-" = bytes {
         return Ok(List::new(alloc));
     }
-    let images = images_in(alloc, bytes)?;
+    let images: Images = read_pieces(alloc, bytes, b';')?;
     if rows_ascend(images.as_slice()) {
         Ok(images)
     } else {
         Err(ReadErr::Bad)
     }
-}
-
-// Images with a semicolon between, at least one.
-fn images_in(alloc: Global, bytes: &[u8]) -> Result<Images, ReadErr>
-    ensures { Reads result (each_of image_of (pieces 59 bytes.now)) }
-{
-    let mut images = List::new(alloc);
-    let mut rest = bytes;
-    while let Some((item, after)) = cut(rest, b';') {
-        images.push(image(alloc, item)?)?;
-        rest = after;
-    }
-    images.push(image(alloc, rest)?)?;
-    Ok(images)
 }
 
 #[tactic(auto, unfolding(desk_values::specs::Reading::image_of))]
@@ -173,13 +167,27 @@ fn image(alloc: Global, bytes: &[u8]) -> Result<Image, ReadErr>
     Ok(Image { row, table, left })
 }
 
-// The number of a table, below 32.
+impl Piece for Image {
+    ghost use Rattle.desk_values.specs.Reading.{image_of as image_spelled};
+
+    ghost reading = { image_spelled };
+
+    fn read(alloc: Global, bytes: &[u8]) -> Result<Image, ReadErr> {
+        image(alloc, bytes)
+    }
+}
+
+// The number of a table.
 #[tactic(auto, unfolding(desk_values::specs::Reading::number_below))]
 fn table_in(bytes: &[u8]) -> Option<u32>
     ensures { result ≡ number_below 32 bytes.now }
 {
     let table = read_u32(bytes)?;
-    if table < 32 { Some(table) } else { None }
+    if table < TABLE_LIMIT {
+        Some(table)
+    } else {
+        None
+    }
 }
 
 #[tactic(auto, unfolding(desk_values::specs::Reading::left_of))]
@@ -188,7 +196,7 @@ fn left_in(alloc: Global, bytes: &[u8]) -> Result<Option<Values>, ReadErr>
 {
     match bytes {
         b"gone" => Ok(None),
-        _ => Ok(Some(filled(alloc, bytes)?)),
+        _ => Ok(Some(nonempty_values(alloc, bytes)?)),
     }
 }
 
@@ -215,7 +223,7 @@ fn made_in(bytes: &[u8]) -> Option<Option<u64>>
     }
 }
 
-/// The one text of a reply.
+/// The one text of a good reply, as [`read_reply`] reads it. It fails for want of memory alone.
 pub fn write_reply(alloc: Global, reply: &Reply) -> Result<Bytes, Memory>
     requires { IsGoodReply reply.now }
     ensures { IfOk result (λ bytes. bytes ≡ reply_text reply.now) }
@@ -225,7 +233,8 @@ pub fn write_reply(alloc: Global, reply: &Reply) -> Result<Bytes, Memory>
     Ok(text)
 }
 
-/// Appends the one text of a reply, which can be read again where the reply is good. An `Err` changes nothing.
+/// Appends the one text of a reply, which [`read_reply`] reads again where the reply is good. An `Err` is want of memory,
+/// and changes nothing.
 pub fn append_reply(reply: &Reply, to: &mut Bytes) -> Result<(), Memory>
     ensures ok { OnOk result (to.new ≡ to.old ++ reply_text reply.now) }
     ensures err { OnErr result (to.new ≡ to.old) }
@@ -322,12 +331,15 @@ fn push_image(image: &Image, to: &mut Bytes) -> Result<(), Memory>
     to.push(b':')?;
     append_u64(u64::from(image.table), to)?;
     to.push(b':')?;
-    push_left(&image.left, to)?;
+    append_left(&image.left, to)?;
     Ok(())
 }
 
-fn push_left(left: &Option<Values>, to: &mut Bytes) -> Result<(), Memory>
-    ensures { OnOk result (to.new ≡ to.old ++ left_text left.now) }
+/// Appends what an image leaves of its row: the values by column in brackets with a comma between, or `gone` where the
+/// row is deleted. An `Err` is want of memory, and changes nothing.
+pub fn append_left(left: &Option<Values>, to: &mut Bytes) -> Result<(), Memory>
+    ensures ok { OnOk result (to.new ≡ to.old ++ left_text left.now) }
+    ensures err { OnErr result (to.new ≡ to.old) }
 {
     match left {
         Some(values) => write_values(values.as_slice(), to),

@@ -10,8 +10,14 @@ use desk_values::fields::cut;
 use desk_values::{CallList, Captured, Reserved};
 use std::alloc::Global;
 
-/// The calls that the file of this session spells, with every kind of call and reply. `NotYet` where the bytes are no
-/// file of this session.
+/// The calls that the file of this session spells, in order, with every kind of call and reply. The file is lines, each
+/// with a line feed: `session 1 N` with the session's number, a line for each call, and `end`. A call's line is its
+/// stamp, when it began and ended in microseconds from the capture's start, how many numbered commits it had seen, its own
+/// commit's number or `-`, the call, `>` and the reply, with spaces between:
+/// `0 4 9 0 - connect tmain > connected [] -`. Stamps rise from line to line; neither moment is after [`LAST_MOMENT`].
+/// `NotYet` exactly where the bytes are no file of this session; `Memory` for want of memory.
+///
+/// [`LAST_MOMENT`]: crate::LAST_MOMENT
 pub fn read_any_session(alloc: Global, bytes: &[u8], session: u32) -> Result<CallList, FormErr>
     ensures ok { IfOk result (λ calls. SpellsSession session bytes.now calls.items) }
     ensures only { (calls : List AnyCaptured) → SpellsSession session bytes.now calls → ReadsCalls result calls }

@@ -9,10 +9,10 @@ use desk_values::fields::{cut, read_u32, read_u64};
 use desk_values::{Call, ReadErr, Reply};
 use std::alloc::Global;
 
-/// The greatest moment, in microseconds from the capture's start.
-pub const LAST_MOMENT: u64 = 1000000000000;
+/// The greatest moment of a call, in microseconds from the capture's start: some 11 days and a half.
+pub const LAST_MOMENT: u64 = 1_000_000_000_000;
 
-/// A line of a session file.
+/// A line of a session file, without its line feed.
 #[derive(Drop)]
 pub enum SessionLine {
     /// The first line: the session's number.
@@ -23,7 +23,7 @@ pub enum SessionLine {
     End,
 }
 
-/// What the line of a call says.
+/// What the line of a call says, in the line's order.
 #[derive(Drop)]
 pub struct CallLine {
     /// Where the call stands among all calls of the capture, from 0.

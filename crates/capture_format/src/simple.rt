@@ -1,16 +1,17 @@
 //! The two statements that are replayed so far, read from their SQL text.
 
 ghost use Rattle.std.specs.Prelude.{◌≡◌, ◌++◌, ◌∷◌, [], Some, IfOk, OnOk};
-ghost use Rattle.std.specs.Option.{option_map};
+ghost use Rattle.std.specs.Option.{option_copied, option_map};
+ghost use Rattle.capture_format.specs.Cuts.{after_prefix};
 ghost use Rattle.desk_values.specs.Reading.{Reads};
 ghost use Rattle.capture_format.specs.declared.simple.Simple.{Simple as Statement};
 ghost use Rattle.capture_format.specs.SimpleStatement.{IsSimple, simple_text};
 ghost use Rattle.capture_format.specs.SimpleReading.{literal_of, literals_of, row_of, insert_parts, insert_of, simple_of};
 
-use crate::fronts::behind;
 use crate::name::read_name;
+use crate::pieces::{Piece, read_pieces};
 use desk_values::fields::{cut, read_u64};
-use desk_values::{List, Memory, ReadErr, Txt};
+use desk_values::{List, ReadErr, Txt};
 use std::alloc::Global;
 
 /// The greatest number of numbers in an insert.
@@ -19,14 +20,15 @@ const INSERT_LIMIT: usize = 16;
 /// A statement that is replayed so far.
 #[derive(Drop)]
 pub enum Simple {
-    /// A row of these numbers is inserted into the table of this name.
+    /// A row of these numbers, by column, is inserted into the table of this name.
     Insert(Txt, List<i64>),
     /// The transaction is committed.
     Commit,
 }
 
-/// The statement that the text spells: `COMMIT`, or an insert of one to sixteen numbers that are at most
-/// 9223372036854775807. `Bad` where it spells neither.
+/// The statement that the text spells, in just this form: `COMMIT`, or `INSERT INTO acct VALUES (1,2)` with one to sixteen
+/// numbers from 0 to 9223372036854775807, which are statements of SQL (ISO/IEC 9075-2). `Bad` exactly where the text spells
+/// neither; `Memory` for want of memory.
 pub fn read_simple(alloc: Global, text: &Txt) -> Result<Simple, ReadErr>
     ensures ok { IfOk result (λ simple. IsSimple simple × (text.now ≡ simple_text simple)) }
     ensures only { (simple : Statement) → IsSimple simple → text.now ≡ simple_text simple → Reads result (Some simple) }
@@ -59,12 +61,19 @@ fn insert(alloc: Global, bytes: &[u8]) -> Result<Simple, ReadErr>
 fn insert_parts(bytes: &[u8]) -> Option<(&[u8], &[u8])>
     ensures { option_map (λ x. (x.0.now, x.1.now)) result ≡ insert_parts bytes.now }
 {
-    let rest = behind(bytes, b"INSERT INTO ")?;
+    let rest = after_prefix(bytes, b"INSERT INTO ")?;
     let (table, rest) = cut(rest, b' ')?;
-    Some((table, behind(rest, b"VALUES (")?))
+    Some((table, after_prefix(rest, b"VALUES (")?))
 }
 
-#[tactic(auto, unfolding(crate::specs::SimpleReading::row_of))]
+// The bytes after this prefix.
+fn after_prefix<'a>(bytes: &'a [u8], prefix: &[u8]) -> Option<&'a [u8]>
+    ensures { option_copied result ≡ after_prefix prefix.now bytes.now }
+{
+    bytes.strip_prefix(prefix)
+}
+
+#[tactic(auto, unfolding(crate::specs::SimpleReading::row_of, crate::specs::SimpleReading::literals_of))]
 fn row(alloc: Global, bytes: &[u8]) -> Result<List<i64>, ReadErr>
     ensures { Reads result (row_of bytes.now) }
 {
@@ -72,37 +81,22 @@ fn row(alloc: Global, bytes: &[u8]) -> Result<List<i64>, ReadErr>
     if !rest.is_empty() {
         return Err(ReadErr::Bad);
     }
-    let numbers = literals(alloc, inside)?;
+    let numbers: List<i64> = read_pieces(alloc, inside, b',')?;
     if numbers.len() > INSERT_LIMIT {
         return Err(ReadErr::Bad);
     }
     Ok(numbers)
 }
 
-// Numbers with a comma between, at least one.
-fn literals(alloc: Global, bytes: &[u8]) -> Result<List<i64>, ReadErr>
-    ensures { Reads result (literals_of bytes.now) }
-{
-    let mut numbers = List::new(alloc);
-    let mut rest = bytes;
-    'pieces: while let Some((piece, after)) = cut(rest, b',') {
-        add(&mut numbers, read_literal(piece)?)?;
-        rest = after;
+impl Piece for i64 {
+    ghost use Rattle.capture_format.specs.SimpleReading.{literal_of as literal_spelled};
+
+    ghost reading = { literal_spelled };
+
+    fn read(alloc: Global, bytes: &[u8]) -> Result<i64, ReadErr> {
+        let _ = alloc;
+        literal(bytes).ok_or(ReadErr::Bad)
     }
-    add(&mut numbers, read_literal(rest)?)?;
-    Ok(numbers)
-}
-
-fn add(numbers: &mut List<i64>, number: i64) -> Result<(), Memory>
-    ensures { OnOk result (numbers.new ≡ numbers.old ++ number ∷ []) }
-{
-    numbers.push(number)
-}
-
-fn read_literal(bytes: &[u8]) -> Result<i64, ReadErr>
-    ensures { Reads result (literal_of bytes.now) }
-{
-    literal(bytes).ok_or(ReadErr::Bad)
 }
 
 #[tactic(auto, unfolding(crate::specs::SimpleReading::literal_of))]

@@ -1,34 +1,37 @@
 //! Start files, read from their bytes.
 
-ghost use Rattle.std.specs.Prelude.{◌≡◌, ◌⊎◌, ◌++◌, ◌∷◌, ◌≤◌, [], length, IfOk, OnOk, IfSome, IfNone, IsErrOf};
-ghost use Rattle.std.specs.List.{Contains};
-ghost use Rattle.desk_schema.specs.Line.{name_of, sequence_names, with_name};
-ghost use Rattle.desk_schema.specs.Rules.{IsKind, IsWithin, MayFollow, last_place, place};
+ghost use Rattle.std.specs.Prelude.{◌≡◌, ◌⊎◌, ◌++◌, ◌∷◌, [], IfOk, OnOk, IfSome, IfNone, IsErrOf};
+ghost use Rattle.desk_schema.specs.Line.{sequence_names, with_name};
+ghost use Rattle.desk_schema.specs.Rules.{IsKind, MayFollow};
 ghost use Rattle.capture_format.specs.declared.start.StartFile.{StartFile as AnyFile};
 ghost use Rattle.capture_format.specs.Reading.{ReadsFile};
 ghost use Rattle.capture_format.specs.StartFile.{SpellsStart};
-ghost use Rattle.capture_format.specs.StartSteps.{ReadsNext, ReadsPart, StartSoFar, IsNoStart, IsDeclared, next_line_of, tail_of};
+ghost use Rattle.capture_format.specs.StartSteps.{ReadsNext, ReadsPart, StartSoFar, IsNoStart, IsDeclared, IsUnderWay, IsNextRow, next_line_of, tail_of};
 
 use crate::form::FormErr;
 use crate::start_line::read_start_line;
 use desk_schema::{ColumnKind, Draft, Kind, Start, StartLine};
 use desk_values::fields::cut;
-use desk_values::{List, Txt};
 use std::alloc::Global;
 
-/// The greatest number of sessions of a capture.
+/// The greatest number of sessions of a capture. They are numbered from 0.
 pub const SESSION_LIMIT: u32 = 64;
 
 /// What a start file says.
 #[derive(Drop)]
 pub struct StartFile {
-    /// The start of the capture.
+    /// The schema and the rows that the capture starts from.
     pub start: Start,
     /// How many sessions were captured.
     pub sessions: u32,
 }
 
-/// The start file that the bytes spell, with columns of every kind. `NotYet` where they spell none.
+/// The start file that the bytes spell, with columns of every kind. The file is lines in this order, each with a line
+/// feed: `start 1`; `level 1`; sequences as `seq s 10`, with the next value; services as `svc main rw`, or `ro`; tables as
+/// `table acct`, each with its columns as `col id int 0 9 notnull`, or `null`, of the kinds `int LOW HIGH`, `text BYTES` and
+/// `seq NAME`; rows as `row 1 0 [i1]`, with their number, their table's and their values; `nextrow 2`; `sessions 1`, up to
+/// 64; `end`. `NotYet` exactly where the bytes are no start file, one that breaks a rule of [`Draft`] among them; `Memory`
+/// for want of memory.
 pub fn read_any_start(alloc: Global, bytes: &[u8]) -> Result<StartFile, FormErr>
     ensures ok { IfOk result (λ file. SpellsStart bytes.now file) }
     ensures only { (file : AnyFile) → SpellsStart bytes.now file → ReadsFile result file }
@@ -44,13 +47,12 @@ fn read_declarations(alloc: Global, bytes: &[u8]) -> Result<(Start, &[u8]), Form
     ensures not_yet { IsErrOf result FormErr.NotYet → IsNoStart bytes.now }
 {
     let (mut draft, mut rest) = read_opening(alloc, bytes)?;
-    let mut sequences = List::new(alloc);
     'lines: loop {
         let (line, after) = next_line(alloc, rest)?;
         if let StartLine::NextRow(row) = line {
             return Ok((draft.finish(row)?, after));
         }
-        add_line(&mut draft, &mut sequences, line)?;
+        add_line(&mut draft, line)?;
         rest = after;
     }
 }
@@ -103,26 +105,19 @@ fn read_tail(alloc: Global, bytes: &[u8]) -> Result<u32, FormErr>
     }
 }
 
-// Adds a line that is not that of the next row. `sequences` are the names of the draft's sequences.
-fn add_line(draft: &mut Draft, sequences: &mut List<Txt>, line: StartLine) -> Result<(), FormErr>
-    requires order { IsWithin 2 7 (last_place draft.old) }
-    requires names { sequences.old ≡ sequence_names draft.old }
-    requires few { length sequences.old ≤ 16 }
+// Adds a line that is not that of the next row.
+fn add_line(draft: &mut Draft, line: StartLine) -> Result<(), FormErr>
+    requires under_way { IsUnderWay draft.old }
     ensures ok { OnOk result (draft.new ≡ draft.old ++ line ∷ []) }
-    ensures order { OnOk result (IsWithin 2 7 (last_place draft.new)) }
-    ensures names { OnOk result (sequences.new ≡ sequence_names draft.new) }
-    ensures few { OnOk result (length sequences.new ≤ 16) }
-    ensures not_yet { IsErrOf result FormErr.NotYet → place line ≡ 8 ⊎ (¬ (MayFollow draft.old line)) }
+    ensures under_way { OnOk result (IsUnderWay draft.new) }
+    ensures not_yet { IsErrOf result FormErr.NotYet → IsNextRow line ⊎ (¬ (MayFollow draft.old line)) }
 {
     match line {
-        StartLine::Seq(name, next) => {
-            draft.add_seq(&name, next)?;
-            sequences.push(name)?;
-        }
+        StartLine::Seq(name, next) => draft.add_seq(&name, next)?,
         StartLine::Service(name, rights) => draft.add_service(&name, rights)?,
         StartLine::Table(name) => draft.add_table(&name)?,
         StartLine::Column(name, kind, not_null) => {
-            let kind = numbered(sequences.as_slice(), kind).ok_or(FormErr::NotYet)?;
+            let kind = numbered(draft, kind).ok_or(FormErr::NotYet)?;
             draft.add_col(&name, kind, not_null)?;
         }
         StartLine::Row(row, table, values) => draft.add_row(row, table, values)?,
@@ -136,28 +131,13 @@ fn add_line(draft: &mut Draft, sequences: &mut List<Txt>, line: StartLine) -> Re
 }
 
 // The kind with the sequence's number in place of its name.
-fn numbered(sequences: &[Txt], kind: ColumnKind) -> Option<Kind>
-    requires { length sequences.now ≤ 16 }
-    ensures some { IfSome result (λ found. with_name sequences.now found ≡ kind) }
-    ensures none { IfNone result (¬ (IsKind sequences.now kind)) }
+fn numbered(draft: &Draft, kind: ColumnKind) -> Option<Kind>
+    ensures some { IfSome result (λ found. with_name (sequence_names draft.now) found ≡ kind) }
+    ensures none { IfNone result (¬ (IsKind (sequence_names draft.now) kind)) }
 {
     match kind {
         ColumnKind::Int(low, high) => Some(Kind::Int(low, high)),
         ColumnKind::Text(most) => Some(Kind::Text(most)),
-        ColumnKind::Seq(name) => Some(Kind::Seq(sequence_numbered(sequences, &name)?)),
+        ColumnKind::Seq(name) => Some(Kind::Seq(draft.sequence_named(&name)?)),
     }
-}
-
-// The number of the sequence of this name.
-fn sequence_numbered(sequences: &[Txt], name: &Txt) -> Option<u32>
-    requires { length sequences.now ≤ 16 }
-    ensures some { IfSome result (λ number. name_of sequences.now number ≡ name.now) }
-    ensures none { IfNone result (¬ Contains sequences.now name.now) }
-{
-    for (number, other) in sequences.iter().enumerate() {
-        if other.as_str() == name.as_str() {
-            return Some(number as u32);
-        }
-    }
-    None
 }

@@ -110,12 +110,10 @@ fn read_service(alloc: Global, bytes: &[u8]) -> Result<StartLine, ReadErr>
 fn read_rights(bytes: &[u8]) -> Option<Rights>
     ensures { result ≡ rights_of bytes.now }
 {
-    if bytes == b"rw".as_slice() {
-        Some(Rights::ReadWrite)
-    } else if bytes == b"ro".as_slice() {
-        Some(Rights::ReadOnly)
-    } else {
-        None
+    match bytes {
+        b"rw" => Some(Rights::ReadWrite),
+        b"ro" => Some(Rights::ReadOnly),
+        _ => None,
     }
 }
 
@@ -135,14 +133,11 @@ fn read_kind(alloc: Global, bytes: &[u8]) -> Result<(ColumnKind, &[u8]), ReadErr
     ensures { ReadsFront result (kind_at bytes.now) }
 {
     let (word, rest) = cut(bytes, b' ').ok_or(ReadErr::Bad)?;
-    if word == b"int".as_slice() {
-        read_range(rest).ok_or(ReadErr::Bad)
-    } else if word == b"text".as_slice() {
-        read_length(rest).ok_or(ReadErr::Bad)
-    } else if word == b"seq".as_slice() {
-        read_drawn(alloc, rest)
-    } else {
-        Err(ReadErr::Bad)
+    match word {
+        b"int" => read_range(rest).ok_or(ReadErr::Bad),
+        b"text" => read_length(rest).ok_or(ReadErr::Bad),
+        b"seq" => read_drawn(alloc, rest),
+        _ => Err(ReadErr::Bad),
     }
 }
 

@@ -23,8 +23,8 @@ use desk_schema::{Column, Kind, Table};
 use desk_values::{Bytes, Call, CallList, Captured, Image, Memory, Outcome, ReadErr, Reply, Value};
 use std::alloc::Global;
 
-/// The start file that the bytes spell, if it is one that is replayed so far: with one session, and columns of numbers
-/// alone. `NotYet` where the bytes are no such file.
+/// The start file that the bytes spell, as [`read_any_start`] reads it, if it is one that is replayed so far: with one
+/// session, and columns of numbers alone. `NotYet` exactly where the bytes are no such file; `Memory` for want of memory.
 pub fn read_start(alloc: Global, bytes: &[u8]) -> Result<StartFile, FormErr>
     ensures ok { IfOk result (λ file. SpellsStart bytes.now file × IsSupportedStart file) }
     ensures only { (file : AnyFile) → SpellsStart bytes.now file → IsSupportedStart file → ReadsFile result file }
@@ -37,8 +37,8 @@ pub fn read_start(alloc: Global, bytes: &[u8]) -> Result<StartFile, FormErr>
     }
 }
 
-/// The calls that the file of this session spells, if all of them are replayed so far. `NotYet` where the bytes are
-/// no such file.
+/// The calls that the file of this session spells, as [`read_any_session`] reads it, if all of them and their replies are
+/// replayed so far. `NotYet` exactly where the bytes are no such file; `Memory` for want of memory.
 pub fn read_session(alloc: Global, bytes: &[u8], session: u32) -> Result<CallList, FormErr>
     ensures ok { IfOk result (λ calls. SpellsSession session bytes.now calls.items × AreSupportedCalls calls.items) }
     ensures only { (calls : List AnyCaptured) → SpellsSession session bytes.now calls → AreSupportedCalls calls → ReadsCalls result calls }
@@ -51,7 +51,8 @@ pub fn read_session(alloc: Global, bytes: &[u8], session: u32) -> Result<CallLis
     }
 }
 
-/// The reply that the bytes spell, if it is one that is replayed so far. `Bad` where they spell none of these.
+/// The reply that all the bytes spell, as [`read_any_reply`] reads it, if it is one that is replayed so far. `Bad` exactly
+/// where they spell none of these; `Memory` for want of memory.
 pub fn read_reply(alloc: Global, bytes: &[u8]) -> Result<Reply, ReadErr>
     ensures ok { IfOk result (λ reply. IsGoodReply reply × IsSupportedReply reply × (bytes.now ≡ reply_text reply)) }
     ensures only { (reply : AnyReply) → IsGoodReply reply → IsSupportedReply reply → bytes.now ≡ reply_text reply → Reads result (Some reply) }
@@ -64,7 +65,7 @@ pub fn read_reply(alloc: Global, bytes: &[u8]) -> Result<Reply, ReadErr>
     }
 }
 
-/// The text of a reply that is replayed so far.
+/// The one text of a good reply that is replayed so far, as [`read_reply`] reads it. It fails for want of memory alone.
 pub fn write_reply(alloc: Global, reply: &Reply) -> Result<Bytes, Memory>
     requires good { IsGoodReply reply.now }
     requires supported { IsSupportedReply reply.now }
@@ -83,23 +84,17 @@ pub fn is_supported_start(file: &StartFile) -> bool
 fn have_int_columns(tables: &[Table]) -> bool
     ensures { IsTrue result ↔ AllByRecursion HasIntColumns tables.now }
 {
-    for table in tables {
-        if !are_int_columns(table.columns.as_slice()) {
-            return false;
-        }
-    }
-    true
+    tables
+        .iter()
+        .all(|table| are_int_columns(table.columns.as_slice()))
 }
 
 fn are_int_columns(columns: &[Column]) -> bool
     ensures { IsTrue result ↔ AllByRecursion (λ column. IsIntKind column.kind) columns.now }
 {
-    for column in columns {
-        if !matches!(&column.kind, Kind::Int(_, _)) {
-            return false;
-        }
-    }
-    true
+    columns
+        .iter()
+        .all(|column| matches!(&column.kind, Kind::Int(_, _)))
 }
 
 // Whether each call and its reply are replayed so far.
@@ -120,7 +115,8 @@ fn is_supported_captured(alloc: Global, captured: &Captured) -> Result<bool, Mem
     Ok(is_supported_call(alloc, &captured.call)? && is_supported_reply(&captured.reply))
 }
 
-/// Whether the call is one that is replayed so far: a connect, or a simple statement without binds.
+/// Whether the call is one that is replayed so far: a connect, or a simple statement without binds. It fails for want of
+/// memory alone.
 pub fn is_supported_call(alloc: Global, call: &Call) -> Result<bool, Memory>
     ensures { IfOk result (λ answer. IsTrue answer ↔ IsSupportedCall call.now) }
 {
@@ -166,24 +162,20 @@ fn is_supported_answer(outcome: &Outcome, made: Option<u64>) -> bool
 fn are_supported_images(images: &[Image]) -> bool
     ensures { IsTrue result ↔ AllByRecursion IsSupportedImage images.now }
 {
-    for image in images {
-        let Some(values) = &image.left else {
-            return false;
-        };
-        if !are_ints(values.as_slice()) {
-            return false;
-        }
+    images.iter().all(|image| is_supported_image(image))
+}
+
+fn is_supported_image(image: &Image) -> bool
+    ensures { IsTrue result ↔ IsSupportedImage image.now }
+{
+    match &image.left {
+        Some(values) => are_ints(values.as_slice()),
+        None => false,
     }
-    true
 }
 
 fn are_ints(values: &[Value]) -> bool
     ensures { IsTrue result ↔ AllByRecursion IsInt values.now }
 {
-    for value in values {
-        if !matches!(value, Value::Int(_)) {
-            return false;
-        }
-    }
-    true
+    values.iter().all(|value| matches!(value, Value::Int(_)))
 }

@@ -25,6 +25,7 @@ pub trait Files {
         ensures content { content self.new ≡ content self.old }
         ensures failed { IsErrOf result FileErr.Failed →
             HasRisen (faults self.old) (faults self.new) }
+        ensures unfailed { ¬ IsErrOf result FileErr.Failed → faults self.new ≡ faults self.old }
         ensures count { faults self.old ≤ faults self.new };
 
     /// Sets the bytes of a file. After `Failed` the file of that name may hold anything, or be
@@ -37,5 +38,6 @@ pub trait Files {
         ensures memory { IsErrOf result WriteErr.Memory → content self.new ≡ content self.old }
         ensures failed { IsErrOf result WriteErr.Failed →
             HasRisen (faults self.old) (faults self.new) }
+        ensures unfailed { ¬ IsErrOf result WriteErr.Failed → faults self.new ≡ faults self.old }
         ensures count { faults self.old ≤ faults self.new };
 }

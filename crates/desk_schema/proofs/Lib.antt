@@ -16,3 +16,5 @@ pub mod Finishing
 pub mod Judging
 pub mod Shapes
 pub mod Files
+pub mod Sequences
+pub mod Columns

@@ -78,7 +78,7 @@ shape_parted lines low high are = record {
 }
 
 -- a name that stands in a list has a place there
-place_named : (names : List (List ℕ)) (name : List ℕ) → Contains names name → (p : ℕ) × (place_of names name ≡ Some p) × (name_of names p ≡ name)
+pub place_named : (names : List (List ℕ)) (name : List ℕ) → Contains names name → (p : ℕ) × (place_of names name ≡ Some p) × (name_of names p ≡ name)
 place_named [] name there = absurd (Contains-none name there)
 place_named (x ∷ xs) name there = at (bytes_eq x name) (bytes_eq-Decides x name) (Contains-cases x xs name there) (place_named xs name)
   where

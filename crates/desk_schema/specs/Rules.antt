@@ -1,4 +1,4 @@
--- Which line may follow the lines before it.
+-- What a line needs of those in front of it.
 use Rattle.std.specs.Prelude.{ℕ, ℤ, ◌≡◌, ◌<◌, ◌≤◌, ◌≤ℤ◌, ◌^◌, Bool, true, false, ◌==◌, if◌then◌else◌, List, [], ◌∷◌, ◌++◌, length, Option, None, IsSomeAnd, slice_get, FitsSigned}
 use Rattle.std.specs.Int.{w64}
 use Rattle.std.specs.Option.{option_map}
@@ -115,7 +115,7 @@ keys_of table rows = filter_map (key_in table) rows
 abbrev pub AreBelow : ℕ → List Image → Type 0
 AreBelow number rows = AllByRecursion (λ row. row.row < number) rows
 
--- `row`, after `col` or `row`: at most 100,000, with rising numbers from 1, and one value for each column, each allowed there
+-- `row`, behind `col` or `row`: numbers rise from 1 on, up to 100,000 rows; as many values as columns, and each fits its own
 pub record RowFits (last : ℕ) (tables : List Table) (nexts : List ℕ) (rows : List Image) (row table : ℕ) (values : List Value) : Type 0 where
   pub order : IsWithin 6 7 last
   pub count : length rows < 100000
@@ -125,7 +125,7 @@ pub record RowFits (last : ℕ) (tables : List Table) (nexts : List ℕ) (rows :
   pub is_table : table < length tables
   pub allowed : AllZip (IsAllowed nexts) (columns_of tables table) values
 
--- its key is that of no earlier row of the table
+-- and a first value that its table does not have yet
 pub record RowMayFollow (last : ℕ) (tables : List Table) (nexts : List ℕ) (rows : List Image) (row table : ℕ) (values : List Value) : Type 0 where
   pub fits : RowFits last tables nexts rows row table values
   pub key : ¬ Contains (keys_of table rows) (key_of values)
@@ -138,7 +138,7 @@ pub record NextRowMayFollow (last : ℕ) (rows : List Image) (next : ℕ) : Type
   pub most : next ≤ 549755813888
   pub above : AreBelow next rows
 
--- the line may follow the lines before it
+-- the line has what it needs
 abbrev pub MayFollow : List StartLine → StartLine → Type 0
 MayFollow before Head = before ≡ []
 MayFollow before (LevelLine level) = (last_place before ≡ 1) × (level ≡ 1)
@@ -156,6 +156,6 @@ abbrev pub AreLinesAfter : List StartLine → List StartLine → Type 0
 AreLinesAfter before [] = Unit {0}
 AreLinesAfter before (line ∷ lines) = MayFollow before line × AreLinesAfter (before ++ line ∷ []) lines
 
--- each line may follow the lines before it
+-- each line has what it needs
 abbrev pub AreLines : List StartLine → Type 0
 AreLines lines = AreLinesAfter [] lines

@@ -1,12 +1,15 @@
-ghost use Rattle.std.specs.Prelude.{◌≡◌, ◌++◌, ◌∷◌, [], ◌↔◌, IfOk, IsTrue, OnOk, OnErr};
+ghost use Rattle.std.specs.Prelude.{◌≡◌, ◌++◌, ◌∷◌, [], ◌↔◌, IfOk, IfSome, IfNone, IsTrue, OnOk, OnErr};
+ghost use Rattle.std.specs.List.{Contains};
 ghost use Rattle.desk_schema.specs.declared.line.StartLine.{StartLine};
 ghost use Rattle.desk_schema.specs.Last.{place_of_last};
-ghost use Rattle.desk_schema.specs.Line.{next_values, rows_of, sequence_names, tables_of, with_name};
+ghost use Rattle.desk_schema.specs.Line.{name_of, next_values, rows_of, sequence_names, tables_of, with_name};
 ghost use Rattle.desk_schema.specs.Rules.{AreLines, last_place, MayFollow, RowFits};
+ghost use Rattle.desk_schema.specs.Schema.{place_of};
 ghost use Rattle.desk_schema.specs.Start.{start_of, Judges, JudgesUnlessMemory};
 ghost use Rattle.desk_schema.specs.declared.draft.DraftErr.TheVariants.{Memory as OutOfMemory};
 
 use crate::keys::{KeySet, row_key};
+use crate::named::place_in;
 use crate::parts::{last_columns, last_line, push_column, push_row, push_sequence};
 use crate::rules::{
     Last, fits_row, may_add_column, may_add_sequence, may_add_service, may_add_table, may_finish,
@@ -20,7 +23,7 @@ use std::marker::Model;
 /// Why a line was not added to a [`Draft`].
 #[derive(Clone, Copy, Debug, PartialEq, Eq)]
 pub enum DraftErr {
-    /// It would break a rule of the lines of a start.
+    /// It would break a rule of the lines of a start file. Each call of [`Draft`] says which.
     Rule,
     /// Want of memory.
     Memory,
@@ -45,7 +48,9 @@ impl<T: Drop> From<AllocFailed<T>> for DraftErr {
 /// The one level of the SQL rules.
 const LEVEL: u32 = 1;
 
-/// A start whose lines come one after the other. Contracts see the lines so far.
+/// A start whose lines come one after the other, in the order of a start file: the level, sequences, services, tables
+/// each with its columns, rows, and the number of the next row. Contracts see the lines so far. A call answers `Rule`
+/// exactly where its line breaks a rule, and `Memory` where memory is wanting.
 #[derive(Drop)]
 pub struct Draft {
     level: u32,
@@ -71,7 +76,8 @@ impl Model for Draft {
 }
 
 impl Draft {
-    /// A draft with its first two lines.
+    /// A draft with its first two lines: the version of the format, and the level of the SQL rules. `Rule` where the level
+    /// is not 1.
     pub fn new(alloc: Global, level: u32) -> Result<Draft, DraftErr>
         ensures ok { IfOk result (λ draft. draft ≡ StartLine.Head ∷ StartLine.Level level ∷ []) }
         ensures rule { Judges result (MayFollow (StartLine.Head ∷ []) (StartLine.Level level)) }
@@ -90,7 +96,9 @@ impl Draft {
         })
     }
 
-    /// Adds a sequence with its next value.
+    /// Adds a sequence with its next value. `Rule` where a service or a table is there already; where there are 16
+    /// sequences; where `name` is no name (as `is_name` tells) or that of another one; or where `next` is not from 1 to
+    /// 549,755,813,888, which is 2^39. An `Err` changes nothing.
     pub fn add_seq(&mut self, name: &Txt, next: u64) -> Result<(), DraftErr>
         ensures ok { OnOk result (self.new ≡ self.old ++ StartLine.Seq name.now next ∷ []) }
         ensures rule { Judges result (MayFollow self.old (StartLine.Seq name.now next)) }
@@ -104,7 +112,8 @@ impl Draft {
         Ok(())
     }
 
-    /// Adds a service.
+    /// Adds a service. `Rule` where a table is there already; where there are 16 services; or where `name` is no name or
+    /// that of another one. An `Err` changes nothing.
     pub fn add_service(&mut self, name: &Txt, rights: Rights) -> Result<(), DraftErr>
         ensures ok { OnOk result (self.new ≡ self.old ++ StartLine.Service name.now rights ∷ []) }
         ensures rule { Judges result (MayFollow self.old (StartLine.Service name.now rights)) }
@@ -118,7 +127,8 @@ impl Draft {
         Ok(())
     }
 
-    /// Adds a table. Its columns come next.
+    /// Adds a table. Its columns come next. `Rule` where a row is there already; where the table before it has no column;
+    /// where there are 32 tables; or where `name` is no name or that of another one. An `Err` changes nothing.
     pub fn add_table(&mut self, name: &Txt) -> Result<(), DraftErr>
         ensures ok { OnOk result (self.new ≡ self.old ++ StartLine.Table name.now ∷ []) }
         ensures rule { Judges result (MayFollow self.old (StartLine.Table name.now)) }
@@ -133,7 +143,9 @@ impl Draft {
         Ok(())
     }
 
-    /// Adds a column to the last table. Where no sequence has the number of a `Kind::Seq`, that is against the rules.
+    /// Adds a column to the last table. `Rule` where there is no table, or a row already; where the table has 16 columns;
+    /// where `name` is no name or that of another column of the table; where `kind` has limits that it does not allow, or
+    /// is that of no sequence; or where the first column of a table, its key, may be null. An `Err` changes nothing.
     pub fn add_col(&mut self, name: &Txt, kind: Kind, not_null: bool) -> Result<(), DraftErr>
         ensures ok { OnOk result (self.new ≡ self.old ++ StartLine.Column name.now (with_name (sequence_names self.old) kind) not_null ∷ []) }
         ensures rule { Judges result (MayFollow self.old (StartLine.Column name.now (with_name (sequence_names self.old) kind) not_null)) }
@@ -156,7 +168,11 @@ impl Draft {
         Ok(())
     }
 
-    /// Adds a row of a table.
+    /// Adds a row of a table. `Rule` where there is no table, or the last one has no column; where there are 100,000 rows;
+    /// where `row` is 0, or not above the row before it; where no table has this number; where there is not one value for
+    /// each of its columns, null only where it may be, or else of the column's kind, and below the next value where it is
+    /// drawn; or where its first value, the key, is that of an earlier row of the table. Keys take memory, so `Memory` may
+    /// come where the key is taken. An `Err` changes nothing.
     pub fn add_row(&mut self, row: u64, table: u32, values: Values) -> Result<(), DraftErr>
         ensures ok { OnOk result (self.new ≡ self.old ++ StartLine.Row row table values ∷ []) }
         ensures rule { JudgesUnlessMemory result (MayFollow self.old (StartLine.Row row table values)) }
@@ -177,7 +193,17 @@ impl Draft {
         Ok(())
     }
 
-    /// The start of the lines so far and of the number of the next row. An `Err` drops the draft.
+    /// The number of the sequence of just this name, `None` where no line so far declares it. It takes no memory.
+    pub fn sequence_named(&self, name: &Txt) -> Option<u32>
+        ensures value { result ≡ place_of (sequence_names self.now) name.now }
+        ensures some { IfSome result (λ number. name_of (sequence_names self.now) number ≡ name.now) }
+        ensures none { IfNone result (¬ Contains (sequence_names self.now) name.now) }
+    {
+        place_in(self.sequences.as_slice(), name)
+    }
+
+    /// The start of the lines so far and of the number of the next row. `Rule` where the last table has no column, or
+    /// where `next_row` is not above every row and from 1 to 549,755,813,888. It takes no memory. An `Err` drops the draft.
     pub fn finish(self, next_row: u64) -> Result<Start, DraftErr>
         ensures ok { IfOk result (λ start. start ≡ start_of (self ++ StartLine.NextRow next_row ∷ [])) }
         ensures rule { Judges result (MayFollow self (StartLine.NextRow next_row)) }

@@ -4,9 +4,9 @@ use desk_values::{Txt, Values};
 /// What a column line says that the column holds.
 #[derive(Drop)]
 pub enum ColumnKind {
-    /// Numbers from the first to the second.
+    /// Whole numbers from the first to the second, both included.
     Int(i64, i64),
-    /// Texts of at most so many bytes.
+    /// Texts of at most so many bytes of UTF-8.
     Text(u32),
     /// Values drawn from the sequence of this name.
     Seq(Txt),

@@ -1,6 +1,6 @@
 ghost use Rattle.std.specs.Prelude.{◌≡◌, ◌↔◌, ◌≤◌, List, ℕ, IsNone, IsTrue, length, map};
 ghost use Rattle.std.specs.List.{Contains};
-ghost use Rattle.desk_schema.specs.Schema.{IsNoName, place_ignoring_case};
+ghost use Rattle.desk_schema.specs.Schema.{IsNoName, place_ignoring_case, place_of};
 
 use desk_values::Txt;
 
@@ -30,6 +30,19 @@ pub(crate) fn place_ignoring_case_in<N: Named>(items: &[N], name: &Txt) -> Optio
 {
     for (i, item) in items.iter().enumerate() {
         if item.name().as_str().eq_ignore_ascii_case(name.as_str()) {
+            return Some(i as u32);
+        }
+    }
+    None
+}
+
+/// The place of the first item of just this name.
+pub(crate) fn place_in<N: Named>(items: &[N], name: &Txt) -> Option<u32>
+    requires { length items.now ≤ 32 }
+    ensures { result ≡ place_of (map N.name_in items.now) name.now }
+{
+    for (i, item) in items.iter().enumerate() {
+        if item.name().as_str() == name.as_str() {
             return Some(i as u32);
         }
     }

@@ -9,8 +9,8 @@ ghost use Rattle.desk_schema.specs.Rules.{AreBelow, ColumnMayFollow, IsAllowed, 
 
 use crate::named::contains_name;
 use crate::names::is_name;
-use crate::schema::{Column, Kind, Service, Table};
-use desk_values::{Image, Txt, Value};
+use crate::schema::{Column, Kind, Service, Table, columns_of};
+use desk_values::{Image, TABLE_LIMIT, Txt, Value};
 
 /// The kind of the last line so far, in the order of a start's lines.
 #[derive(Clone, Copy, Debug, PartialEq, Eq, PartialOrd, Ord)]
@@ -28,9 +28,6 @@ const SEQUENCE_LIMIT: usize = 16;
 
 /// The greatest number of services.
 const SERVICE_LIMIT: usize = 16;
-
-/// The greatest number of tables.
-const TABLE_LIMIT: usize = 32;
 
 /// The greatest number of columns of a table.
 const COLUMN_LIMIT: usize = 16;
@@ -52,8 +49,7 @@ pub(crate) fn may_add_sequence(last: Last, sequences: &[Txt], name: &Txt, next: 
         && sequences.len() < SEQUENCE_LIMIT
         && is_name(name.as_str())
         && !contains_name(sequences, name)
-        && 1 <= next
-        && next <= NEXT_LIMIT
+        && (1..=NEXT_LIMIT).contains(&next)
 }
 
 /// Whether a service may be declared next.
@@ -72,7 +68,7 @@ pub(crate) fn may_add_table(last: Last, tables: &[Table], name: &Txt) -> bool
 {
     last <= Last::Column
         && last != Last::Table
-        && tables.len() < TABLE_LIMIT
+        && tables.len() < TABLE_LIMIT as usize
         && is_name(name.as_str())
         && !contains_name(tables, name)
 }
@@ -104,7 +100,7 @@ fn is_kind(sequences: &[Txt], kind: Kind) -> bool
 {
     match kind {
         Kind::Int(low, high) => low <= high,
-        Kind::Text(most) => 1 <= most && most <= LENGTH_LIMIT,
+        Kind::Text(most) => (1..=LENGTH_LIMIT).contains(&most),
         Kind::Seq(sequence) => (sequence as usize) < sequences.len(),
     }
 }
@@ -144,10 +140,7 @@ fn are_below(rows: &[Image], number: u64) -> bool
 fn fits_table(tables: &[Table], next_values: &[u64], table: u32, values: &[Value]) -> bool
     ensures { IsTrue result ↔ (table < length tables.now) × AllZip (IsAllowed next_values.now) (columns_of tables.now table) values.now }
 {
-    match tables.get(table as usize) {
-        Some(table) => are_allowed(next_values, table.columns.as_slice(), values),
-        None => false,
-    }
+    (table as usize) < tables.len() && are_allowed(next_values, columns_of(tables, table), values)
 }
 
 /// Whether there is one value for each column, each allowed there.
@@ -180,7 +173,7 @@ fn is_of_kind(next_values: &[u64], kind: Kind, value: &Value) -> bool
     ensures { IsTrue result ↔ IsOfKind next_values.now kind value.now }
 {
     match (kind, value) {
-        (Kind::Int(low, high), Value::Int(number)) => low <= *number && *number <= high,
+        (Kind::Int(low, high), Value::Int(number)) => (low..=high).contains(number),
         (Kind::Text(most), Value::Text(text)) => text.as_str().len() <= most as usize,
         (Kind::Seq(sequence), Value::Draw(drawn, number)) => {
             *drawn == sequence && 1 <= *number && is_drawn(next_values, sequence, *number)
@@ -204,5 +197,5 @@ pub(crate) fn may_finish(last: Last, rows: &[Image], next_row: u64) -> bool
     requires { Ascend rows.now }
     ensures { IsTrue result ↔ NextRowMayFollow (place_of_last last) rows.now next_row }
 {
-    last != Last::Table && 1 <= next_row && next_row <= NEXT_LIMIT && are_below(rows, next_row)
+    last != Last::Table && (1..=NEXT_LIMIT).contains(&next_row) && are_below(rows, next_row)
 }

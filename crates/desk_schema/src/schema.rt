@@ -1,4 +1,4 @@
-ghost use Rattle.std.specs.Prelude.{◌≡◌, ◌↔◌, IfOk, IsNone, IsTrue, slice_get};
+ghost use Rattle.std.specs.Prelude.{◌≡◌, ◌↔◌, ◌≤◌, length, IfOk, IsNone, IsTrue, slice_get};
 ghost use Rattle.std.specs.List.{Contains};
 ghost use Rattle.std.specs.Option.{option_map};
 ghost use Rattle.desk_schema.specs.Schema.{columns_of, column_names, IsNoName, IsSchema, place_ignoring_case, rights_of, service_names, shape_of, table_names};
@@ -7,23 +7,23 @@ use crate::named::{Named, place_ignoring_case_in};
 use desk_values::{Copied, List, Memory, Same, Txt};
 use std::marker::Model;
 
-/// What a column holds.
+/// What a column holds where it is not null.
 #[derive(Clone, Copy, Debug, PartialEq, Eq)]
 pub enum Kind {
-    /// Numbers from the first to the second.
+    /// Whole numbers from the first to the second, both included. The first is at most the second.
     Int(i64, i64),
-    /// Texts of at most so many bytes.
+    /// Texts of at most so many bytes of UTF-8, whatever number of characters that is. It is 1 to 1,000.
     Text(u32),
-    /// Values drawn from the sequence of this number.
+    /// Values drawn from the sequence of this number. Sequences are numbered from 0 as they are declared.
     Seq(u32),
 }
 
-/// What a service may do.
+/// What the sessions of a service may do.
 #[derive(Clone, Copy, Debug, PartialEq, Eq)]
 pub enum Rights {
-    /// Read and write.
+    /// Every call.
     ReadWrite,
-    /// Only read.
+    /// Reading alone: no INSERT, UPDATE, DELETE, FOR UPDATE or NEXTVAL.
     ReadOnly,
 }
 
@@ -47,7 +47,7 @@ pub struct Column {
     pub not_null: bool,
 }
 
-/// A table. Its first column is the key.
+/// A table. Its rows are told apart by the first column.
 #[derive(Drop)]
 pub struct Table {
     /// Its name, in lower case.
@@ -165,6 +165,16 @@ impl Same for Schema {
     }
 }
 
+/// The columns of a table, none where there is no such table.
+pub(crate) fn columns_of(tables: &[Table], table: u32) -> &[Column]
+    ensures { result.now ≡ columns_of tables.now table }
+{
+    match tables.get(table as usize) {
+        Some(table) => table.columns.as_slice(),
+        None => &[],
+    }
+}
+
 impl Schema {
     /// The schema of these parts.
     pub(crate) fn from_parts(
@@ -213,6 +223,14 @@ impl Schema {
         self.tables.as_slice()
     }
 
+    /// The columns of a table, none where there is no such table.
+    pub fn columns(&self, table: u32) -> &[Column]
+        ensures value { result.now ≡ columns_of self.now.tables table }
+        ensures limit { length result.now ≤ 16 }
+    {
+        columns_of(self.tables.as_slice(), table)
+    }
+
     /// The number of the table of this name, the case of ASCII letters ignored.
     pub fn table_named(&self, name: &Txt) -> Option<u32>
         ensures value { result ≡ place_ignoring_case (table_names self.now.tables) name.now }
@@ -226,10 +244,7 @@ impl Schema {
         ensures value { result ≡ place_ignoring_case (column_names (columns_of self.now.tables table)) name.now }
         ensures none { IsNone result ↔ IsNoName (column_names (columns_of self.now.tables table)) name.now }
     {
-        match self.tables.get(table as usize) {
-            Some(table) => place_ignoring_case_in(table.columns.as_slice(), name),
-            None => None,
-        }
+        place_ignoring_case_in(self.columns(table), name)
     }
 
     /// The number of the sequence of this name, the case of ASCII letters ignored.
@@ -257,11 +272,8 @@ impl Schema {
     pub fn column(&self, table: u32, column: u32) -> Option<(Kind, bool)>
         ensures { result ≡ option_map shape_of (slice_get (columns_of self.now.tables table) column) }
     {
-        match self.tables.get(table as usize) {
-            Some(table) => match table.columns.get(column as usize) {
-                Some(column) => Some((column.kind, column.not_null)),
-                None => None,
-            },
+        match self.columns(table).get(column as usize) {
+            Some(column) => Some((column.kind, column.not_null)),
             None => None,
         }
     }

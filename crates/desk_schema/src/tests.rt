@@ -1,5 +1,5 @@
-use crate::{Draft, DraftErr, Kind, Rights, Start};
-use desk_values::{Copied, Txt, TxtErr, Value, Values};
+use crate::{Column, Draft, DraftErr, Kind, Rights, Service, Start};
+use desk_values::{Copied, Image, Txt, TxtErr, Value, Values};
 use std::alloc::Global;
 use std::process::Abort;
 use std::test::Fail;
@@ -106,20 +106,106 @@ fn services_are_looked_up_byte_for_byte(rt: HostRuntime) -> Result<(), Fail> {
     Ok(())
 }
 
-#[test]
-fn a_start_has_what_was_added(rt: HostRuntime) -> Result<(), Fail> {
-    let start = large_bank(rt.alloc())?;
+/// Asserts that the services are these, in order.
+fn assert_services(rt: &impl Abort, services: &[Service], wanted: &[(&str, Rights)]) {
+    assert_eq!(rt; services.len(), wanted.len());
+    for (service, (name, rights)) in services.iter().zip(wanted) {
+        assert_eq!(rt; service.name.as_str(), *name);
+        assert_eq!(rt; service.rights, *rights);
+    }
+}
+
+/// Asserts that the columns are these, in order.
+fn assert_columns(rt: &impl Abort, columns: &[Column], wanted: &[(&str, Kind, bool)]) {
+    assert_eq!(rt; columns.len(), wanted.len());
+    for (column, (name, kind, not_null)) in columns.iter().zip(wanted) {
+        assert_eq!(rt; column.name.as_str(), *name);
+        assert_eq!(rt; column.kind, *kind);
+        assert_eq!(rt; column.not_null, *not_null);
+    }
+}
+
+/// Asserts that the rows are these accounts of the first table, each by its number, id and balance.
+fn assert_accounts(rt: &impl Abort, rows: &[Image], wanted: &[(u64, i64, i64)]) {
+    assert_eq!(rt; rows.len(), wanted.len());
+    for (image, (row, id, balance)) in rows.iter().zip(wanted) {
+        assert_eq!(rt; image.row, *row);
+        assert_eq!(rt; image.table, 0);
+        assert!(rt; is_account(image, *id, *balance), "{row}");
+    }
+}
+
+/// Whether the row that is left is this account.
+fn is_account(image: &Image, id: i64, balance: i64) -> bool {
+    match &image.left {
+        Some(values) => match values.as_slice() {
+            [Value::Int(first), Value::Int(second)] => *first == id && *second == balance,
+            _ => false,
+        },
+        None => false,
+    }
+}
+
+static SERVICES: [(&str, Rights); 3] = [
+    ("main", Rights::ReadWrite),
+    ("report", Rights::ReadOnly),
+    ("test", Rights::ReadWrite),
+];
+
+static ACCOUNT_COLUMNS: [(&str, Kind, bool); 2] = [
+    ("id", Kind::Int(-1_000_000, 1_000_000), true),
+    ("bal", Kind::Int(-1_000_000, 1_000_000), false),
+];
+
+static ITEM_COLUMNS: [(&str, Kind, bool); 2] = [
+    ("no", Kind::Seq(0), true),
+    ("qty", Kind::Int(0, 1000), false),
+];
+
+/// Asserts that the start is that of the large bank, field by field.
+fn assert_large_bank(rt: &impl Abort, start: &Start) -> Result<(), Fail> {
     let schema = start.schema();
     assert_eq!(rt; schema.level(), 1);
+    let [sequence] = schema.sequences() else {
+        return Err("one sequence".into());
+    };
+    assert_eq!(rt; sequence.as_str(), "s");
+    assert_services(rt, schema.services(), &SERVICES);
+    let [accounts, items] = schema.tables() else {
+        return Err("two tables".into());
+    };
+    assert_eq!(rt; accounts.name.as_str(), "acct");
+    assert_eq!(rt; items.name.as_str(), "item");
+    assert_columns(rt, schema.columns(0), &ACCOUNT_COLUMNS);
+    assert_columns(rt, schema.columns(1), &ITEM_COLUMNS);
+    assert_columns(rt, schema.columns(2), &[]);
     assert_eq!(rt; schema.column(1, 0), Some((Kind::Seq(0), true)));
     assert_eq!(rt; schema.column(1, 2), None);
-    assert_eq!(rt; schema.tables().len(), 2);
-    assert_eq!(rt; schema.sequences().len(), 1);
-    assert_eq!(rt; schema.services().len(), 3);
-    assert_eq!(rt; start.rows().len(), 2);
+    assert_accounts(rt, start.rows().as_slice(), &[(1, 1, 100), (2, 2, 50)]);
     assert_eq!(rt; start.next_row(), 3);
     assert_eq!(rt; start.next_value(0), Some(10));
     assert_eq!(rt; start.next_value(1), None);
+    Ok(())
+}
+
+#[test]
+fn a_start_has_what_was_added(rt: HostRuntime) -> Result<(), Fail> {
+    assert_large_bank(&rt, &large_bank(rt.alloc())?)
+}
+
+#[test]
+fn a_copy_has_what_was_added(rt: HostRuntime) -> Result<(), Fail> {
+    assert_large_bank(&rt, &large_bank(rt.alloc())?.copy()?)
+}
+
+#[test]
+fn sequences_of_a_draft_are_looked_up_byte_for_byte(rt: HostRuntime) -> Result<(), Fail> {
+    let alloc = rt.alloc();
+    let mut draft = Draft::new(alloc, 1)?;
+    draft.add_seq(&txt(alloc, "s")?, 10)?;
+    draft.add_seq(&txt(alloc, "t")?, 1)?;
+    assert_eq!(rt; draft.sequence_named(&txt(alloc, "t")?), Some(1));
+    assert_eq!(rt; draft.sequence_named(&txt(alloc, "T")?), None);
     Ok(())
 }
 

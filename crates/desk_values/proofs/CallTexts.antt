@@ -1,25 +1,24 @@
 -- Reading calls undoes writing them.
-use Rattle.std.proofs.Common.{◌≡◌, ℕ, ◌<◌, ◌≤◌, Bool, true, false, cond, eqb, leb, ◌&&◌, ◌||◌, List, [], ◌∷◌, ◌++◌, length, Option, Some, None, refl, sym, ap, subst, ◌∙◌, arith, inl, inr}
-use Rattle.std.specs.Prelude.{◌⊎◌, codes}
+use Rattle.std.proofs.Common.{◌≡◌, ℕ, ◌≤◌, true, leb, List, ◌∷◌, ◌++◌, length, Some, refl, ap, subst, ◌∙◌, inl, inr}
+use Rattle.std.specs.Prelude.{codes}
 use Rattle.std.specs.Option.{option_map}
-use Rattle.std.specs.List.{AllByRecursion}
 use Rattle.std.specs.Str.{bytes_eq}
-use Rattle.std.proofs.lemmas.Bool.{leb-true, le-leb, or_left, or_right}
-use Rattle.std.proofs.lemmas.Option.{same_Some, none-some}
+use Rattle.std.proofs.lemmas.Bool.{leb-true, le-leb}
+use Rattle.std.proofs.lemmas.Option.{same_Some}
 use Rattle.desk_values.specs.declared.value.Value.{Value}
 use Rattle.desk_values.specs.declared.call.Call.{Call}
 use Rattle.desk_values.specs.declared.call.Call.TheVariants.{Connect, Sql, Disconnect}
-use Rattle.desk_values.specs.Fields.{Lacks, cut_at}
+use Rattle.desk_values.specs.Fields.{cut_at}
 use Rattle.desk_values.specs.Good.{IsTxt, IsValues, IsCall}
 use Rattle.desk_values.specs.Text.{escaped, txt_text, values_text, call_text}
-use Rattle.desk_values.specs.Reading.{◌>>=◌, txt_of, values_of, sql_of, call_of}
+use Rattle.desk_values.specs.Reading.{txt_of, values_of, sql_of, call_of}
 use Rattle.desk_values.proofs.Options.{bind_some, map_some, if_some, when_some, chosen}
 use Rattle.desk_values.proofs.Readers.{IsReader}
 use Rattle.desk_values.proofs.Cuts.{IsCut, cut_at-joined, cut_at_parts}
 use Rattle.desk_values.proofs.Escapes.{txts, IsUtf8-small}
 use Rattle.desk_values.proofs.ValueTexts.{values_reader}
-use Rattle.desk_values.proofs.ReplyTexts.{is_codes, values_field, is_word-field}
-use Rattle.desk_values.proofs.Bytes.{Consists, Consists-append, Consists-weaker, Lacks-from, is_word, is_field, is_line, escaped_words}
+use Rattle.desk_values.proofs.ReplyTexts.{is_codes, is_word-field}
+use Rattle.desk_values.proofs.Bytes.{Consists, Consists-weaker, Lacks-from, is_word, is_field, escaped_words}
 
 sql_spelled : (bytes front rest text : List ℕ) (binds : List Value) → IsCut 32 bytes front rest → IsTxt text × (front ≡ txt_text text) → IsValues binds × (rest ≡ values_text binds) → length binds ≤ 16 → IsCall (Sql text binds) × (codes "sql " ++ bytes ≡ call_text (Sql text binds))
 sql_spelled bytes front rest text binds cut first second few =

@@ -1,19 +1,18 @@
 -- Reading escaped texts undoes escaping them.
-use Rattle.std.proofs.Common.{◌≡◌, ℕ, zero, suc, ◌+◌, ◌-◌, ◌*◌, ◌/◌, ◌%◌, ◌^◌, ◌<◌, ◌≤◌, Bool, true, false, cond, eqb, ltb, leb, not, ◌&&◌, ◌||◌, List, [], ◌∷◌, ◌++◌, length, get_or, drop, Option, Some, None, refl, sym, ap, subst, ◌∙◌, arith, inl, inr, lit<, append_assoc, append-nil}
+use Rattle.std.proofs.Common.{◌≡◌, ℕ, zero, suc, ◌+◌, ◌-◌, ◌*◌, ◌/◌, ◌%◌, ◌<◌, ◌≤◌, Bool, true, false, cond, eqb, ltb, leb, not, ◌&&◌, List, [], ◌∷◌, ◌++◌, length, get_or, drop, Option, Some, None, refl, sym, ap, subst, ◌∙◌, arith, inl, inr, lit<, append_assoc, append-nil}
 use lib.Utf8.{scalar, scalar_cases}
-use Rattle.std.specs.Prelude.{◌≢◌, ◌⊎◌}
 use Rattle.std.specs.Option.{option_map}
 use Rattle.std.specs.List.{AllByRecursion}
 use Rattle.std.specs.Char.{encode_utf8}
 use Rattle.std.specs.Str.{IsUtf8, is_utf8, all_scalars, encode_utf8_all}
-use Rattle.std.proofs.lemmas.Bool.{eq-eqb, ne_eqb, eqb-true, eqb-false, ltb-true, lt-ltb, le-ltb, leb-true, le-leb, lt-leb, and_parts, and_from, and_left, and_right, or_from, both_ways, true_from_ne_false, false_from_ne_true, cases_lt, cases_Bool, cond-true, cond-false}
+use Rattle.std.proofs.lemmas.Bool.{eqb-true, lt-ltb, le-ltb, leb-true, le-leb, lt-leb, and_parts, and_right, both_ways, true_from_ne_false, false_from_ne_true, cases_lt, cases_Bool, cond-true, cond-false}
 use Rattle.std.proofs.lemmas.Bool.Decides.{nat_tests}
 use Rattle.std.proofs.lemmas.Option.{same_Some, none-some}
 use Rattle.std.proofs.lemmas.List.{length-append}
 use Rattle.std.proofs.lemmas.Str.{IsUtf8-from_is_utf8, is_utf8-from_IsUtf8}
 use Rattle.desk_values.specs.Good.{IsTxt}
 use Rattle.desk_values.specs.Text.{is_plain, hex_digit, escape, escaped, txt_text}
-use Rattle.desk_values.specs.Reading.{◌>>=◌, hex_value, hex_byte, first_byte, unescaped, unescaped_code, escaped_of, txt_of}
+use Rattle.desk_values.specs.Reading.{◌>>=◌, hex_value, hex_byte, first_byte, unescaped, escaped_of, txt_of}
 use Rattle.desk_values.proofs.Options.{none_from, bind_some, map_some, if_some, unless_some, chosen}
 use Rattle.desk_values.proofs.Readers.{IsReader, behind}
 

@@ -2,7 +2,7 @@ pub mod Options
 pub mod Readers
 pub mod Cuts
 pub mod Numbers
-pub mod Tests
+pub mod ImageTests
 pub mod Escapes
 pub mod Bytes
 pub mod ValueTexts
@@ -10,3 +10,4 @@ pub mod Faults
 pub mod ReplyTexts
 pub mod CallTexts
 pub mod Lines
+pub mod Keeping

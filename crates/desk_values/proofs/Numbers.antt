@@ -1,20 +1,19 @@
 -- Reading numbers undoes writing them.
-use Rattle.std.proofs.Common.{◌≡◌, ℕ, zero, suc, ◌+◌, ◌-◌, ◌^◌, ◌<◌, ◌≤◌, Bool, true, false, cond, eqb, ltb, leb, not, ◌&&◌, ◌||◌, ℤ, pos, negsuc, List, [], ◌∷◌, ◌++◌, length, get_or, drop, Option, Some, None, Result, Ok, Err, refl, sym, ap, subst, ◌∙◌, arith, inl, inr, lit<}
+use Rattle.std.proofs.Common.{◌≡◌, ℕ, zero, suc, ◌-◌, ◌^◌, ◌<◌, ◌≤◌, true, false, eqb, ltb, leb, not, ◌&&◌, ℤ, pos, negsuc, List, [], ◌∷◌, length, get_or, drop, Some, None, Result, Ok, Err, refl, sym, ap, subst, ◌∙◌, arith, inl, inr, lit<}
 use Rattle.std.specs.Prelude.{◌≢◌, MatchResult, FitsSigned}
 use Rattle.std.specs.Int.{w64}
-use Rattle.std.specs.Option.{option_map}
 use Rattle.std.specs.Result.{result_ok, OkIff}
 use Rattle.std.specs.Fmt.{decimal, signed_decimal}
 use Rattle.std.specs.Str.{bytes_eq, IsUtf8}
-use Rattle.std.specs.Str.Parse.{digits_value, IsNumeral, AllDigits, ParsesUnsigned, without_leading_plus}
-use Rattle.std.proofs.lemmas.Bool.{eq-eqb, ne_eqb, eqb-true, eqb-false, ltb-true, lt-ltb, leb-true, le-leb, and_parts, and_from, and_cases, or_parts, not-false, both_ways, cases_eq}
+use Rattle.std.specs.Str.Parse.{digits_value, IsNumeral, AllDigits, ParsesUnsigned}
+use Rattle.std.proofs.lemmas.Bool.{ne_eqb, eqb-true, eqb-false, ltb-true, lt-ltb, leb-true, le-leb, and_parts, and_cases, or_parts, not-false, both_ways}
 use Rattle.std.proofs.lemmas.Option.{same_Some, none-some}
 use Rattle.std.proofs.lemmas.Slice.Eq.{bytes_eq-Decides}
 use Rattle.std.proofs.lemmas.Str.{IsUtf8-from_ascii}
 use Rattle.std.proofs.lemmas.Str.Parse.{numerals_by_value, tells_digits, IsNumeralModel, without_leading_plus_none}
 use Rattle.std.proofs.lemmas.Fmt.{decimal_is_IsNumeral, decimal-digits_value, decimal_digit, first_decimal, IsAscii-decimal}
 use Rattle.desk_values.specs.Reading.{number_of, number_below, integer_of, is_loose, negative, not_negative, ◌>>=◌}
-use Rattle.desk_values.proofs.Options.{bind_some, map_some, if_some, chosen, none_from}
+use Rattle.desk_values.proofs.Options.{bind_some, if_some, chosen, none_from}
 use Rattle.desk_values.proofs.Readers.{IsReader, first_of}
 
 -- ---- numbers without a sign

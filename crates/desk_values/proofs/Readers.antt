@@ -2,7 +2,6 @@
 use Rattle.std.proofs.Common.{◌<◌, cond, eqb, [], ◌∷◌, get_or, drop, arith, ◌≡◌, ℕ, List, Option, Some, None, Result, Ok, Err, refl, sym, ap, subst, ◌∙◌}
 use Rattle.std.specs.Prelude.{IfOk, IfSome}
 use Rattle.desk_values.specs.declared.read_err.ReadErr.{ReadErr}
-use Rattle.desk_values.specs.declared.read_err.ReadErr.TheVariants.{Bad, Memory}
 use Rattle.std.proofs.lemmas.Bool.{eqb-true, eq-eqb}
 use Rattle.desk_values.specs.Reading.{Reads}
 use Rattle.desk_values.proofs.Options.{when_some}

@@ -1,12 +1,11 @@
 -- Reading replies undoes writing them.
-use Rattle.std.proofs.Common.{◌≡◌, ℕ, zero, suc, ◌+◌, ◌^◌, ◌<◌, ◌≤◌, Bool, true, false, cond, eqb, ltb, leb, not, ◌&&◌, ◌||◌, List, [], ◌∷◌, ◌++◌, length, get_or, drop, map, Option, Some, None, Err, refl, sym, ap, subst, ◌∙◌, arith, inl, inr, lit<, lit≤, append_assoc, append-nil}
-use Rattle.std.specs.Prelude.{◌≢◌, ◌⊎◌, codes, IfSome}
+use Rattle.std.proofs.Common.{◌≡◌, ℕ, ◌^◌, ◌<◌, ◌≤◌, true, false, eqb, List, [], ◌∷◌, ◌++◌, length, get_or, drop, map, Option, Some, None, Err, refl, sym, ap, subst, ◌∙◌, arith, inl, inr, lit<, lit≤, append_assoc, append-nil}
+use Rattle.std.specs.Prelude.{codes, IfSome}
 use Rattle.std.specs.Option.{option_map}
 use Rattle.std.specs.List.{AllByRecursion, join_with_byte, flat_map}
 use Rattle.std.specs.Fmt.{decimal}
 use Rattle.std.specs.Str.{bytes_eq}
-use Rattle.std.proofs.lemmas.Bool.{eq-eqb, ne_eqb, eqb-true, eqb-false, ltb-true, lt-ltb, and_parts, and_from, both_ways, or_left, or_right, cond-true, cond-false, false_from_ne_true}
-use Rattle.std.proofs.lemmas.List.{nil_from_length, length-append}
+use Rattle.std.proofs.lemmas.Bool.{ne_eqb, eqb-true, eqb-false, or_left, cond-false, false_from_ne_true}
 use Rattle.std.proofs.lemmas.Option.{same_Some, none-some}
 use Rattle.std.proofs.lemmas.Slice.Eq.{bytes_eq-Decides}
 use Rattle.desk_values.specs.declared.read_err.ReadErr.{ReadErr}
@@ -21,16 +20,16 @@ use Rattle.desk_values.specs.declared.call.Reply.{Reply}
 use Rattle.desk_values.specs.Fault.{fault_number, fault_numbered}
 use Rattle.desk_values.specs.Fields.{Lacks, cut_at, pieces}
 use Rattle.desk_values.specs.Good.{IsValue, IsValues, IsGoodRow, IsGoodDraw, IsGoodImage, IsGoodOutcome, IsGoodReply, Ascend}
-use Rattle.desk_values.specs.Text.{value_text, values_text, rows_text, left_text, image_text, images_text, outcome_text, made_text, reply_text}
-use Rattle.desk_values.specs.Reading.{Reads, ◌>>=◌, at_end, number_of, number_below, each_of, values_of, filled_of, open_rows_of, rows_of, left_of, image_of, rows_ascend, images_of, fault_of, field_outcome_of, word_outcome_of, outcome_behind, outcome_of, all_draws, draws_of, made_of, reply_of}
-use Rattle.desk_values.proofs.Options.{bind_some, map_some, if_some, unless_some, unless_when, when_some, chosen, at_end_some}
-use Rattle.desk_values.proofs.Readers.{IsReader, first_of, read_behind, behind}
+use Rattle.desk_values.specs.Text.{values_text, rows_text, left_text, image_text, images_text, outcome_text, made_text, reply_text}
+use Rattle.desk_values.specs.Reading.{Reads, ◌>>=◌, number_of, number_below, each_of, values_of, filled_of, open_rows_of, rows_of, left_of, image_of, rows_ascend, images_of, fault_of, field_outcome_of, word_outcome_of, outcome_behind, outcome_of, all_draws, draws_of, made_of, reply_of}
+use Rattle.desk_values.proofs.Options.{bind_some, map_some, if_some, unless_when, when_some, chosen, at_end_some}
+use Rattle.desk_values.proofs.Readers.{IsReader, first_of}
 use Rattle.desk_values.proofs.Cuts.{IsCut, cut_at-joined, cut_at_parts, cut_at_lacks, pieces-joined, pieces-none, pieces-cut, pieces_some, join-pieces, joined_reader, onto_items, onto_items-append}
 use Rattle.desk_values.proofs.Numbers.{numbers, numbers_below}
 use Rattle.desk_values.proofs.Faults.{numbered_taken, numbered_again, fault_number_small}
-use Rattle.desk_values.proofs.Tests.{rows_ascend_is, all_draws_is}
+use Rattle.desk_values.proofs.ImageTests.{rows_ascend_is, all_draws_is}
 use Rattle.desk_values.proofs.ValueTexts.{values_reader, filled_reader, values_listed, items_text, inside_lacks}
-use Rattle.desk_values.proofs.Bytes.{Consists, Consists-append, Consists-weaker, Lacks-from, is_word, is_item, is_listed, is_imaged, is_field, is_line, decimal-Lacks, decimal_words, join_consists}
+use Rattle.desk_values.proofs.Bytes.{Consists, Consists-append, Consists-weaker, Lacks-from, is_word, is_item, is_listed, is_imaged, is_field, decimal-Lacks, decimal_words, join_consists}
 
 pub is_codes : (bytes text : List ℕ) → bytes_eq bytes text ≡ true → bytes ≡ text
 is_codes bytes text e = (bytes_eq-Decides bytes text).0 e

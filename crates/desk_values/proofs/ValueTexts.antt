@@ -1,24 +1,23 @@
 -- Reading values undoes writing them.
-use Rattle.std.proofs.Common.{◌≡◌, ℕ, zero, suc, ◌+◌, ◌^◌, ◌<◌, ◌≤◌, Bool, true, false, cond, eqb, ltb, leb, not, ◌&&◌, ◌||◌, ℤ, List, [], ◌∷◌, ◌++◌, length, get_or, drop, map, Option, Some, None, refl, sym, ap, subst, ◌∙◌, arith, inl, inr, lit<, lit≤, append_assoc, append-nil}
-use Rattle.std.specs.Prelude.{◌≢◌, ◌⊎◌, FitsSigned, codes}
-use Rattle.std.specs.Int.{w64}
+use Rattle.std.proofs.Common.{◌≡◌, ℕ, ◌^◌, ◌<◌, true, eqb, List, [], ◌∷◌, ◌++◌, length, get_or, drop, map, Option, Some, refl, sym, ap, subst, ◌∙◌, arith, inl, inr, lit<, lit≤}
+use Rattle.std.specs.Prelude.{codes}
 use Rattle.std.specs.Option.{option_map}
 use Rattle.std.specs.List.{AllByRecursion, join_with_byte}
-use Rattle.std.specs.Fmt.{decimal, signed_decimal}
+use Rattle.std.specs.Fmt.{decimal}
 use Rattle.std.specs.Str.{bytes_eq}
-use Rattle.std.proofs.lemmas.Bool.{eq-eqb, ne_eqb, eqb-true, eqb-false, and_parts, both_ways, or_left}
+use Rattle.std.proofs.lemmas.Bool.{ne_eqb, eqb-true, eqb-false, or_left}
 use Rattle.std.proofs.lemmas.List.{nil_from_length, length-append}
-use Rattle.std.proofs.lemmas.Option.{same_Some, none-some}
+use Rattle.std.proofs.lemmas.Option.{same_Some}
 use Rattle.std.proofs.lemmas.Slice.Eq.{bytes_eq-Decides}
 use Rattle.desk_values.specs.declared.value.Value.{Value}
 use Rattle.desk_values.specs.declared.value.Value.TheVariants.{Null, Int, Text, Row, Draw}
-use Rattle.desk_values.specs.Fields.{Lacks, cut_at, pieces}
-use Rattle.desk_values.specs.Good.{IsTxt, IsValue, IsValues, IsGoodRow}
-use Rattle.desk_values.specs.Text.{is_plain, escape, escaped, txt_text, value_text, values_text}
-use Rattle.desk_values.specs.Reading.{◌>>=◌, at_end, number_of, number_below, integer_of, escaped_of, draw_of, value_of, each_of, items_of, inside_of, values_of, filled_of}
-use Rattle.desk_values.proofs.Options.{bind_some, map_some, if_some, unless_some, when_some, chosen, at_end_some}
+use Rattle.desk_values.specs.Fields.{Lacks, cut_at}
+use Rattle.desk_values.specs.Good.{IsValue, IsValues, IsGoodRow}
+use Rattle.desk_values.specs.Text.{value_text, values_text}
+use Rattle.desk_values.specs.Reading.{number_of, number_below, integer_of, escaped_of, draw_of, value_of, items_of, inside_of, values_of, filled_of}
+use Rattle.desk_values.proofs.Options.{bind_some, map_some, unless_some, when_some, chosen, at_end_some}
 use Rattle.desk_values.proofs.Readers.{IsReader, first_of}
-use Rattle.desk_values.proofs.Cuts.{IsCut, cut_at-joined, cut_at_parts, pieces-join, pieces_some, join-pieces, joined_reader}
+use Rattle.desk_values.proofs.Cuts.{IsCut, cut_at-joined, cut_at_parts, joined_reader}
 use Rattle.desk_values.proofs.Numbers.{numbers, numbers_below, integers}
 use Rattle.desk_values.proofs.Escapes.{escapes, IsUtf8-small}
 use Rattle.desk_values.proofs.Bytes.{Consists, Consists-append, Consists-weaker, Lacks-from, is_word, is_item, is_listed, decimal-Lacks, decimal_words, signed_words, escaped_words, join_consists}

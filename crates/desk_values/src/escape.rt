@@ -1,7 +1,8 @@
 //! Texts with every byte escaped that is no letter, digit, `_`, `-` or `.`.
 
-ghost use Rattle.std.specs.Prelude.{◌≡◌, ◌<◌, ◌++◌, IfSome, OnOk};
+ghost use Rattle.std.specs.Prelude.{◌≡◌, ◌<◌, ◌++◌, IfSome, OnOk, OnErr};
 ghost use Rattle.std.specs.Option.{option_map};
+ghost use Rattle.desk_values.specs.Kept.{IsKept};
 ghost use Rattle.desk_values.specs.Text.{is_plain, hex_digit, escape, escaped, txt_text};
 ghost use Rattle.desk_values.specs.Reading.{Reads, hex_value, hex_byte, first_byte, unescaped, escaped_of};
 
@@ -67,7 +68,9 @@ fn unescape(alloc: Global, bytes: &[u8]) -> Result<Bytes, ReadErr>
     }
 }
 
-/// The text that all the bytes spell.
+/// The text that all the bytes spell: each byte that is no letter, digit, `_`, `-` or `.` as `%` and two upper-case
+/// hexadecimal digits, and each other one as itself. `Bad` where they spell none: an escape of another form or of a byte
+/// that stands for itself, bytes that are no UTF-8 (RFC 3629), or over 1,000 of them. `Memory` where memory is wanting.
 #[tactic(auto, unfolding(crate::specs::Reading::escaped_of))]
 pub fn read_escaped(alloc: Global, bytes: &[u8]) -> Result<Txt, ReadErr>
     ensures { Reads result (escaped_of bytes.now) }
@@ -98,7 +101,8 @@ fn hex_digit(digit: u8) -> u8
 }
 
 fn push_byte(byte: u8, to: &mut Bytes) -> Result<(), Memory>
-    ensures { OnOk result (to.new ≡ to.old ++ escape byte) }
+    ensures ok { OnOk result (to.new ≡ to.old ++ escape byte) }
+    ensures err { OnErr result (to.new ≡ to.old) }
 {
     if is_plain(byte) {
         to.push(byte)
@@ -107,8 +111,10 @@ fn push_byte(byte: u8, to: &mut Bytes) -> Result<(), Memory>
     }
 }
 
+#[tactic(auto, using(crate::proofs::Keeping::kept_front))]
 fn push_escaped(bytes: &[u8], to: &mut Bytes) -> Result<(), Memory>
-    ensures { OnOk result (to.new ≡ to.old ++ escaped bytes.now) }
+    ensures ok { OnOk result (to.new ≡ to.old ++ escaped bytes.now) }
+    ensures kept { OnErr result (IsKept to.old to.new) }
 {
     for byte in bytes {
         push_byte(*byte, to)?;
@@ -116,9 +122,11 @@ fn push_escaped(bytes: &[u8], to: &mut Bytes) -> Result<(), Memory>
     Ok(())
 }
 
-/// Appends `t` and the text. What an `Err` leaves is open.
+/// Appends `t` and the text. After an `Err` the bytes begin as before.
+#[tactic(auto, using(crate::proofs::Keeping::kept_further))]
 pub fn push_text(text: &Txt, to: &mut Bytes) -> Result<(), Memory>
-    ensures { OnOk result (to.new ≡ to.old ++ txt_text text.now) }
+    ensures ok { OnOk result (to.new ≡ to.old ++ txt_text text.now) }
+    ensures kept { OnErr result (IsKept to.old to.new) }
 {
     to.push(b't')?;
     push_escaped(text.as_str().as_bytes(), to)

@@ -10,7 +10,6 @@ ghost use Rattle.desk_values.specs.Text.{txt_text};
 ghost use Rattle.desk_values.specs.Reading.{Reads, number_of, is_loose, number_of, number_below, negative, integer_of, txt_of};
 
 use crate::escape::{push_text, read_escaped};
-use crate::list::List;
 use crate::memory::Memory;
 use crate::read_err::ReadErr;
 use crate::text::Txt;
@@ -32,7 +31,8 @@ pub fn cut(bytes: &[u8], byte: u8) -> Option<(&[u8], &[u8])>
     None
 }
 
-/// The number below 2^64 that all the bytes spell, without a leading zero.
+/// The number below 2^64 that all the bytes spell in decimal digits. `None` where they spell none: no byte or another
+/// one than a digit, a sign or a space too, a leading zero before more, or a number from 2^64 on.
 pub fn read_u64(bytes: &[u8]) -> Option<u64>
     ensures value { result ≡ number_of bytes.now }
     ensures some { IfSome result (λ n. bytes.now ≡ decimal n) }
@@ -41,7 +41,7 @@ pub fn read_u64(bytes: &[u8]) -> Option<u64>
     number(bytes)
 }
 
-/// The same, below 2^32.
+/// The same, below 2^32: `None` from there on too.
 pub fn read_u32(bytes: &[u8]) -> Option<u32>
     ensures value { result ≡ number_below (2 ^ 32) bytes.now }
     ensures some { IfSome result (λ n. bytes.now ≡ decimal n) }
@@ -50,7 +50,8 @@ pub fn read_u32(bytes: &[u8]) -> Option<u32>
     small_number(bytes)
 }
 
-/// The number with a sign that all the bytes spell: a number, or `-` and a number other than 0, within 64 bits.
+/// The number with a sign that all the bytes spell: a number as [`read_u64`] has it below 2^63, or `-` and one from 1 to
+/// 2^63. `None` where they spell none, as `-0` and `+1`.
 pub fn read_i64(bytes: &[u8]) -> Option<i64>
     ensures value { result ≡ integer_of bytes.now }
     ensures some { IfSome result (λ n. bytes.now ≡ signed_decimal n) }
@@ -104,7 +105,8 @@ fn negative(amount: u64) -> Option<i64>
 }
 
 /// The text that all the bytes spell: `t`, and its bytes, where each byte that is no letter, digit, `_`,
-/// `-` or `.` is `%` and two upper-case hexadecimal digits. `Bad` where they spell none.
+/// `-` or `.` is `%` and two upper-case hexadecimal digits. `Bad` where they spell none: without the `t`, with another
+/// escape than a byte has, or with bytes that are no UTF-8 (RFC 3629) or over 1,000. `Memory` where memory is wanting.
 pub fn read_text(alloc: Global, bytes: &[u8]) -> Result<Txt, ReadErr>
     ensures ok { IfOk result (λ text. IsTxt text × (bytes.now ≡ txt_text text)) }
     ensures only { (text : List ℕ) → IsTxt text → bytes.now ≡ txt_text text → Reads result (Some text) }
@@ -144,10 +146,9 @@ pub fn append_text(text: &Txt, to: &mut Bytes) -> Result<(), Memory>
     ensures ok { OnOk result (to.new ≡ to.old ++ txt_text text.now) }
     ensures err { OnErr result (to.new ≡ to.old) }
 {
-    // The text is made apart, so that a refusal leaves `to` as it was.
-    let mut written = List::new(text.allocator());
-    push_text(text, &mut written)?;
-    to.append(written.as_slice())
+    let len = to.len();
+    let written = push_text(text, to);
+    to.cut_back_on_err(len, written)
 }
 
 #[cfg(test)]

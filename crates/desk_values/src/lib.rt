@@ -9,6 +9,7 @@ mod capture;
 mod escape;
 mod fault;
 pub mod fields;
+pub mod keyword;
 pub mod laws;
 mod list;
 mod memory;
@@ -16,6 +17,8 @@ mod read_err;
 mod reading;
 mod reserved;
 mod same;
+#[cfg(test)]
+mod tests;
 mod text;
 mod value;
 mod well_formed;
@@ -31,6 +34,8 @@ pub use reading::{read_value, read_values};
 pub use reserved::Reserved;
 pub use same::Same;
 pub use text::{TEXT_LIMIT, Txt, TxtErr};
-pub use value::{BIND_LIMIT, BindErr, Binds, Bytes, Image, Images, RowList, Stamps, Value, Values};
+pub use value::{
+    BIND_LIMIT, BindErr, Binds, Bytes, Image, Images, RowList, Stamps, TABLE_LIMIT, Value, Values,
+};
 pub use well_formed::{all_draws, rows_ascend};
 pub use writing::{write_value, write_values};

@@ -1,4 +1,4 @@
-ghost use Rattle.std.specs.Prelude.{◌≡◌, ◌++◌, ◌∷◌, ◌↔◌, ◌≤◌, [], length, slice_get, IfOk, OnOk, OnErr, IsNone, ◌==◌};
+ghost use Rattle.std.specs.Prelude.{◌≡◌, ◌++◌, ◌∷◌, ◌↔◌, ◌≤◌, [], length, slice_get, take, IfOk, OnOk, OnErr, IsNone, ◌==◌};
 ghost use Rattle.std.specs.Option.{option_copied};
 
 use crate::memory::{Copied, Memory};
@@ -88,6 +88,19 @@ impl List<u8> {
     {
         self.items.extend_from_slice(bytes)?;
         Ok(())
+    }
+
+    /// Cuts the bytes back to the first `len` where the writer behind them was refused, and hands on its answer. So
+    /// what is written in parts is appended whole or not at all: take `len` before the first part.
+    pub fn cut_back_on_err(&mut self, len: usize, written: Result<(), Memory>) -> Result<(), Memory>
+        ensures answer { result ≡ written }
+        ensures ok { OnOk written (self.new ≡ self.old) }
+        ensures err { OnErr written (self.new ≡ take len self.old) }
+    {
+        if written.is_err() {
+            self.items.truncate(len);
+        }
+        written
     }
 }
 

@@ -1,4 +1,4 @@
-ghost use Rattle.std.specs.Prelude.{◌≡◌, ◌+◌, ◌<◌, ◌≤◌, ◌↔◌, ◌++◌, ◌∷◌, [], length, slice_get, map, IfOk, IsOk, OnOk, OnErr, IsNone};
+ghost use Rattle.std.specs.Prelude.{◌≡◌, ◌+◌, ◌<◌, ◌≤◌, ◌↔◌, ◌++◌, ◌∷◌, [], length, slice_get, map, IfOk, IsOk, OnOk, OnErr, IsNone, ◌==◌};
 ghost use Rattle.std.specs.Option.{option_copied};
 
 use crate::list::List;
@@ -38,6 +38,13 @@ impl<T> Reserved<T> {
         ensures { result ≡ length self.now.items }
     {
         self.items.len()
+    }
+
+    /// Whether there is none.
+    pub fn is_empty(&self) -> bool
+        ensures { result ≡ (length self.now.items == 0) }
+    {
+        self.items.is_empty()
     }
 
     /// The item at a place from 0.

@@ -46,7 +46,8 @@ impl From<AllocError> for TxtErr {
 }
 
 impl Txt {
-    /// The text of these bytes.
+    /// The text of these bytes. `TooLong` where there are over 1,000, whatever they are; else `NotUtf8` where they are no
+    /// UTF-8 (RFC 3629: no overlong form, no surrogate, nothing above U+10FFFF); else `Memory` where memory is wanting.
     pub fn from_bytes(alloc: Global, bytes: &[u8]) -> Result<Txt, TxtErr>
         ensures ok { IfOk result (λ text. text ≡ bytes.now) }
         ensures too_long { IsErrOf result TxtErr.TooLong ↔ (1000 < length bytes.now) }

@@ -1,4 +1,4 @@
-ghost use Rattle.std.specs.Prelude.{◌≡◌, ◌++◌, ◌∷◌, ◌↔◌, ◌≤◌, [], length, OnOk, OnErr, IsErrOf, IsNone, slice_get};
+ghost use Rattle.std.specs.Prelude.{◌≡◌, ◌++◌, ◌∷◌, ◌↔◌, ◌≤◌, [], length, OnOk, OnErr, IsErrOf, IsNone, slice_get, ◌==◌};
 ghost use Rattle.std.specs.Option.{option_copied};
 ghost use Rattle.desk_values.specs.declared.value.BindErr.TheVariants.{Memory as OutOfMemory};
 
@@ -8,14 +8,15 @@ use crate::text::Txt;
 use std::alloc::Global;
 use std::marker::Model;
 
-/// A value of SQL: what a column, a bind or an item of a row holds.
+/// A value of SQL (ISO/IEC 9075-2): what a column, a bind or an item of a row holds. Rows and draws are ids: a client
+/// knows them only from what the server gave it, so that a replay has to put its own in their place.
 #[derive(Drop)]
 pub enum Value {
-    /// No value.
+    /// No value, which is no number and no text either.
     Null,
-    /// A whole number.
+    /// A whole number of 64 bits.
     Int(i64),
-    /// A text.
+    /// A text, the empty one too.
     Text(Txt),
     /// The number of a row, an id.
     Row(u64),
@@ -49,6 +50,9 @@ pub type Stamps = List<u32>;
 
 /// The greatest number of binds of a call.
 pub const BIND_LIMIT: usize = 16;
+
+/// The greatest number of tables. They are numbered from 0, so that no table has this number or a greater one.
+pub const TABLE_LIMIT: u32 = 32;
 
 /// The values of a call's binds, at most 16. Contracts see the list.
 #[derive(Drop)]
@@ -110,6 +114,13 @@ impl Binds {
         self.values.len()
     }
 
+    /// Whether there is none.
+    pub fn is_empty(&self) -> bool
+        ensures { result ≡ (length self.now == 0) }
+    {
+        self.values.is_empty()
+    }
+
     /// The bind at a place from 0.
     pub fn get(&self, i: usize) -> Option<&Value>
         ensures value { option_copied result ≡ slice_get self.now i }
@@ -126,7 +137,8 @@ impl Binds {
         self.values.as_slice()
     }
 
-    /// Adds a bind at the end. An `Err` changes nothing.
+    /// Adds a bind at the end. `Full` where there are 16 already, which is told before memory is asked for. An `Err`
+    /// changes nothing.
     pub fn push(&mut self, value: Value) -> Result<(), BindErr>
         ensures ok { OnOk result (self.new ≡ self.old ++ value ∷ []) }
         ensures full { IsErrOf result BindErr.Full ↔ (length self.old ≡ 16) }

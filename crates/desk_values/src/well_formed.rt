@@ -3,10 +3,10 @@
 ghost use Rattle.std.specs.Prelude.{◌≡◌, ◌↔◌, IsTrue};
 ghost use Rattle.std.specs.List.{AllByRecursion};
 ghost use Rattle.desk_values.specs.Good.{IsValue, IsValues, IsGoodRow, IsGoodImage, IsGoodDraw, IsGoodOutcome, Ascend};
-ghost use Rattle.desk_values.specs.Reading.{rows_ascend, all_draws};
+ghost use Rattle.desk_values.specs.Reading.{rows_ascend, is_draw, all_draws};
 
 use crate::call::Outcome;
-use crate::value::{Image, Value, Values};
+use crate::value::{Image, TABLE_LIMIT, Value, Values};
 
 /// Whether each row is below the next.
 pub fn rows_ascend(images: &[Image]) -> bool
@@ -37,19 +37,27 @@ pub fn all_draws(values: &[Value]) -> bool
     ensures value { result ≡ all_draws values.now }
     ensures fact { IsTrue result ↔ AllByRecursion IsGoodDraw values.now }
 {
-    know_values(values);
-    are_draws(values)
-}
-
-fn are_draws(values: &[Value]) -> bool
-    ensures { result ≡ all_draws values.now }
-{
     for value in values {
-        let Value::Draw(_, _) = value else {
+        if !is_draw(value) {
             return false;
-        };
+        }
     }
     true
+}
+
+fn is_draw(value: &Value) -> bool
+    ensures value { result ≡ is_draw value.now }
+    ensures fact { IsTrue result ↔ IsGoodDraw value.now }
+{
+    match value {
+        Value::Draw(sequence, drawn) => {
+            // Read, so that they are known to be within the limits of their types.
+            let _sequence = *sequence;
+            let _drawn = *drawn;
+            true
+        }
+        _ => false,
+    }
 }
 
 // Reads a value, so that its parts are known to be within the limits of their types.
@@ -104,7 +112,7 @@ fn is_good_image(image: &Image) -> bool
     ensures { IsTrue result ↔ IsGoodImage image.now }
 {
     let _row = image.row;
-    if image.table > 31 {
+    if image.table >= TABLE_LIMIT {
         return false;
     }
     match &image.left {

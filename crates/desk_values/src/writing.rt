@@ -2,11 +2,11 @@
 
 ghost use Rattle.std.specs.Prelude.{◌≡◌, ◌++◌, ◌∷◌, map, OnOk, OnErr};
 ghost use Rattle.std.specs.List.{flat_map, join_with_byte};
+ghost use Rattle.desk_values.specs.Kept.{IsKept};
 ghost use Rattle.desk_values.specs.Text.{value_text, values_text};
 
 use crate::escape::push_text;
 use crate::fields::{append_i64, append_u64};
-use crate::list::List;
 use crate::memory::Memory;
 use crate::value::{Bytes, Value};
 
@@ -15,10 +15,9 @@ pub fn write_value(v: &Value, to: &mut Bytes) -> Result<(), Memory>
     ensures ok { OnOk result (to.new ≡ to.old ++ value_text v.now) }
     ensures err { OnErr result (to.new ≡ to.old) }
 {
-    // The text is made apart, so that a refusal leaves `to` as it was.
-    let mut written = List::new(to.allocator());
-    push_value(v, &mut written)?;
-    to.append(written.as_slice())
+    let len = to.len();
+    let written = push_value(v, to);
+    to.cut_back_on_err(len, written)
 }
 
 /// Appends the one text of a list of values. An `Err` changes nothing.
@@ -26,13 +25,15 @@ pub fn write_values(values: &[Value], to: &mut Bytes) -> Result<(), Memory>
     ensures ok { OnOk result (to.new ≡ to.old ++ values_text values.now) }
     ensures err { OnErr result (to.new ≡ to.old) }
 {
-    let mut written = List::new(to.allocator());
-    push_values(values, &mut written)?;
-    to.append(written.as_slice())
+    let len = to.len();
+    let written = push_values(values, to);
+    to.cut_back_on_err(len, written)
 }
 
+#[tactic(auto, using(crate::proofs::Keeping::kept_further))]
 fn push_value(value: &Value, to: &mut Bytes) -> Result<(), Memory>
-    ensures { OnOk result (to.new ≡ to.old ++ value_text value.now) }
+    ensures ok { OnOk result (to.new ≡ to.old ++ value_text value.now) }
+    ensures kept { OnErr result (IsKept to.old to.new) }
 {
     match value {
         Value::Null => to.push(b'-'),
@@ -54,8 +55,10 @@ fn push_value(value: &Value, to: &mut Bytes) -> Result<(), Memory>
     }
 }
 
+#[tactic(auto, using(crate::proofs::Keeping::kept_further))]
 fn push_values(values: &[Value], to: &mut Bytes) -> Result<(), Memory>
-    ensures { OnOk result (to.new ≡ to.old ++ values_text values.now) }
+    ensures ok { OnOk result (to.new ≡ to.old ++ values_text values.now) }
+    ensures kept { OnErr result (IsKept to.old to.new) }
 {
     to.push(b'[')?;
     push_items(values, to)?;
@@ -63,8 +66,10 @@ fn push_values(values: &[Value], to: &mut Bytes) -> Result<(), Memory>
 }
 
 // The values with a comma between.
+#[tactic(auto, using(crate::proofs::Keeping::kept_further))]
 fn push_items(values: &[Value], to: &mut Bytes) -> Result<(), Memory>
-    ensures { OnOk result (to.new ≡ to.old ++ join_with_byte 44 (map value_text values.now)) }
+    ensures ok { OnOk result (to.new ≡ to.old ++ join_with_byte 44 (map value_text values.now)) }
+    ensures kept { OnErr result (IsKept to.old to.new) }
 {
     let [first, others @ ..] = values else {
         return Ok(());
@@ -75,8 +80,10 @@ fn push_items(values: &[Value], to: &mut Bytes) -> Result<(), Memory>
 }
 
 // Each value behind a comma.
+#[tactic(auto, using(crate::proofs::Keeping::kept_further))]
 fn push_more(values: &[Value], to: &mut Bytes) -> Result<(), Memory>
-    ensures { OnOk result (to.new ≡ to.old ++ flat_map (λ value. 44 ∷ value_text value) values.now) }
+    ensures ok { OnOk result (to.new ≡ to.old ++ flat_map (λ value. 44 ∷ value_text value) values.now) }
+    ensures kept { OnErr result (IsKept to.old to.new) }
 {
     for value in values {
         to.push(b',')?;

@@ -1,12 +1,12 @@
 -- How a command ends, from what its work came to and what was printed.
-use Rattle.std.proofs.Common.{◌≡◌, ◌≢◌, ◌≤◌, ◌⊎◌, inl, inr, ℕ, List, arith, Option, Some, None, Result, Ok, Err, refl, sym, ap, subst, ◌∙◌}
+use Rattle.std.proofs.Common.{◌≡◌, ◌≤◌, ◌⊎◌, inl, inr, ℕ, List, arith, Option, Some, None, Result, Ok, Err, refl, sym, ap, subst, ◌∙◌}
 use Rattle.std.specs.Prelude.{IsSomeAnd, IsErrOf}
 use Rattle.desk_files.specs.Outside.{FileMap, Told, HasRisen}
 use Rattle.replay_cli.specs.declared.failure.Failure.{Failure}
 use Rattle.replay_cli.specs.declared.failure.Failure.TheVariants.{BadCommand, NotYet, BadCapture, Missing, DeviceFault, OutOfMemory}
 use Rattle.replay_cli.specs.Folder.{IsOutside}
 use Rattle.replay_cli.specs.Lines.{failure_status, failure_line, replayed_line}
-use Rattle.replay_cli.specs.Command.{RunSays, IsNoCommand, WrittenWhole, WrittenInPart, WrittenSoFar}
+use Rattle.replay_cli.specs.Command.{RunSays, WrittenWhole, WrittenInPart, WrittenSoFar}
 use Rattle.replay_cli.specs.Status.{IsReason, IsGoodCapture, IsBadCapture, IsFileNotYet, IsFileMissing, Prints, EndsWith, Reports, status_of, line_of}
 use Rattle.replay_cli.proofs.Tested.{told}
 use Rattle.replay_cli.proofs.Loading.{some_and}
@@ -160,6 +160,12 @@ six_prints (Ok count) result b a fb fa (inl own) is = absurd (omega (arith, own.
 six_prints (Err other) result b a fb fa (inl own) is = subst (λ (f : Failure). Prints (failure_line f) b a) (six other (sym own.0 ∙ is)) own.1
 six_prints done result b a fb fa (inr (inl short)) is = short.1
 six_prints done result b a fb fa (inr (inr fault)) is = absurd (omega (arith, fault.0, is))
+
+-- want of memory is not told of a fault
+pub six_is_no_fault : (done : Result ℕ Failure) (result : ℕ) (b a : Option (List ℕ)) (fb fa : ℕ) → Reports done result b a fb fa → result ≡ 6 → ¬ IsErrOf done DeviceFault
+six_is_no_fault done result b a fb fa (inl own) is = λ fault. omega (arith, own.0, is, ap status_of fault)
+six_is_no_fault done result b a fb fa (inr (inl short)) is = short.2
+six_is_no_fault done result b a fb fa (inr (inr fault)) is = absurd (omega (arith, fault.0, is))
 
 -- ---- what is told
 

@@ -1,14 +1,10 @@
 -- What loading and writing files leaves, step by step.
-use Rattle.std.proofs.Common.{◌≡◌, ℕ, List, Option, Some, None, Result, Ok, Err, refl, sym, ap, subst, ◌∙◌, inl, inr}
-use Rattle.std.specs.Prelude.{IfSome, IsSomeAnd}
+use Rattle.std.proofs.Common.{◌≡◌, ℕ, List, Option, Some, None, Ok, Err, refl, sym, subst, ◌∙◌, inl, inr}
+use Rattle.std.specs.Prelude.{IsSomeAnd}
 use Rattle.std.specs.FinMap.{get, insert}
-use Rattle.desk_values.specs.Room.{Room}
-use Rattle.desk_values.specs.declared.capture.Captured.{Captured}
 use Rattle.desk_files.specs.Outside.{FileMap, Told, KeepsOthers}
-use Rattle.capture_format.specs.declared.start.StartFile.{StartFile}
-use Rattle.replay_cli.specs.declared.failure.Failure.{Failure}
-use Rattle.replay_cli.specs.declared.failure.Failure.TheVariants.{BadCommand, NotYet, BadCapture, Missing, DeviceFault, OutOfMemory}
-use Rattle.replay_cli.specs.Folder.{FileSays, ReadsBytes, Holds, HoldsNone, Written, with_journal, with_report, with_all, AfterWrites, CutShort}
+use Rattle.replay_cli.specs.declared.failure.Failure.TheVariants.{NotYet}
+use Rattle.replay_cli.specs.Folder.{FileSays, ReadsBytes, Written, with_journal, with_report, AfterWrites, CutShort}
 use Rattle.replay_cli.specs.Words.{journal_name, report_name, tables_name}
 use Rattle.replay_cli.proofs.Tested.{told}
 

@@ -1,21 +1,20 @@
 -- The history of calls that are started and answered one after the other.
-use Rattle.std.proofs.Common.{◌≡◌, ℕ, zero, suc, ◌+◌, ◌-◌, ◌*◌, ◌/◌, ◌<◌, ◌≤◌, Bool, true, false, cond, eqb, List, [], ◌∷◌, ◌++◌, length, take, drop, Option, Some, None, refl, sym, ap, subst, ◌∙◌, arith, append_assoc}
+use Rattle.std.proofs.Common.{◌≡◌, ℕ, zero, suc, ◌+◌, ◌-◌, ◌<◌, ◌≤◌, Bool, true, false, cond, eqb, List, [], ◌∷◌, ◌++◌, length, take, drop, Some, refl, sym, ap, subst, ◌∙◌, arith, append_assoc}
 use Rattle.std.specs.Prelude.{slice_get}
 use Rattle.std.proofs.lemmas.List.{append-nil, drop_all, take_all}
 use Rattle.std.proofs.lemmas.Option.{slice_get_within, slice_get-get_or}
 use Rattle.std.proofs.Common.{get_or}
 use Rattle.desk_values.specs.declared.value.Image.{Image}
-use Rattle.desk_values.specs.declared.call.Call.{Call}
 use Rattle.desk_values.specs.declared.call.Reply.{Reply}
 use Rattle.desk_values.specs.declared.capture.Captured.{Captured}
 use Rattle.desk_values.specs.declared.capture.Event.{Event}
 use Rattle.desk_values.specs.declared.capture.Event.TheVariants.{Start, Answer}
 use Rattle.desk_schema.specs.Start.{StartView}
-use Rattle.replay_history.specs.Gap.{IsCallAt, IsJustBefore, IsGap, IsPause, pause_of}
-use Rattle.replay_history.specs.History.{StartsAt, AnswersAt, IsAnsweredBefore, IsAnswered, IsStartedBefore, IsLegal, IsTruthful, IsComplete}
+use Rattle.replay_history.specs.Gap.{IsCallAt, IsJustBefore, IsPause, pause_of}
+use Rattle.replay_history.specs.History.{StartsAt, AnswersAt, IsAnsweredBefore, IsAnswered, IsLegalHistory, IsTruthfulHistory}
 use Rattle.replay_history.specs.Capture.{IsRun, IsLegalCapture}
 use Rattle.replay_cli.specs.Machine.{Answers, Database, Gives, IsOnly, committed, opening}
-use Rattle.replay_cli.specs.OneSession.{ArePlaced, IsPlaced, Executes, IsReplay, AnswersAsCaptured, in_order}
+use Rattle.replay_cli.specs.OneSession.{ArePlaced, Executes, IsReplay, in_order}
 use Rattle.replay_cli.proofs.Steps.{some, some_is}
 use Rattle.replay_cli.proofs.Runs.{IsRun-more, dropped}
 use Rattle.replay_cli.proofs.Passing.{Gives-next_row, same_call, before_is}
@@ -128,7 +127,7 @@ pause_at calls j call placed at =
     ap (λ (n : ℕ). call.began - ended_before 0 calls n) (sym next) ∙ ap (λ (n : ℕ). call.began - n) (ended_before_is 0 calls i before bt) in
     (gap, (first, later), sym (ap (λ (p : ℕ). pause_of gap p) (same_percent (eqb call.place 0) 100) ∙ hundred gap))
 
-ordered_is_legal : (calls : List Captured) → ArePlaced calls → IsLegal calls in_order (IsPause calls 100 100) (ordered 0 0 calls)
+ordered_is_legal : (calls : List Captured) → ArePlaced calls → IsLegalHistory calls in_order (IsPause calls 100 100) (ordered 0 0 calls)
 ordered_is_legal calls placed = record {
   start_is_call = λ i k pause e.
       let s = start_at 0 0 calls i k pause e in
@@ -170,7 +169,7 @@ first_dropped (a ∷ all) zero call calls e = (ap some (head_is call a calls all
 first_dropped (a ∷ all) (suc k) call calls e = first_dropped all k call calls e
 
 -- the fold over the answers is the run over the calls
-ordered_is_truthful : (all : List Captured) (k ended : ℕ) (calls : List Captured) (first last : Database) → calls ≡ drop k all → IsRun Answers first calls last → IsTruthful (Executes all) first (ordered k ended calls) last
+ordered_is_truthful : (all : List Captured) (k ended : ℕ) (calls : List Captured) (first last : Database) → calls ≡ drop k all → IsRun Answers first calls last → IsTruthfulHistory (Executes all) first (ordered k ended calls) last
 ordered_is_truthful all k ended [] first last e run = run
 ordered_is_truthful all k ended (call ∷ calls) first last e run =
     let at = first_dropped all k call calls e in

@@ -1,6 +1,6 @@
 -- The loop of the test of a capture.
-use Rattle.std.proofs.Common.{◌≡◌, ℕ, zero, suc, ◌+◌, ◌<◌, ◌≤◌, ◌^◌, Bool, true, false, cond, List, [], ◌∷◌, ◌++◌, length, take, drop, get_or, Option, Some, None, refl, sym, ap, subst, ◌∙◌, inl, inr, arith}
-use Rattle.std.specs.Prelude.{slice_get, count_by, nat_eq}
+use Rattle.std.proofs.Common.{◌≡◌, ℕ, zero, suc, ◌+◌, ◌<◌, ◌≤◌, Bool, true, false, cond, List, [], ◌∷◌, length, take, get_or, refl, sym, ap, subst, ◌∙◌, inl, inr, arith}
+use Rattle.std.specs.Prelude.{nat_eq}
 use Rattle.std.specs.List.{AllByRecursion}
 use Rattle.std.proofs.lemmas.List.{take_all}
 use Rattle.std.proofs.lemmas.List.Sums.{count_by_more_yes, count_by_more_no}
@@ -16,10 +16,10 @@ use Rattle.capture_format.specs.declared.simple.Simple.{Simple}
 use Rattle.capture_format.specs.declared.simple.Simple.TheVariants.{Insert, Commit}
 use Rattle.capture_format.specs.Supported.{IsSupportedCall, IsSupportedCaptured, AreSupportedCalls}
 use Rattle.replay_history.specs.Gap.{IsCallAt, IsJustBefore}
-use Rattle.replay_history.specs.Capture.{IsRun, IsKnown, IsLegalCapture, FitsIn, binds_of, commits, commits_before, number_of, session_calls_before}
+use Rattle.replay_history.specs.Capture.{IsRun, IsKnown, IsLegalCapture, FitsIn, binds_of, commits, commits_before, session_calls_before}
 use Rattle.replay_cli.specs.Machine.{Answers, Database, Gives, IsOnly, StatementGives, opening}
 use Rattle.replay_cli.specs.OneSession.{ArePlaced, FitsAfter}
-use Rattle.replay_cli.proofs.Steps.{some, some_is}
+use Rattle.replay_cli.proofs.Steps.{some_is}
 use Rattle.replay_cli.proofs.Runs.{IsRun-more, IsRun-less, IsRun-split, dropped}
 
 -- the first calls passed the test, and the machine, the count and the last end are where they leave them

@@ -1,7 +1,5 @@
 -- At most one reason holds, and none where the capture is good.
-use Rattle.std.proofs.Common.{◌≡◌, ◌<◌, ◌≤◌, ◌⊎◌, inl, inr, ℕ, List, [], ◌∷◌, length, arith, Option, Some, None, Result, Ok, Err, refl, sym, ap, subst, ◌∙◌}
-use Rattle.std.specs.Prelude.{codes}
-use Rattle.std.specs.FinMap.{get}
+use Rattle.std.proofs.Common.{◌≡◌, ◌<◌, ◌⊎◌, inl, inr, ℕ, List, length, arith, Option, Some, None, refl, sym, ap, subst, ◌∙◌}
 use Rattle.std.proofs.lemmas.Option.{same_Some}
 use Rattle.desk_values.specs.declared.capture.Captured.{Captured}
 use Rattle.desk_files.specs.Outside.{FileMap}
@@ -9,8 +7,9 @@ use Rattle.capture_format.specs.declared.start.StartFile.{StartFile}
 use Rattle.capture_format.proofs.Unique.{one_start_file, one_session_file}
 use Rattle.replay_cli.specs.declared.failure.Failure.{Failure}
 use Rattle.replay_cli.specs.declared.failure.Failure.TheVariants.{BadCommand, NotYet, BadCapture, Missing, DeviceFault, OutOfMemory}
-use Rattle.replay_cli.specs.Words.{IsRunOf, start_name, session_name}
-use Rattle.replay_cli.specs.Folder.{ReadsStart, ReadsCalls, Holds, HoldsNone, IsLegal}
+use Rattle.replay_cli.specs.OneSession.{IsLegalFrom}
+use Rattle.replay_cli.specs.Words.{IsRunOf}
+use Rattle.replay_cli.specs.Folder.{ReadsStart, ReadsCalls, Holds, HoldsNone}
 use Rattle.replay_cli.specs.Command.{IsCapture, IsMissing, IsNotYet}
 use Rattle.replay_cli.specs.Status.{IsReason, IsGoodCapture}
 
@@ -110,7 +109,7 @@ no_reason words files BadCapture good is =
     let other = at words good.0 good.1 is.0 is.1 (λ c. IsCapture files c is.2 is.3) good.4 is.4 is.5 in
     let file = one_file files good.0 good.2 is.2 good.3 is.3 good.5 other in
     let calls = one_list files good.0 good.2 is.2 good.3 is.3 good.5 other in
-    is.6 (subst (λ (f : StartFile). IsLegal f is.3) file (subst (λ (cs : List Captured). IsLegal good.2 cs) calls good.6))
+    is.6 (subst (λ (f : StartFile). IsLegalFrom f.start is.3) file (subst (λ (cs : List Captured). IsLegalFrom good.2.start cs) calls good.6))
 no_reason words files (Missing name) good is = there_all files good.0 name good.2 good.3 (at words good.0 good.1 is.0 is.1 (λ c. IsMissing files c name) good.4 is.2 is.3) good.5
 no_reason words files DeviceFault good is = is
 no_reason words files OutOfMemory good is = is

@@ -1,6 +1,6 @@
 -- What the command answers, from what its steps answer.
-use Rattle.std.proofs.Common.{◌≡◌, ℕ, List, length, Option, Some, None, Result, Ok, Err, refl, sym, ap, subst, ◌∙◌, inl, inr, ◌⊎◌}
-use Rattle.std.specs.Prelude.{IfSome, IsSomeAnd}
+use Rattle.std.proofs.Common.{◌≡◌, ℕ, List, length, Option, Some, Err, refl, sym, ap, subst, ◌∙◌, inl, inr, ◌⊎◌}
+use Rattle.std.specs.Prelude.{IsSomeAnd}
 use Rattle.std.specs.FinMap.{get}
 use Rattle.desk_values.specs.Room.{Room}
 use Rattle.desk_values.specs.declared.value.Image.{Image}
@@ -10,10 +10,10 @@ use Rattle.desk_files.specs.Outside.{FileMap, Told}
 use Rattle.capture_format.specs.declared.start.StartFile.{StartFile}
 use Rattle.replay_cli.specs.declared.failure.Failure.{Failure}
 use Rattle.replay_cli.specs.declared.failure.Failure.TheVariants.{BadCommand, NotYet, BadCapture, Missing, DeviceFault, OutOfMemory}
-use Rattle.replay_cli.specs.OneSession.{IsReplay}
+use Rattle.replay_cli.specs.OneSession.{IsLegalFrom, IsReplay}
 use Rattle.replay_cli.specs.Words.{IsRunOf, start_name, session_name}
-use Rattle.replay_cli.specs.Folder.{FileSays, ReadsStart, ReadsCalls, Holds, HoldsNone, IsLegal, IsOutside, ReplaySays, Written, texts_of, with_all, AfterWrites, CutShort}
-use Rattle.replay_cli.specs.Command.{IsCapture, IsReplayed, LeftWritten, RunSays, WrittenWhole, WrittenInPart, WrittenSoFar}
+use Rattle.replay_cli.specs.Folder.{FileSays, ReadsStart, ReadsCalls, Holds, HoldsNone, IsOutside, Written, texts_of, with_all}
+use Rattle.replay_cli.specs.Command.{IsCapture, LeftWritten, RunSays, WrittenWhole, WrittenInPart, WrittenSoFar}
 use Rattle.replay_cli.proofs.Tested.{told}
 use Rattle.replay_cli.proofs.Loading.{some_and}
 
@@ -62,12 +62,12 @@ capture_told c0 c1 capture file calls start same session = told c0 _ _ (λ befor
 
 pub all_says : (c0 c1 c2 c3 : Option FileMap) (words : List (List ℕ)) (capture out : List ℕ) (file : StartFile) (calls : Room Captured) (items : List Captured) (history : List Event) (tables : List Image) (count : ℕ) (written : Written)
     → IsRunOf words capture out → Told c0 (λ before. Holds ReadsStart (get before (start_name capture)) file) → c1 ≡ c0 → Told c1 (λ before. Holds ReadsRoom (get before (session_name capture)) calls) → c2 ≡ c1
-    → items ≡ calls.items → IsLegal file items × IsReplay file.start items history tables → count ≡ length calls.items → written ≡ texts_of count history tables
+    → items ≡ calls.items → IsLegalFrom file.start items × IsReplay file.start items history tables → count ≡ length calls.items → written ≡ texts_of count history tables
     → Told c2 (λ before. c3 ≡ Some (with_all out written before)) → Told c0 (λ before. IsSomeAnd c3 (λ after. WrittenWhole words count before after))
 all_says c0 c1 c2 c3 words capture out file calls items history tables count written words_are start same session last items_are replayed count_is written_is after =
     told c0 _ _ (λ before e capture_is.
     let c3_is : c3 ≡ Some (with_all out written before) = subst (λ (c : Option FileMap). Told c (λ files. c3 ≡ Some (with_all out written files))) (last ∙ same ∙ e) after in
-    let is = subst (λ (cs : List Captured). IsLegal file cs × IsReplay file.start cs history tables) items_are replayed in
+    let is = subst (λ (cs : List Captured). IsLegalFrom file.start cs × IsReplay file.start cs history tables) items_are replayed in
     subst (λ c. IsSomeAnd c (λ files. WrittenWhole words count before files)) (sym c3_is) (record {
       capture = capture;
       out = out;
@@ -83,12 +83,12 @@ all_says c0 c1 c2 c3 words capture out file calls items history tables count wri
 
 pub part_says : (left : List ℕ → Written → FileMap → FileMap → Type 0) (c0 c1 c2 c3 : Option FileMap) (words : List (List ℕ)) (capture out : List ℕ) (file : StartFile) (calls : Room Captured) (items : List Captured) (history : List Event) (tables : List Image) (count : ℕ) (written : Written)
     → IsRunOf words capture out → Told c0 (λ before. Holds ReadsStart (get before (start_name capture)) file) → c1 ≡ c0 → Told c1 (λ before. Holds ReadsRoom (get before (session_name capture)) calls) → c2 ≡ c1
-    → items ≡ calls.items → IsLegal file items × IsReplay file.start items history tables → count ≡ length calls.items → written ≡ texts_of count history tables
+    → items ≡ calls.items → IsLegalFrom file.start items × IsReplay file.start items history tables → count ≡ length calls.items → written ≡ texts_of count history tables
     → Told c2 (λ before. IsSomeAnd c3 (left out written before)) → Told c0 (λ before. IsSomeAnd c3 (λ after. LeftWritten left words before after))
 part_says left c0 c1 c2 c3 words capture out file calls items history tables count written words_are start same session last items_are replayed count_is written_is after =
     told c0 _ _ (λ before e capture_is.
     let c3_is : IsSomeAnd c3 (left out written before) = subst (λ (c : Option FileMap). Told c (λ files. IsSomeAnd c3 (left out written files))) (last ∙ same ∙ e) after in
-    let is = subst (λ (cs : List Captured). IsLegal file cs × IsReplay file.start cs history tables) items_are replayed in
+    let is = subst (λ (cs : List Captured). IsLegalFrom file.start cs × IsReplay file.start cs history tables) items_are replayed in
     some_and c3 _ _ (λ files is_left. record {
       capture = capture;
       out = out;

@@ -1,5 +1,5 @@
 -- What a valid start and a session file say.
-use Rattle.std.proofs.Common.{◌≡◌, ℕ, zero, suc, ◌+◌, ◌<◌, ◌≤◌, List, [], ◌∷◌, ◌++◌, length, Option, Some, None, refl, sym, ap, subst, ◌∙◌, arith, append_assoc}
+use Rattle.std.proofs.Common.{◌≡◌, ℕ, zero, suc, ◌+◌, ◌≤◌, List, [], ◌∷◌, ◌++◌, Some, sym, ap, subst, ◌∙◌, arith, append_assoc}
 use Rattle.std.specs.Prelude.{slice_get}
 use Rattle.std.proofs.lemmas.List.{append-nil}
 use Rattle.desk_values.specs.declared.capture.Captured.{Captured}
@@ -12,7 +12,7 @@ use Rattle.capture_format.specs.declared.session_line.SessionLine.TheVariants.{H
 use Rattle.capture_format.specs.SessionFile.{SpellsSession, calls_from}
 use Rattle.replay_history.specs.Gap.{IsCallAt}
 use Rattle.replay_cli.specs.OneSession.{IsPlaced, ArePlaced}
-use Rattle.replay_cli.proofs.Steps.{some, some_is}
+use Rattle.replay_cli.proofs.Steps.{some_is}
 
 -- the last line may follow those before it
 last_follows : (before lines : List StartLine) (line : StartLine) → AreLinesAfter before (lines ++ line ∷ []) → MayFollow (before ++ lines) line

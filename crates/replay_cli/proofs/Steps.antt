@@ -1,16 +1,15 @@
 -- What a step answers, from what the statement answers.
-use Rattle.std.proofs.Common.{◌≡◌, ℕ, List, Option, Some, None, Result, Ok, Err, refl, sym, ap, subst, ◌∙◌}
+use Rattle.std.proofs.Common.{◌≡◌, ℕ, List, Option, Some, None, Result, Ok, Err, sym, ap, subst, ◌∙◌}
 use Rattle.desk_values.specs.declared.memory.Memory.{Memory}
 use Rattle.std.specs.Prelude.{IfOk, IfSome}
 use Rattle.desk_values.specs.declared.value.Value.{Value}
 use Rattle.desk_schema.specs.declared.schema.Rights.{Rights}
-use Rattle.desk_schema.specs.Schema.{rights_of, place_ignoring_case, table_names}
 use Rattle.desk_values.specs.declared.call.Call.TheVariants.{Connect, Sql}
 use Rattle.desk_values.specs.declared.call.Reply.{Reply}
 use Rattle.capture_format.specs.declared.simple.Simple.{Simple}
 use Rattle.capture_format.specs.declared.simple.Simple.TheVariants.{Insert, Commit}
 use Rattle.capture_format.specs.SimpleStatement.{IsSimple, simple_text}
-use Rattle.replay_cli.specs.Machine.{Database, Gives, connected_reply, StatementGives, StepAnswers, IsOnly, count_reply, inserted}
+use Rattle.replay_cli.specs.Machine.{Database, Gives, StatementGives, StepAnswers, IsOnly, inserted}
 
 -- a call with a text answers as the one statement that the text spells
 pub StepAnswers-sql : (old new : Database) (text : List ℕ) (binds : List Value) (simple : Simple) (answer : Result (Option Reply) Memory) → IsSimple simple → text ≡ simple_text simple

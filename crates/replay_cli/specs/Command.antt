@@ -1,5 +1,5 @@
 -- What the command comes to, by its words and the files alone.
-use Rattle.std.specs.Prelude.{◌≡◌, ℕ, ◌⊎◌, List, length, Option, None, Some, Result, Ok, Err}
+use Rattle.std.specs.Prelude.{◌≡◌, ℕ, ◌⊎◌, List, length, None, Result, Ok, Err}
 use Rattle.std.specs.FinMap.{get}
 use Rattle.desk_values.specs.declared.value.Image.{Image}
 use Rattle.desk_values.specs.declared.capture.Captured.{Captured}
@@ -8,9 +8,9 @@ use Rattle.desk_files.specs.Outside.{FileMap}
 use Rattle.capture_format.specs.declared.start.StartFile.{StartFile}
 use Rattle.replay_cli.specs.declared.failure.Failure.{Failure}
 use Rattle.replay_cli.specs.declared.failure.Failure.TheVariants.{BadCommand, NotYet, BadCapture, Missing, DeviceFault, OutOfMemory}
-use Rattle.replay_cli.specs.OneSession.{IsReplay}
+use Rattle.replay_cli.specs.OneSession.{IsLegalFrom, IsReplay}
 use Rattle.replay_cli.specs.Words.{IsRunOf, start_name, session_name}
-use Rattle.replay_cli.specs.Folder.{ReadsStart, ReadsCalls, Holds, HoldsNone, IsLegal, Written, texts_of, with_all, AfterWrites, CutShort}
+use Rattle.replay_cli.specs.Folder.{ReadsStart, ReadsCalls, Holds, HoldsNone, Written, texts_of, with_all, AfterWrites, CutShort}
 
 -- the words are no command
 abbrev pub IsNoCommand : List (List ℕ) → Type 0
@@ -36,7 +36,7 @@ IsNotYet files capture name =
 -- a legal capture, and a replay of it
 pub record IsReplayed (files : FileMap) (capture : List ℕ) (file : StartFile) (calls : List Captured) (history : List Event) (tables : List Image) : Type 0 where
   pub capture_is : IsCapture files capture file calls
-  pub legal : IsLegal file calls
+  pub legal : IsLegalFrom file.start calls
   pub replay : IsReplay file.start calls history tables
 
 -- the words are `run`, the capture was replayed, and this is left of the writing of its files
@@ -77,7 +77,7 @@ abbrev pub RunSays : List (List ℕ) → FileMap → FileMap → Result ℕ Fail
 RunSays words before after (Ok count) = WrittenWhole words count before after
 RunSays words before after (Err BadCommand) = IsNoCommand words × (after ≡ before)
 RunSays words before after (Err (NotYet name)) = ((capture : List ℕ) × (out : List ℕ) × IsRunOf words capture out × IsNotYet before capture name) × (after ≡ before)
-RunSays words before after (Err BadCapture) = ((capture : List ℕ) × (out : List ℕ) × (file : StartFile) × (calls : List Captured) × IsRunOf words capture out × IsCapture before capture file calls × ¬ IsLegal file calls) × (after ≡ before)
+RunSays words before after (Err BadCapture) = ((capture : List ℕ) × (out : List ℕ) × (file : StartFile) × (calls : List Captured) × IsRunOf words capture out × IsCapture before capture file calls × ¬ IsLegalFrom file.start calls) × (after ≡ before)
 RunSays words before after (Err (Missing name)) = ((capture : List ℕ) × (out : List ℕ) × IsRunOf words capture out × IsMissing before capture name) × (after ≡ before)
 RunSays words before after (Err DeviceFault) = (after ≡ before) ⊎ WrittenInPart words before after
 RunSays words before after (Err OutOfMemory) = (after ≡ before) ⊎ WrittenSoFar words before after

@@ -1,7 +1,6 @@
 -- What the files of a capture are, as the files tell it, and what a replay writes.
-use Rattle.std.specs.Prelude.{◌≡◌, ℕ, ◌<◌, ◌≤◌, ◌⊎◌, List, [], ◌∷◌, length, Option, None, Some, IsSomeAnd, Result, Ok, Err, ⊤}
-use Rattle.std.specs.FinMap.{get, insert}
-use Rattle.desk_values.specs.Room.{Room}
+use Rattle.std.specs.Prelude.{◌≡◌, ℕ, ◌<◌, ◌≤◌, ◌⊎◌, List, length, Option, None, Some, Result, Ok, Err, ⊤}
+use Rattle.std.specs.FinMap.{insert}
 use Rattle.desk_values.specs.declared.value.Image.{Image}
 use Rattle.desk_values.specs.declared.capture.Captured.{Captured}
 use Rattle.desk_values.specs.declared.capture.Event.{Event}
@@ -11,15 +10,13 @@ use Rattle.capture_format.specs.StartFile.{SpellsStart}
 use Rattle.capture_format.specs.SessionFile.{SpellsSession}
 use Rattle.capture_format.specs.Supported.{IsSupportedStart, AreSupportedCalls}
 use Rattle.replay_history.specs.declared.mode.Mode.TheVariants.{Order}
-use Rattle.replay_history.specs.declared.report.Report.{Report}
-use Rattle.replay_history.specs.Capture.{IsLegalCapture}
+use Rattle.replay_history.specs.Report.{clean_report}
 use Rattle.replay_history.specs.Texts.{journal_text, report_text, tables_text}
 use Rattle.replay_cli.specs.declared.failure.Failure.{Failure}
 use Rattle.replay_cli.specs.declared.failure.Failure.TheVariants.{BadCommand, NotYet, BadCapture, Missing, DeviceFault, OutOfMemory}
 use Rattle.replay_cli.specs.declared.replay.Replayed.{Replayed}
 use Rattle.desk_schema.specs.Start.{StartView}
-use Rattle.replay_cli.specs.OneSession.{IsReplay}
-use Rattle.replay_cli.specs.Machine.{Answers, opening}
+use Rattle.replay_cli.specs.OneSession.{IsLegalFrom, IsReplay}
 use Rattle.replay_cli.specs.Words.{journal_name, report_name, tables_name}
 
 -- the greatest number of bytes of a file that is read
@@ -63,14 +60,6 @@ FileSays reads name file (Err BadCapture) = ⊥
 abbrev pub ReadsBytes : List ℕ → List ℕ → Type 0
 ReadsBytes bytes value = value ≡ bytes
 
--- the calls are a legal capture from this start
-abbrev pub IsLegal : StartFile → List Captured → Type 0
-IsLegal file calls = IsLegalCapture file.start.rows Answers (opening file.start) calls
-
--- the report of a replay in which each call was answered as it was captured
-abbrev pub clean_report : ℕ → Report
-clean_report calls = record { calls = calls; counts = calls ∷ 0 ∷ 0 ∷ 0 ∷ 0 ∷ 0 ∷ 0 ∷ 0 ∷ 0 ∷ []; lines = [] }
-
 -- the three texts of a replay
 pub record Written : Type 0 where
   pub journal : List ℕ
@@ -112,8 +101,8 @@ IsOutside (Missing name) = ⊥
 
 -- what replaying these calls answers, if they are legal
 abbrev pub ReplaySays : StartView → List Captured → Result Replayed Failure → Type 0
-ReplaySays start calls (Ok replayed) = IsLegalCapture start.rows Answers (opening start) calls × IsReplay start calls replayed.history.items replayed.tables
-ReplaySays start calls (Err BadCapture) = ¬ IsLegalCapture start.rows Answers (opening start) calls
+ReplaySays start calls (Ok replayed) = IsLegalFrom start calls × IsReplay start calls replayed.history.items replayed.tables
+ReplaySays start calls (Err BadCapture) = ¬ IsLegalFrom start calls
 ReplaySays start calls (Err OutOfMemory) = ⊤
 ReplaySays start calls (Err DeviceFault) = ⊥
 ReplaySays start calls (Err BadCommand) = ⊥

@@ -6,9 +6,9 @@ use Rattle.desk_values.specs.declared.call.Reply.{Reply}
 use Rattle.desk_values.specs.declared.capture.Event.{Event}
 use Rattle.desk_schema.specs.Start.{StartView}
 use Rattle.replay_history.specs.Gap.{IsCallAt, IsPause}
-use Rattle.replay_history.specs.History.{AnswersAt, IsComplete}
-use Rattle.replay_cli.specs.Machine.{Database, Gives, committed, opening}
-use Rattle.replay_history.specs.Capture.{commits}
+use Rattle.replay_history.specs.History.{AnswersAt, IsCompleteRun}
+use Rattle.replay_cli.specs.Machine.{Answers, Database, Gives, committed, opening}
+use Rattle.replay_history.specs.Capture.{IsLegalCapture, commits}
 
 -- the call has this place in this session
 pub record IsPlaced (session place : ℕ) (call : Captured) : Type 0 where
@@ -18,6 +18,10 @@ pub record IsPlaced (session place : ℕ) (call : Captured) : Type 0 where
 -- each call stands in the list at its place in the one session
 abbrev pub ArePlaced : List Captured → Type 0
 ArePlaced calls = (k : ℕ) (call : Captured) → IsCallAt calls k call → IsPlaced 0 k call
+
+-- the calls are a legal capture from this start
+abbrev pub IsLegalFrom : StartView → List Captured → Type 0
+IsLegalFrom start calls = IsLegalCapture start.rows Answers (opening start) calls
 
 -- a call with this stamp fits after so many numbered commits, and after a call that ended then
 pub record FitsAfter (stamp committed ended : ℕ) (call : Captured) : Type 0 where
@@ -42,6 +46,6 @@ AnswersAsCaptured calls history = (i k : ℕ) (reply : Reply) → AnswersAt hist
 -- A replay of these calls in the captured order, with the whole of each pause: its history, and the committed rows at its end.
 pub record IsReplay (start : StartView) (calls : List Captured) (history : List Event) (tables : List Image) : Type 0 where
   pub end : Database
-  pub complete : IsComplete calls in_order (IsPause calls 100 100) (Executes calls) (opening start) history end
+  pub complete : IsCompleteRun calls in_order (IsPause calls 100 100) (Executes calls) (opening start) history end
   pub tables_are : tables ≡ committed end
   pub as_captured : AnswersAsCaptured calls history

@@ -1,12 +1,12 @@
 -- How a command ends: the reasons of its statuses, by its words and the files alone, and what it prints.
-use Rattle.std.specs.Prelude.{◌≡◌, ℕ, ◌⊎◌, List, ◌++◌, Option, Some, Result, Ok, Err}
+use Rattle.std.specs.Prelude.{◌≡◌, ℕ, ◌⊎◌, List, ◌++◌, Option, Some, IsErrOf, IsSomeAnd, Result, Ok, Err}
 use Rattle.desk_values.specs.declared.capture.Captured.{Captured}
-use Rattle.desk_files.specs.Outside.{FileMap, Told, HasRisen}
+use Rattle.desk_files.specs.Outside.{AppendsPart, FileMap, HasRisen, Told}
 use Rattle.capture_format.specs.declared.start.StartFile.{StartFile}
 use Rattle.replay_cli.specs.declared.failure.Failure.{Failure}
 use Rattle.replay_cli.specs.declared.failure.Failure.TheVariants.{BadCommand, NotYet, BadCapture, Missing, DeviceFault, OutOfMemory}
+use Rattle.replay_cli.specs.OneSession.{IsLegalFrom}
 use Rattle.replay_cli.specs.Words.{IsRunOf}
-use Rattle.replay_cli.specs.Folder.{IsLegal}
 use Rattle.replay_cli.specs.Command.{IsNoCommand, IsCapture, IsMissing, IsNotYet}
 use Rattle.replay_cli.specs.Lines.{failure_status, failure_line, replayed_line}
 
@@ -20,11 +20,11 @@ IsFileMissing words files name = (capture : List ℕ) × (out : List ℕ) × IsR
 
 -- both files are of the form, and the capture is not legal
 abbrev pub IsBadCapture : List (List ℕ) → FileMap → Type 0
-IsBadCapture words files = (capture : List ℕ) × (out : List ℕ) × (file : StartFile) × (calls : List Captured) × IsRunOf words capture out × IsCapture files capture file calls × ¬ IsLegal file calls
+IsBadCapture words files = (capture : List ℕ) × (out : List ℕ) × (file : StartFile) × (calls : List Captured) × IsRunOf words capture out × IsCapture files capture file calls × ¬ IsLegalFrom file.start calls
 
 -- both files are of the form, and the capture is legal
 abbrev pub IsGoodCapture : List (List ℕ) → FileMap → Type 0
-IsGoodCapture words files = (capture : List ℕ) × (out : List ℕ) × (file : StartFile) × (calls : List Captured) × IsRunOf words capture out × IsCapture files capture file calls × IsLegal file calls
+IsGoodCapture words files = (capture : List ℕ) × (out : List ℕ) × (file : StartFile) × (calls : List Captured) × IsRunOf words capture out × IsCapture files capture file calls × IsLegalFrom file.start calls
 
 -- why a command fails, by its words and the files; a fault and want of memory are no such reasons
 abbrev pub IsReason : List (List ℕ) → FileMap → Failure → Type 0
@@ -39,6 +39,10 @@ IsReason words files OutOfMemory = ⊥
 abbrev pub Prints : List ℕ → Option (List ℕ) → Option (List ℕ) → Type 0
 Prints line before after = Told before (λ printed. after ≡ Some (printed ++ line))
 
+-- a part of this line was printed, or none or all of it, and nothing else
+abbrev pub PrintsPart : List ℕ → Option (List ℕ) → Option (List ℕ) → Type 0
+PrintsPart line before after = Told before (λ printed. IsSomeAnd after (AppendsPart line printed))
+
 -- the command ended with this status and line, or else a device failed or memory was short
 abbrev pub EndsWith : ℕ → List ℕ → ℕ → Option (List ℕ) → Option (List ℕ) → Type 0
 EndsWith status line result before after = ((result ≡ status) × Prints line before after) ⊎ ((result ≡ 5) ⊎ (result ≡ 6))
@@ -51,9 +55,10 @@ abbrev pub line_of : Result ℕ Failure → List ℕ
 line_of (Ok calls) = replayed_line calls
 line_of (Err failure) = failure_line failure
 
--- the line was printed and the status is its own; or the line could not be made, or not be printed
+-- the line was printed and the status is its own; or the line could not be made, which that of a fault always can; or a
+-- line was not printed whole
 abbrev pub Reports : Result ℕ Failure → ℕ → Option (List ℕ) → Option (List ℕ) → ℕ → ℕ → Type 0
 Reports done result before after faults_before faults_after =
     ((result ≡ status_of done) × Prints (line_of done) before after)
-    ⊎ (((result ≡ 6) × Prints (failure_line OutOfMemory) before after)
-    ⊎ ((result ≡ 5) × HasRisen faults_before faults_after))
+    ⊎ (((result ≡ 6) × Prints (failure_line OutOfMemory) before after × ¬ IsErrOf done DeviceFault)
+    ⊎ ((result ≡ 5) × HasRisen faults_before faults_after × (PrintsPart (line_of done) before after ⊎ PrintsPart (failure_line OutOfMemory) before after)))

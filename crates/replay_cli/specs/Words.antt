@@ -1,5 +1,10 @@
 -- The words of a command, and the names of its files.
-use Rattle.std.specs.Prelude.{◌≡◌, ℕ, ◌<◌, ◌≤◌, List, [], ◌∷◌, ◌++◌, length, codes}
+use Rattle.std.specs.Prelude.{◌≡◌, ℕ, ◌≤◌, List, [], ◌∷◌, ◌++◌, length, codes}
+use Rattle.std.specs.Str.{IsUtf8}
+
+-- the bytes are a text: at most 1,000 of UTF-8
+abbrev pub IsTextOf : List ℕ → Type 0
+IsTextOf bytes = (length bytes ≤ 1000) × IsUtf8 bytes
 
 -- 1 to 900 bytes, of which the first is no `-`
 abbrev pub IsPath : List ℕ → Type 0

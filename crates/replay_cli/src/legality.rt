@@ -2,10 +2,10 @@
 
 ghost use Rattle.std.specs.Prelude.{◌≡◌, ◌↔◌, ◌<◌, ◌^◌, ◌+◌, if◌then◌else◌, IfOk, IsTrue};
 ghost use Rattle.std.specs.Bool.{OnTrue, OnFalse};
-ghost use Rattle.replay_history.specs.Capture.{IsLegalCapture, commits};
+ghost use Rattle.replay_history.specs.Capture.{commits};
 ghost use Rattle.capture_format.specs.Supported.{AreSupportedCalls};
-ghost use Rattle.replay_cli.specs.Machine.{Answers, Database, Gives, IsOnly, opening};
-ghost use Rattle.replay_cli.specs.OneSession.{ArePlaced, FitsAfter};
+ghost use Rattle.replay_cli.specs.Machine.{Database, Gives, IsOnly};
+ghost use Rattle.replay_cli.specs.OneSession.{ArePlaced, FitsAfter, IsLegalFrom};
 
 use crate::machine::Machine;
 use desk_schema::Start;
@@ -20,7 +20,7 @@ pub const CALL_LIMIT: usize = 100_000;
 pub fn is_legal(alloc: Global, start: Start, calls: &[Captured]) -> Result<bool, Memory>
     requires placed { ArePlaced calls.now }
     requires supported { AreSupportedCalls calls.now }
-    ensures { IfOk result (λ legal. IsTrue legal ↔ IsLegalCapture start.rows Answers (opening start) calls.now) }
+    ensures { IfOk result (λ legal. IsTrue legal ↔ IsLegalFrom start calls.now) }
 {
     if calls.len() > CALL_LIMIT {
         return Ok(false);

@@ -4,6 +4,7 @@
 //! files and the sink that it is handed, and nothing else.
 #![tactic(auto)]
 
+mod arguments;
 mod failure;
 mod legality;
 pub mod machine;
@@ -13,7 +14,8 @@ mod run;
 mod texts;
 mod words;
 
-pub use main_call::replay_main;
+pub use arguments::{arguments_of, word_of};
+pub use main_call::{replay_main, report_want_of_memory};
 pub use texts::{journal_text, report_text, tables_text};
 
 #[cfg(test)]

@@ -1,13 +1,13 @@
 //! The one call that the program makes.
 
-ghost use Rattle.std.specs.Prelude.{◌≡◌, ◌≤◌, ◌⊎◌, ℕ, List, Result, IfOk, IsSomeAnd, Ok, Err};
+ghost use Rattle.std.specs.Prelude.{◌≡◌, ◌≢◌, ◌≤◌, ◌⊎◌, ℕ, List, Result, IfOk, IsSomeAnd, Ok, Err};
 ghost use Rattle.desk_files.specs.Outside.{HasRisen, Told};
 ghost use Rattle.replay_cli.specs.declared.failure.Failure.{Failure as Outcome};
 ghost use Rattle.replay_cli.specs.declared.failure.Failure.TheVariants.{BadCommand, NotYet, BadCapture, Missing, DeviceFault, OutOfMemory};
 ghost use Rattle.replay_cli.specs.Command.{IsNoCommand, WrittenInPart, WrittenSoFar, WrittenWhole};
 ghost use Rattle.replay_cli.specs.Lines as texts;
 ghost use Rattle.replay_cli.specs.Lines.{failure_line, replayed_line};
-ghost use Rattle.replay_cli.specs.Status.{EndsWith, IsBadCapture, IsFileMissing, IsFileNotYet, IsGoodCapture, Prints, Reports};
+ghost use Rattle.replay_cli.specs.Status.{EndsWith, IsBadCapture, IsFileMissing, IsFileNotYet, IsGoodCapture, Prints, PrintsPart, Reports};
 
 use crate::failure::Failure;
 use crate::run::run;
@@ -29,7 +29,7 @@ use std::alloc::Global;
 /// | 3 | the capture is not legal | `bad capture` |
 /// | 4 | there is no such file | `missing: NAME` |
 /// | 5 | `files` or `out` failed | `device fault` |
-/// | 6 | want of memory | `out of memory` |
+/// | 6 | want of memory, where no file failed | `out of memory` |
 pub fn replay_main<R, F: Files, S: Sink>(
     _rt: &R,
     alloc: Global,
@@ -48,6 +48,7 @@ pub fn replay_main<R, F: Files, S: Sink>(
     ensures only_missing { result ≡ 4 → Told (F.content files.old) (λ before. (name : List ℕ) × IsFileMissing words.now before name) }
     ensures device_fault { result ≡ 5 → HasRisen (F.faults files.old) (F.faults files.new) ⊎ HasRisen (S.faults out.old) (S.faults out.new) }
     ensures fault_line { result ≡ 5 → HasRisen (S.faults out.old) (S.faults out.new) ⊎ Prints (failure_line DeviceFault) (S.content out.old) (S.content out.new) }
+    ensures unfailed { result ≡ 6 → F.faults files.new ≡ F.faults files.old }
     ensures memory_line { result ≡ 6 → Prints (failure_line OutOfMemory) (S.content out.old) (S.content out.new) }
     ensures unchanged { (result ≡ 2) ⊎ ((result ≡ 3) ⊎ (result ≡ 4)) → Told (F.content files.old) (λ before. IsSomeAnd (F.content files.new) (λ after. after ≡ before)) }
     ensures in_part { (result ≡ 5) ⊎ (result ≡ 6) → Told (F.content files.old) (λ before. IsSomeAnd (F.content files.new) (λ after. (after ≡ before) ⊎ (WrittenInPart words.now before after ⊎ (WrittenSoFar words.now before after ⊎ ((count : ℕ) × WrittenWhole words.now count before after))))) }
@@ -77,7 +78,7 @@ fn report_calls<S: Sink>(alloc: Global, calls: u64, out: &mut S) -> u8
 {
     match replayed_line(alloc, calls) {
         Ok(line) => print(line.as_slice(), 0, out),
-        Err(Memory) => print(b"out of memory\n", 6, out),
+        Err(Memory) => report_want_of_memory(out),
     }
 }
 
@@ -85,20 +86,54 @@ fn report_failure<S: Sink>(alloc: Global, failure: &Failure, out: &mut S) -> u8
     ensures says { Reports (Err failure.now) result (S.content out.old) (S.content out.new) (S.faults out.old) (S.faults out.new) }
     ensures count { S.faults out.old ≤ S.faults out.new }
 {
-    match failure.line(alloc) {
-        Ok(line) => print(line.as_slice(), failure.status(), out),
-        Err(Memory) => print(b"out of memory\n", 6, out),
+    match failure {
+        Failure::DeviceFault => report_fault(out),
+        Failure::BadCommand => report_refusal(alloc, failure, out),
+        Failure::NotYet(_) => report_refusal(alloc, failure, out),
+        Failure::BadCapture => report_refusal(alloc, failure, out),
+        Failure::Missing(_) => report_refusal(alloc, failure, out),
+        Failure::OutOfMemory => report_want_of_memory(out),
     }
 }
 
-/// Prints a line. The status is this one, or 5 where the line was not printed.
+/// Makes the line of a failure and prints it.
+fn report_refusal<S: Sink>(alloc: Global, failure: &Failure, out: &mut S) -> u8
+    requires { failure.now ≢ DeviceFault }
+    ensures says { Reports (Err failure.now) result (S.content out.old) (S.content out.new) (S.faults out.old) (S.faults out.new) }
+    ensures count { S.faults out.old ≤ S.faults out.new }
+{
+    match failure.line(alloc) {
+        Ok(line) => print(line.as_slice(), failure.status(), out),
+        Err(Memory) => report_want_of_memory(out),
+    }
+}
+
+/// Prints that a device failed, and gives the status to end with. It takes no memory, so that a fault is never told as
+/// want of it.
+fn report_fault<S: Sink>(out: &mut S) -> u8
+    ensures says { ((result ≡ 5) × Prints (failure_line DeviceFault) (S.content out.old) (S.content out.new)) ⊎ ((result ≡ 5) × HasRisen (S.faults out.old) (S.faults out.new) × PrintsPart (failure_line DeviceFault) (S.content out.old) (S.content out.new)) }
+    ensures count { S.faults out.old ≤ S.faults out.new }
+{
+    print(b"device fault\n", Failure::DeviceFault.status(), out)
+}
+
+/// Prints that memory was short, and gives the status to end with: 6, or 5 where the line was not printed. It takes no
+/// memory.
+pub fn report_want_of_memory<S: Sink>(out: &mut S) -> u8
+    ensures says { ((result ≡ 6) × Prints (failure_line OutOfMemory) (S.content out.old) (S.content out.new)) ⊎ ((result ≡ 5) × HasRisen (S.faults out.old) (S.faults out.new) × PrintsPart (failure_line OutOfMemory) (S.content out.old) (S.content out.new)) }
+    ensures count { S.faults out.old ≤ S.faults out.new }
+{
+    print(b"out of memory\n", Failure::OutOfMemory.status(), out)
+}
+
+/// Prints a line. The status is this one, or that of a fault where the line was not printed, or in part.
 fn print<S: Sink>(line: &[u8], status: u8, out: &mut S) -> u8
-    ensures says { ((result ≡ status) × Prints line.now (S.content out.old) (S.content out.new)) ⊎ ((result ≡ 5) × HasRisen (S.faults out.old) (S.faults out.new)) }
+    ensures says { ((result ≡ status) × Prints line.now (S.content out.old) (S.content out.new)) ⊎ ((result ≡ 5) × HasRisen (S.faults out.old) (S.faults out.new) × PrintsPart line.now (S.content out.old) (S.content out.new)) }
     ensures count { S.faults out.old ≤ S.faults out.new }
 {
     match out.write(line) {
         Ok(()) => status,
-        Err(_) => 5,
+        Err(_) => Failure::DeviceFault.status(),
     }
 }
 

@@ -2,9 +2,8 @@
 
 ghost use Rattle.std.specs.Prelude.{◌≡◌, ◌<◌, ◌≤◌, ◌^◌, ◌+◌, ◌∷◌, ◌++◌, [], IfOk, OnOk};
 ghost use Rattle.desk_values.specs.declared.capture.Event.TheVariants.{Start as StartEvent, Answer as AnswerEvent};
-ghost use Rattle.replay_history.specs.Capture.{IsLegalCapture};
-ghost use Rattle.replay_cli.specs.Machine.{Answers, Database, Gives, IsOnly, opening};
-ghost use Rattle.replay_cli.specs.OneSession.{ArePlaced, IsReplay};
+ghost use Rattle.replay_cli.specs.Machine.{Database, Gives, IsOnly};
+ghost use Rattle.replay_cli.specs.OneSession.{ArePlaced, IsLegalFrom, IsReplay};
 
 use crate::machine::Machine;
 use desk_schema::Start;
@@ -23,7 +22,7 @@ pub struct Replayed {
 /// Starts and answers each call, one after the other, on a machine that begins with this start.
 pub fn replay(alloc: Global, start: Start, calls: &[Captured]) -> Result<Replayed, Memory>
     requires placed { ArePlaced calls.now }
-    requires legal { IsLegalCapture start.rows Answers (opening start) calls.now }
+    requires legal { IsLegalFrom start calls.now }
     ensures { IfOk result (λ replayed. IsReplay start calls.now replayed.history.items replayed.tables) }
 {
     let mut machine = Machine::load(alloc, start)?;

@@ -4,8 +4,6 @@ ghost use Rattle.std.specs.Prelude.{◌≡◌, ◌≤◌, ◌↔◌, length, Som
 ghost use Rattle.std.specs.FinMap as map;
 ghost use Rattle.desk_files.specs.Outside.{FileMap, HasRisen, KeepsOthers, Told};
 ghost use Rattle.capture_format.specs.Supported.{AreSupportedCalls};
-ghost use Rattle.replay_history.specs.Capture.{IsLegalCapture};
-ghost use Rattle.replay_cli.specs.Machine.{Answers, opening};
 ghost use Rattle.replay_cli.specs.OneSession.{ArePlaced, IsReplay};
 ghost use Rattle.replay_cli.specs.Words.{start_name, session_name};
 ghost use Rattle.replay_cli.specs.Folder.{AfterWrites, CutShort, FileSays, file_limit, IsOutside, ReadsBytes, ReadsCalls, ReadsStart, ReplaySays, Written, texts_of, with_all};
@@ -20,7 +18,7 @@ use crate::words::{Folders, folders_of, name_in};
 use capture_format::{FormErr, StartFile, read_session, read_start};
 use desk_files::{FileErr, Files, WriteErr};
 use desk_schema::Start;
-use desk_values::{Bytes, CallList, Captured, Copied, List as Items, Memory, Txt};
+use desk_values::{Bytes, CallList, Captured, Copied, Memory, Txt};
 use replay_history::{Mode, Report};
 use std::alloc::Global;
 
@@ -37,6 +35,7 @@ pub fn run<F: Files>(alloc: Global, words: &[Txt], files: &mut F) -> Result<u64,
     ensures command { IsErrOf result Failure.BadCommand ↔ IsNoCommand words.now }
     ensures says { Told (F.content files.old) (λ before. IsSomeAnd (F.content files.new) (λ after. RunSays words.now before after result)) }
     ensures failed { IsErrOf result Failure.DeviceFault → HasRisen (F.faults files.old) (F.faults files.new) }
+    ensures unfailed { ¬ IsErrOf result Failure.DeviceFault → F.faults files.new ≡ F.faults files.old }
     ensures count { F.faults files.old ≤ F.faults files.new }
 {
     let Some(folders) = folders_of(words) else {
@@ -58,6 +57,7 @@ fn load_start<F: Files>(alloc: Global, capture: &Txt, files: &mut F) -> Result<S
     ensures says { Told (F.content files.old) (λ before. FileSays ReadsStart (start_name capture.now) (map.get before (start_name capture.now)) result) }
     ensures content { F.content files.new ≡ F.content files.old }
     ensures failed { IsErrOf result Failure.DeviceFault → HasRisen (F.faults files.old) (F.faults files.new) }
+    ensures unfailed { ¬ IsErrOf result Failure.DeviceFault → F.faults files.new ≡ F.faults files.old }
     ensures count { F.faults files.old ≤ F.faults files.new }
 {
     let name = name_in(alloc, capture, "/start.cap")?;
@@ -78,6 +78,7 @@ fn load_session<F: Files>(alloc: Global, capture: &Txt, files: &mut F) -> Result
     ensures supported { IfOk result (λ calls. AreSupportedCalls calls.items) }
     ensures content { F.content files.new ≡ F.content files.old }
     ensures failed { IsErrOf result Failure.DeviceFault → HasRisen (F.faults files.old) (F.faults files.new) }
+    ensures unfailed { ¬ IsErrOf result Failure.DeviceFault → F.faults files.new ≡ F.faults files.old }
     ensures count { F.faults files.old ≤ F.faults files.new }
 {
     let name = name_in(alloc, capture, "/session-000.cap")?;
@@ -96,6 +97,7 @@ fn load<F: Files>(name: &Txt, files: &mut F) -> Result<Bytes, Failure>
     ensures limit { IfOk result (λ bytes. length bytes ≤ file_limit) }
     ensures content { F.content files.new ≡ F.content files.old }
     ensures failed { IsErrOf result Failure.DeviceFault → HasRisen (F.faults files.old) (F.faults files.new) }
+    ensures unfailed { ¬ IsErrOf result Failure.DeviceFault → F.faults files.new ≡ F.faults files.old }
     ensures count { F.faults files.old ≤ F.faults files.new }
 {
     match files.read(name) {
@@ -124,11 +126,7 @@ fn replay_legal(alloc: Global, start: Start, calls: &[Captured]) -> Result<Repla
 fn texts_of(alloc: Global, calls: u64, replayed: &Replayed) -> Result<Texts, Memory>
     ensures { IfOk result (λ texts. texts_in texts ≡ texts_of calls replayed.now.history.items replayed.now.tables) }
 {
-    let report = Report {
-        calls,
-        counts: [calls, 0, 0, 0, 0, 0, 0, 0, 0],
-        lines: Items::new(alloc),
-    };
+    let report = Report::clean(alloc, calls);
     Ok(Texts {
         journal: journal_text(alloc, Mode::Order, &replayed.history)?,
         report: report_text(alloc, &report)?,
@@ -149,6 +147,7 @@ fn write_texts<F: Files>(
     ensures cut { OnErr result (Told (F.content files.old) (λ before. IsSomeAnd (F.content files.new) (CutShort out.now (texts_in texts.now) before))) }
     ensures cause { IfErr result IsOutside }
     ensures failed { IsErrOf result Failure.DeviceFault → HasRisen (F.faults files.old) (F.faults files.new) }
+    ensures unfailed { ¬ IsErrOf result Failure.DeviceFault → F.faults files.new ≡ F.faults files.old }
     ensures count { F.faults files.old ≤ F.faults files.new }
 {
     let journal = name_in(alloc, out, "/journal.txt")?;
@@ -166,6 +165,7 @@ fn write<F: Files>(name: &Txt, bytes: &[u8], files: &mut F) -> Result<(), Failur
     ensures memory { IsErrOf result Failure.OutOfMemory → F.content files.new ≡ F.content files.old }
     ensures cause { IfErr result IsOutside }
     ensures failed { IsErrOf result Failure.DeviceFault → HasRisen (F.faults files.old) (F.faults files.new) }
+    ensures unfailed { ¬ IsErrOf result Failure.DeviceFault → F.faults files.new ≡ F.faults files.old }
     ensures count { F.faults files.old ≤ F.faults files.new }
 {
     match files.write(name, bytes) {

@@ -2,14 +2,13 @@
 
 ghost use Rattle.std.specs.Prelude.{◌≡◌, ◌++◌, IfOk, OnOk, OnErr};
 ghost use Rattle.std.specs.List.{flat_map};
-ghost use Rattle.desk_values.specs.Text.{left_text};
 ghost use Rattle.replay_history.specs.Class.{class_word};
 ghost use Rattle.desk_values.specs.declared.capture.Event.TheVariants.{Start};
 ghost use Rattle.replay_history.specs.Texts.{count_line, counts_text, error_counts, event_text, journal_text, line, line_text, other_counts, place_text, report_text, row_counts, row_text, tables_text};
 
-use capture_format::append_reply;
+use capture_format::{append_left, append_reply};
 use desk_values::fields::append_u64;
-use desk_values::{Bytes, Event, History, Image, Images, List, Memory, write_values};
+use desk_values::{Bytes, Event, History, Image, Images, List, Memory};
 use replay_history::{Class, Line, Mode, Report};
 use std::alloc::Global;
 
@@ -181,15 +180,6 @@ fn append_row(row: &Image, to: &mut Bytes) -> Result<(), Memory>
     to.append(b" ")?;
     append_u64(u64::from(row.table), to)?;
     to.append(b" ")?;
-    append_left(row, to)?;
+    append_left(&row.left, to)?;
     to.append(b"\n")
-}
-
-fn append_left(row: &Image, to: &mut Bytes) -> Result<(), Memory>
-    ensures { OnOk result (to.new ≡ to.old ++ left_text row.now.left) }
-{
-    match &row.left {
-        Some(values) => write_values(values.as_slice(), to),
-        None => to.append(b"gone"),
-    }
 }

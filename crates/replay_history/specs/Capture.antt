@@ -1,8 +1,8 @@
 -- Which calls are a legal capture, whatever machine answers them.
-use Rattle.std.specs.Prelude.{◌≡◌, ℕ, zero, suc, ◌+◌, ◌<◌, ◌≤◌, ◌⊎◌, Bool, true, false, if◌then◌else◌, nat_eq, nat_lt, Option, None, Some, List, [], ◌∷◌, length, take, count_by, slice_get, Contains}
+use Rattle.std.specs.Prelude.{◌≡◌, ℕ, ◌+◌, ◌<◌, ◌≤◌, ◌⊎◌, Bool, true, false, if◌then◌else◌, nat_eq, Some, List, [], ◌∷◌, length, take, count_by}
 use Rattle.std.specs.List.{AllByRecursion, Any}
 use Rattle.desk_values.specs.declared.value.Value.{Value}
-use Rattle.desk_values.specs.declared.value.Value.TheVariants.{Null, Int, Text, Row, Draw}
+use Rattle.desk_values.specs.declared.value.Value.TheVariants.{Row, Draw}
 use Rattle.desk_values.specs.declared.value.Image.{Image}
 use Rattle.desk_values.specs.declared.call.Call.{Call}
 use Rattle.desk_values.specs.declared.call.Call.TheVariants.{Connect, Sql, Disconnect}

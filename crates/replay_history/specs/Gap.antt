@@ -1,5 +1,5 @@
 -- The time between the calls of a session, and the pause that a replay makes of it.
-use Rattle.std.specs.Prelude.{◌≡◌, ℕ, suc, ◌-◌, ◌*◌, ◌/◌, ◌<◌, Option, None, Some, List, slice_get, ◌==◌, if◌then◌else◌}
+use Rattle.std.specs.Prelude.{◌≡◌, ℕ, suc, ◌-◌, ◌*◌, ◌/◌, Some, List, slice_get, ◌==◌, if◌then◌else◌}
 use Rattle.desk_values.specs.declared.capture.Captured.{Captured}
 
 -- in this list by stamp, the call with this stamp

@@ -1,6 +1,5 @@
 -- Which histories a replay may have. A history is one list of events; legality speaks of places in it, truth is a fold over it.
-use Rattle.std.specs.Prelude.{◌≡◌, ℕ, ◌<◌, ◌⊎◌, Option, Some, List, [], ◌∷◌, slice_get, length}
-use Rattle.desk_values.specs.declared.call.Call.{Call}
+use Rattle.std.specs.Prelude.{◌≡◌, ℕ, ◌<◌, Some, List, [], ◌∷◌, slice_get, length}
 use Rattle.desk_values.specs.declared.call.Reply.{Reply}
 use Rattle.desk_values.specs.declared.capture.Captured.{Captured}
 use Rattle.desk_values.specs.declared.capture.Event.{Event}
@@ -28,7 +27,7 @@ IsStartedBefore history i k = (j : ℕ) × (pause : ℕ) × (j < i) × StartsAt 
 
 -- The history of a replay of these calls, which stand by stamp. `required k j` says that call k requires the answer of call j,
 -- and `paused call pause` that this is the pause of a call.
-pub record IsLegal (calls : List Captured) (required : ℕ → ℕ → Type 0) (paused : Captured → ℕ → Type 0) (history : List Event) : Type 0 where
+pub record IsLegalHistory (calls : List Captured) (required : ℕ → ℕ → Type 0) (paused : Captured → ℕ → Type 0) (history : List Event) : Type 0 where
   -- what starts is a call of the capture, with its pause
   pub start_is_call : (i k pause : ℕ) → StartsAt history i k pause → (call : Captured) × IsCallAt calls k call × paused call pause
   -- each starts once
@@ -44,17 +43,17 @@ pub record IsLegal (calls : List Captured) (required : ℕ → ℕ → Type 0) (
 
 -- Each answer of the history, in its order, is one step of a machine: `executes s k reply t` says that executing call k in
 -- the state s gives this reply and leaves the state t. The fold goes from the first state to the last.
-abbrev pub IsTruthful : {S : Type 0} → (S → ℕ → Reply → S → Type 0) → S → List Event → S → Type 0
-IsTruthful executes first [] last = first ≡ last
-IsTruthful executes first (Start k pause ∷ events) last = IsTruthful executes first events last
-IsTruthful {S} executes first (Answer k reply ∷ events) last = (next : S) × executes first k reply next × IsTruthful executes next events last
+abbrev pub IsTruthfulHistory : {S : Type 0} → (S → ℕ → Reply → S → Type 0) → S → List Event → S → Type 0
+IsTruthfulHistory executes first [] last = first ≡ last
+IsTruthfulHistory executes first (Start k pause ∷ events) last = IsTruthfulHistory executes first events last
+IsTruthfulHistory {S} executes first (Answer k reply ∷ events) last = (next : S) × executes first k reply next × IsTruthfulHistory executes next events last
 
 -- every call of the capture is answered
 abbrev pub AnswersAll : List Captured → List Event → Type 0
 AnswersAll calls history = (k : ℕ) → k < length calls → IsAnswered history k
 
 -- a legal and truthful history that answers every call
-pub record IsComplete {S : Type 0} (calls : List Captured) (required : ℕ → ℕ → Type 0) (paused : Captured → ℕ → Type 0) (executes : S → ℕ → Reply → S → Type 0) (first : S) (history : List Event) (last : S) : Type 0 where
-  pub legal : IsLegal calls required paused history
-  pub truthful : IsTruthful executes first history last
+pub record IsCompleteRun {S : Type 0} (calls : List Captured) (required : ℕ → ℕ → Type 0) (paused : Captured → ℕ → Type 0) (executes : S → ℕ → Reply → S → Type 0) (first : S) (history : List Event) (last : S) : Type 0 where
+  pub legal : IsLegalHistory calls required paused history
+  pub truthful : IsTruthfulHistory executes first history last
   pub whole : AnswersAll calls history

@@ -1,5 +1,6 @@
 pub mod Mode
 pub mod Class
+pub mod Report
 pub mod Gap
 pub mod History
 pub mod Capture

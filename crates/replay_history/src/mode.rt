@@ -1,16 +1,19 @@
 ghost use Rattle.std.specs.Prelude.{◌≡◌};
 ghost use Rattle.replay_history.specs.Mode.{mode_word};
 
-/// Which calls must be answered before a call is taken.
+/// How a replay is synchronized: which calls must be answered before a call is taken, beside those before it in its own
+/// session. Oracle's Database Testing Guide has the modes by SCN, the number of a commit, and by object; Galanis et al.,
+/// "Oracle Database Replay", SIGMOD 2008, say why. `Off`, `Scn` and `Object` are only words so far: every
+/// replay of the desk goes by `Order`.
 #[derive(Clone, Copy, Debug, PartialEq, Eq)]
 pub enum Mode {
-    /// None but those before it in its own session.
+    /// No other calls: without synchronization.
     Off,
-    /// The numbered commits that it saw when it was captured.
+    /// The numbered commits that it saw when it was captured: SCN-based synchronization.
     Scn,
-    /// As with `Scn`, but for commits that touched none of the tables it speaks of.
+    /// As with `Scn`, but for commits that touched none of the tables it speaks of: object-based synchronization.
     Object,
-    /// Every call before it in the captured order.
+    /// Every call before it in the captured order, one after the other.
     Order,
 }
 

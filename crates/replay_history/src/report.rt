@@ -1,20 +1,25 @@
 ghost use Rattle.std.specs.Prelude.{◌≡◌};
 ghost use Rattle.replay_history.specs.Class.{class_word};
+ghost use Rattle.replay_history.specs.Report.{clean_report};
 
 use desk_values::List;
+use std::alloc::Global;
 
-/// How a reply differs from the captured one. The first that fits, in this order but for `Same`.
+/// How a replayed reply differs from the captured one: the first that fits, in this order but for `Same`. Oracle's
+/// Database Testing Guide parts error divergence (an error that is new, gone or mutated) from data divergence (other
+/// numbers of rows, modified or fetched). The classes go on from there: to the rows' contents, commits and replies of
+/// other kinds.
 #[derive(Clone, Copy, Debug, PartialEq, Eq)]
 pub enum Class {
     /// It does not differ.
     Same,
-    /// It is refused, and was not.
+    /// It is refused, and was not: error divergence, as the next two.
     NewError,
     /// It was refused, and is not.
     GoneError,
     /// It is refused for another cause.
     MutatedError,
-    /// Another number of rows was written.
+    /// Another number of rows was written: data divergence, as all that follow.
     RowsModified,
     /// Another number of rows was fetched.
     RowsFetched,
@@ -27,6 +32,19 @@ pub enum Class {
 }
 
 impl Class {
+    /// The classes, in their order.
+    pub const ALL: [Class; 9] = [
+        Class::Same,
+        Class::NewError,
+        Class::GoneError,
+        Class::MutatedError,
+        Class::RowsModified,
+        Class::RowsFetched,
+        Class::RowContents,
+        Class::Images,
+        Class::Shape,
+    ];
+
     /// The class's word in texts.
     pub fn word(self) -> &'static str
         ensures { result.now ≡ class_word self }
@@ -66,8 +84,21 @@ pub type Lines = List<Line>;
 pub struct Report {
     /// How many calls there were.
     pub calls: u64,
-    /// How many there were of each class, in the order of [`Class`].
+    /// How many there were of each class, in the order of [`Class::ALL`].
     pub counts: [u64; 9],
     /// One line per call that differs, stamps rising.
     pub lines: Lines,
+}
+
+impl Report {
+    /// The report in which each of so many calls is `Same`. It takes no memory.
+    pub fn clean(alloc: Global, calls: u64) -> Report
+        ensures { result ≡ clean_report calls }
+    {
+        Report {
+            calls,
+            counts: [calls, 0, 0, 0, 0, 0, 0, 0, 0],
+            lines: List::new(alloc),
+        }
+    }
 }

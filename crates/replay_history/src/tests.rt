@@ -1,4 +1,4 @@
-use crate::{Class, Mode};
+use crate::{Class, Mode, Report};
 use std::test::Fail;
 
 #[test]
@@ -10,16 +10,29 @@ fn modes_have_their_words(rt: HostRuntime) -> Result<(), Fail> {
     Ok(())
 }
 
+static WORDS: [&str; 9] = [
+    "same",
+    "new-error",
+    "gone-error",
+    "mutated-error",
+    "rows-modified",
+    "rows-fetched",
+    "row-contents",
+    "images",
+    "shape",
+];
+
 #[test]
-fn classes_have_their_words(rt: HostRuntime) -> Result<(), Fail> {
-    assert_eq!(rt; Class::Same.word(), "same");
-    assert_eq!(rt; Class::NewError.word(), "new-error");
-    assert_eq!(rt; Class::GoneError.word(), "gone-error");
-    assert_eq!(rt; Class::MutatedError.word(), "mutated-error");
-    assert_eq!(rt; Class::RowsModified.word(), "rows-modified");
-    assert_eq!(rt; Class::RowsFetched.word(), "rows-fetched");
-    assert_eq!(rt; Class::RowContents.word(), "row-contents");
-    assert_eq!(rt; Class::Images.word(), "images");
-    assert_eq!(rt; Class::Shape.word(), "shape");
-    Ok(())
+fn classes_have_their_words_in_order(rt: HostRuntime) {
+    for (class, word) in Class::ALL.iter().zip(&WORDS) {
+        assert_eq!(rt; class.word(), *word);
+    }
+}
+
+#[test]
+fn a_clean_report_has_only_calls_that_are_the_same(rt: HostRuntime) {
+    let report = Report::clean(rt.alloc(), 7);
+    assert_eq!(rt; report.calls, 7);
+    assert_eq!(rt; report.counts, [7, 0, 0, 0, 0, 0, 0, 0, 0]);
+    assert!(rt; report.lines.is_empty());
 }

@@ -1,5 +1,5 @@
 -- Tests of mapped lists.
-use Rattle.std.proofs.Common.{◌≡◌, ◌<◌, ℕ, List, [], ◌∷◌, length, drop, get_or, refl, ap, sym, arith}
+use Rattle.std.proofs.Common.{◌≡◌, ◌<◌, ℕ, List, [], ◌∷◌, length, drop, get_or, refl, ap, arith}
 use Rattle.std.specs.Prelude.{Bool, ◌||◌, ◌&&◌, map, nat_eq}
 use Rattle.std.specs.List.{list_any, list_all}
 use Rattle.sql_eval.specs.Names.{has_twice}

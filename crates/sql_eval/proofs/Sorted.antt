@@ -1,6 +1,6 @@
 -- An expression that keeps the rules of kinds has a value of its kind.
-use Rattle.std.proofs.Common.{◌≡◌, ℕ, List, refl, ap, sym, ◌∙◌, subst}
-use Rattle.std.specs.Prelude.{ℤ, neg_ℤ, ◌+ℤ◌, ◌-ℤ◌, ◌*ℤ◌, Bool, true, false, ◌&&◌, ◌||◌, nat_eq, not, if◌then◌else◌, Option, None, Some, Result, Ok, Err, slice_get}
+use Rattle.std.proofs.Common.{◌≡◌, ℕ, List, refl, ap, sym, ◌∙◌}
+use Rattle.std.specs.Prelude.{ℤ, neg_ℤ, ◌+ℤ◌, ◌-ℤ◌, ◌*ℤ◌, Bool, true, false, ◌&&◌, ◌||◌, not, if◌then◌else◌, Option, None, Some, Result, Ok, Err, slice_get}
 use Rattle.std.specs.Option.{option_map, unwrap_or}
 use Rattle.std.specs.Ordering.{is_lt, is_le, is_gt, is_ge}
 use Rattle.std.proofs.lemmas.Bool.{eqb-true, eq-eqb}
@@ -8,7 +8,6 @@ use Rattle.desk_values.specs.declared.value.Value.{Value}
 use Rattle.desk_values.specs.declared.value.Value.TheVariants as value
 use Rattle.desk_values.specs.declared.fault.Fault.{Fault}
 use Rattle.desk_values.specs.declared.fault.Fault.TheVariants.{ZeroDivisor, Overflow}
-use Rattle.desk_schema.specs.declared.schema.Column.{Column}
 use Rattle.sql_reader.specs.declared.tree.Op.{Op}
 use Rattle.sql_reader.specs.declared.tree.Op.TheVariants.{Add, Sub, Mul, Div, Eq, Ne, Lt, Le, Gt, Ge, And, Or}
 use Rattle.sql_eval.specs.declared.kind.PartKind.{PartKind}
@@ -19,8 +18,8 @@ use Rattle.sql_eval.specs.Plain as term
 use Rattle.sql_eval.specs.declared.logic.Truth.TheVariants.{Unknown}
 use Rattle.sql_eval.specs.Logic.{truth_of_test}
 use Rattle.sql_eval.specs.Value.{arithmetic, bind_at, both, comparison, connected, equal, is_connective, is_in_range, is_null_value, is_zero, minus, number, of_numbers, order, quotient, then_apply, truth_value, value_of}
-use Rattle.sql_eval.specs.Kinds.{has_order, is_comparable, is_number, is_same_kind, is_taken, is_truth, is_null_kind, kept, kind_at, kind_of, kind_of_value, of_one, of_two, operator_kind}
-use Rattle.sql_eval.specs.Laws.{FitColumns, IsComparison, UnknownMeansNull, ValueHasItsKind}
+use Rattle.sql_eval.specs.Kinds.{has_order, is_comparable, is_number, is_same_kind, is_taken, kept, kind_of, kind_of_value, of_one, of_two, operator_kind}
+use Rattle.sql_eval.specs.Laws.{IsComparison, UnknownMeansNull, ValueHasItsKind}
 
 -- a value that is there
 abbrev sound : {A : Type 0} → A → Result A Fault

@@ -1,6 +1,6 @@
 -- The laws of the connectives and of Null.
-use Rattle.std.proofs.Common.{◌≡◌, ℕ, List, refl, ap, ◌∙◌}
-use Rattle.std.specs.Prelude.{Result, Ok, Err, None, Some, Option, Bool, not}
+use Rattle.std.proofs.Common.{◌≡◌, ℕ, refl, ap}
+use Rattle.std.specs.Prelude.{Result, Ok, None, Option, Bool, not}
 use Rattle.std.specs.Option.{option_map}
 use Rattle.std.specs.Ordering.{is_lt, is_le, is_gt, is_ge}
 use Rattle.desk_values.specs.declared.value.Value.{Value}
@@ -9,12 +9,10 @@ use Rattle.desk_values.specs.declared.fault.Fault.{Fault}
 use Rattle.sql_reader.specs.declared.tree.Op.{Op}
 use Rattle.sql_reader.specs.declared.tree.Op.TheVariants.{Add, Sub, Mul, Div, Eq, Ne, Lt, Le, Gt, Ge, And, Or}
 use Rattle.sql_eval.specs.declared.logic.Truth.{Truth}
-use Rattle.sql_eval.specs.declared.logic.Truth.TheVariants.{True, False, Unknown}
+use Rattle.sql_eval.specs.declared.logic.Truth.TheVariants.{Unknown}
 use Rattle.sql_eval.specs.Logic.{conjunction, disjunction, negation, truth_of_test}
-use Rattle.sql_eval.specs.Plain.{Term}
-use Rattle.sql_eval.specs.Plain as term
 use Rattle.sql_eval.specs.Value.{arithmetic, both, comparison, connected, equal, order, then_apply, truth_value, value_of}
-use Rattle.sql_eval.specs.Laws.{AreStandardTables, GoesByTable, IsArithmetic, IsComparison, NotGoesByTable, NullIsNull, NullIsUnknown}
+use Rattle.sql_eval.specs.Laws.{AreStandardTables, GoesByTable, NotGoesByTable, NullIsNull, NullIsUnknown}
 
 pub standard_tables : AreStandardTables
 standard_tables = record {

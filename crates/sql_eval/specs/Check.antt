@@ -1,10 +1,9 @@
 -- The checks of a statement by rank.
-use Rattle.std.specs.Prelude.{ℕ, Bool, true, false, ◌||◌, nat_eq, nat_lt, if◌then◌else◌, List, length, Option, None, Some, Result, Ok, Err}
+use Rattle.std.specs.Prelude.{ℕ, Bool, false, ◌||◌, nat_eq, nat_lt, if◌then◌else◌, List, length, Option, None, Some, Result, Ok, Err}
 use Rattle.std.specs.List.{list_any}
 use Rattle.desk_values.specs.declared.value.Value.{Value}
 use Rattle.desk_values.specs.declared.fault.Fault.{Fault}
 use Rattle.desk_values.specs.declared.fault.Fault.TheVariants.{UnknownTable, UnknownColumn, UnknownSequence, BindMissing, Kinds}
-use Rattle.desk_schema.specs.declared.schema.Column.{Column}
 use Rattle.desk_schema.specs.Schema.{SchemaView, column_names, columns_of}
 use Rattle.sql_reader.specs.Plain.{Parsed}
 use Rattle.sql_eval.specs.Plain.{Term, Total, Entry, Change, Asked, Plan}
@@ -12,7 +11,7 @@ use Rattle.sql_eval.specs.Plain as plain
 use Rattle.sql_eval.specs.Kinds.{kinds_agree}
 use Rattle.sql_eval.specs.Names.{table_of, is_unknown_table, table_number, misnames_column, repeats_column, lacks_sequence, plan_in}
 
--- a bind's number is over the number of binds, or no number of a bind
+-- no bind was given for this number
 abbrev pub misses_bind : ℕ → Term → Bool
 misses_bind count plain.null = false
 misses_bind count (plain.int n) = false
@@ -26,21 +25,25 @@ misses_bind count (plain.bin op a b) = misses_bind count a || misses_bind count 
 misses_bind count (plain.is_null e) = misses_bind count e
 misses_bind count (plain.not_null e) = misses_bind count e
 
+-- a bind of the condition is missing, if there is a condition
 abbrev pub where_misses_bind : ℕ → Option Term → Bool
 where_misses_bind count None = false
 where_misses_bind count (Some e) = misses_bind count e
 
+-- a bind of an aggregate is missing
 abbrev pub total_misses_bind : ℕ → Total → Bool
 total_misses_bind count plain.count = false
 total_misses_bind count (plain.total e) = misses_bind count e
 total_misses_bind count (plain.least e) = misses_bind count e
 total_misses_bind count (plain.greatest e) = misses_bind count e
 
+-- a bind of what a SELECT asks for is missing
 abbrev pub asked_misses_bind : ℕ → Asked → Bool
 asked_misses_bind count plain.columns = false
 asked_misses_bind count (plain.values es) = list_any (misses_bind count) es
 asked_misses_bind count (plain.totals ts) = list_any (total_misses_bind count) ts
 
+-- a bind of an input is missing
 abbrev pub entry_misses_bind : ℕ → Entry → Bool
 entry_misses_bind count (plain.value e) = misses_bind count e
 entry_misses_bind count (plain.drawn sequence) = false

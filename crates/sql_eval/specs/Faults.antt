@@ -34,10 +34,12 @@ own_fault level row values binds (term.neg e) = fault_after minus (value_of leve
 own_fault level row values binds (term.bin op a b) = fault_after (λ (p : Value × Value). arithmetic level op p.0 p.1) (both (value_of level row values binds a) (value_of level row values binds b))
 own_fault level row values binds other = None
 
+-- the fault is a zero divisor
 abbrev pub is_zero_divisor : Option Fault → Bool
 is_zero_divisor (Some ZeroDivisor) = true
 is_zero_divisor other = false
 
+-- the fault is an overflow
 abbrev pub is_overflow : Option Fault → Bool
 is_overflow (Some Overflow) = true
 is_overflow other = false

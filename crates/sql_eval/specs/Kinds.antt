@@ -1,7 +1,7 @@
 -- The kind of a part, and which parts go together.
-use Rattle.std.specs.Prelude.{ℕ, Bool, true, false, ◌&&◌, ◌||◌, not, nat_eq, List, [], ◌∷◌, length, map, Option, None, Some, slice_get}
-use Rattle.std.specs.Option.{option_map, option_and_then}
-use Rattle.std.specs.List.{list_all, zip}
+use Rattle.std.specs.Prelude.{ℕ, Bool, true, false, ◌&&◌, ◌||◌, not, nat_eq, List, [], ◌∷◌, map, Option, None, Some, slice_get}
+use Rattle.std.specs.Option.{option_map}
+use Rattle.std.specs.List.{list_all}
 use Rattle.desk_values.specs.declared.value.Value.{Value}
 use Rattle.desk_values.specs.declared.value.Value.TheVariants as value
 use Rattle.desk_schema.specs.declared.schema.Column.{Column}
@@ -16,6 +16,7 @@ use Rattle.sql_eval.specs.Plain.{Term, Total, Entry, Change, Asked, Plan}
 use Rattle.sql_eval.specs.Plain as plain
 use Rattle.sql_eval.specs.Value.{bind_at}
 
+-- the kind of a value, which a bind has
 abbrev pub kind_of_value : Value → PartKind
 kind_of_value value.Null = Null
 kind_of_value (value.Int n) = Int
@@ -23,6 +24,7 @@ kind_of_value (value.Text t) = Text
 kind_of_value (value.Row n) = Row
 kind_of_value (value.Draw sequence n) = Seq sequence
 
+-- the kind of what a column holds
 abbrev pub kind_of_column : Kind → PartKind
 kind_of_column (column.Int low high) = Int
 kind_of_column (column.Text most) = Text
@@ -32,6 +34,7 @@ kind_of_column (column.Seq sequence) = Seq sequence
 abbrev pub kind_at : List Column → ℕ → Option PartKind
 kind_at columns n = option_map (λ (c : Column). kind_of_column c.kind) (slice_get columns n)
 
+-- two kinds are one; draws from two sequences are of two kinds
 abbrev pub is_same_kind : PartKind → PartKind → Bool
 is_same_kind Null Null = true
 is_same_kind Int Int = true
@@ -41,10 +44,12 @@ is_same_kind (Seq p) (Seq q) = nat_eq p q
 is_same_kind Truth Truth = true
 is_same_kind kind other = false
 
+-- the kind of a condition
 abbrev pub is_truth : PartKind → Bool
 is_truth Truth = true
 is_truth other = false
 
+-- the kind of Null, which goes with every kind but that of a condition
 abbrev pub is_null_kind : PartKind → Bool
 is_null_kind Null = true
 is_null_kind other = false
@@ -75,6 +80,7 @@ abbrev pub kept : Bool → PartKind → Option PartKind
 kept true k = Some k
 kept false k = None
 
+-- the kind of an operation on two parts of these kinds
 abbrev pub operator_kind : Op → PartKind → PartKind → Option PartKind
 operator_kind Add k l = kept (is_number k && is_number l) Int
 operator_kind Sub k l = kept (is_number k && is_number l) Int
@@ -94,6 +100,7 @@ abbrev pub of_one : (PartKind → Option PartKind) → Option PartKind → Optio
 of_one f None = None
 of_one f (Some k) = f k
 
+-- the same of two parts
 abbrev pub of_two : (PartKind → PartKind → Option PartKind) → Option PartKind → Option PartKind → Option PartKind
 of_two f None other = None
 of_two f (Some k) None = None
@@ -120,30 +127,33 @@ abbrev pub passes : (PartKind → Bool) → Option PartKind → Bool
 passes test None = false
 passes test (Some k) = test k
 
--- WHERE takes a condition
+-- behind WHERE stands a condition
 abbrev pub is_condition : List Column → List Value → Term → Bool
 is_condition columns binds e = passes is_truth (kind_of columns binds e)
 
+-- there is no WHERE, or it has a condition
 abbrev pub is_where : List Column → List Value → Option Term → Bool
 is_where columns binds None = true
 is_where columns binds (Some e) = is_condition columns binds e
 
--- an item takes any kind but a condition
+-- an item is anything else
 abbrev pub is_item : List Column → List Value → Term → Bool
 is_item columns binds e = passes (λ k. not (is_truth k)) (kind_of columns binds e)
 
+-- SUM takes numbers, MIN and MAX what has an order; COUNT takes nothing
 abbrev pub is_total : List Column → List Value → Total → Bool
 is_total columns binds plain.count = true
 is_total columns binds (plain.total e) = passes is_number (kind_of columns binds e)
 is_total columns binds (plain.least e) = passes has_order (kind_of columns binds e)
 is_total columns binds (plain.greatest e) = passes has_order (kind_of columns binds e)
 
+-- each thing that a SELECT asks for may be asked for
 abbrev pub is_asked : List Column → List Value → Asked → Bool
 is_asked columns binds plain.columns = true
 is_asked columns binds (plain.values es) = list_all (is_item columns binds) es
 is_asked columns binds (plain.totals ts) = list_all (is_total columns binds) ts
 
--- ORDER BY takes columns of numbers and of texts
+-- rows are ordered by numbers and texts
 abbrev pub is_key : List Column → ReadyKey → Bool
 is_key columns key = passes has_order (kind_at columns key.column)
 
@@ -163,13 +173,14 @@ abbrev pub target_kinds : List Column → Option (List ℕ) → List (Option Par
 target_kinds columns None = map (λ (c : Column). Some (kind_of_column c.kind)) columns
 target_kinds columns (Some places) = map (kind_at columns) places
 
--- as many inputs as columns, and each column takes its input
+-- one input for each column, of a kind that it takes
 abbrev pub are_inputs : List Column → List Value → List (Option PartKind) → List Entry → Bool
 are_inputs columns binds [] [] = true
 are_inputs columns binds [] (entry ∷ entries) = false
 are_inputs columns binds (target ∷ targets) [] = false
 are_inputs columns binds (target ∷ targets) (entry ∷ entries) = fits_column target (entry_kind columns binds entry) && are_inputs columns binds targets entries
 
+-- the column takes the kind of its new value
 abbrev pub is_change : List Column → List Value → Change → Bool
 is_change columns binds change = fits_column (kind_at columns change.column) (kind_of columns binds change.to)
 

@@ -1,9 +1,11 @@
 pub mod Plain
 pub mod Logic
 pub mod Value
-pub mod Seen
+pub mod ValueRef
 pub mod Kinds
 pub mod Names
+pub mod Scope
 pub mod Check
 pub mod Faults
 pub mod Laws
+pub mod Totals

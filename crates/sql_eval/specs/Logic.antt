@@ -3,19 +3,20 @@ use Rattle.std.specs.Prelude.{Bool, true, false, Option, None, Some}
 use Rattle.sql_eval.specs.declared.logic.Truth.{Truth}
 use Rattle.sql_eval.specs.declared.logic.Truth.TheVariants.{True, False, Unknown}
 
+-- unknown stays unknown
 abbrev pub negation : Truth → Truth
 negation True = False
 negation False = True
 negation Unknown = Unknown
 
--- false where one side is false, else unknown where one is unknown, else true
+-- AND: a false side decides, then an unknown one
 abbrev pub conjunction : Truth → Truth → Truth
 conjunction False other = False
 conjunction Unknown False = False
 conjunction Unknown other = Unknown
 conjunction True other = other
 
--- true where one side is true, else unknown where one is unknown, else false
+-- OR: a true side decides, then an unknown one
 abbrev pub disjunction : Truth → Truth → Truth
 disjunction True other = True
 disjunction Unknown True = True

@@ -2,7 +2,6 @@
 use Rattle.std.specs.Prelude.{ℕ, Bool, true, false, ◌||◌, nat_eq, List, [], ◌∷◌, map, Option, None, Some, is_none}
 use Rattle.std.specs.Option.{unwrap_or}
 use Rattle.std.specs.List.{list_any}
-use Rattle.desk_schema.specs.declared.schema.Column.{Column}
 use Rattle.desk_schema.specs.declared.schema.Table.{Table}
 use Rattle.desk_schema.specs.Schema.{place_ignoring_case, table_names}
 use Rattle.sql_reader.specs.declared.tree.Key.{Key}
@@ -33,18 +32,19 @@ table_of source.commit = None
 table_of source.rollback = None
 table_of source.set_read_only = None
 
--- the statement's table is not in the schema
+-- the statement's table is one that there is not
 abbrev pub is_unknown_table : List Table → Option (List ℕ) → Bool
 is_unknown_table tables None = false
 is_unknown_table tables (Some name) = is_unknown (table_names tables) name
 
+-- the number of a table; 0 where there is none
 abbrev pub table_number : List Table → Option (List ℕ) → ℕ
 table_number tables None = 0
 table_number tables (Some name) = number_of (table_names tables) name
 
 -- ---- columns
 
--- a column of the expression is not in the table
+-- the expression has a column that the table lacks
 abbrev pub has_unknown : List (List ℕ) → Expression → Bool
 has_unknown names source.null = false
 has_unknown names (source.int n) = false
@@ -72,16 +72,19 @@ names_row (source.bin op a b) = names_row a || names_row b
 names_row (source.is_null e) = names_row e
 names_row (source.not_null e) = names_row e
 
+-- a column of the condition is not in the table, if there is a condition
 abbrev pub where_has_unknown : List (List ℕ) → Option Expression → Bool
 where_has_unknown names None = false
 where_has_unknown names (Some e) = has_unknown names e
 
+-- a column of an aggregate is not in the table
 abbrev pub total_has_unknown : List (List ℕ) → Aggregate → Bool
 total_has_unknown names source.count = false
 total_has_unknown names (source.total e) = has_unknown names e
 total_has_unknown names (source.least e) = has_unknown names e
 total_has_unknown names (source.greatest e) = has_unknown names e
 
+-- a column of what a SELECT asks for is not in the table
 abbrev pub asked_has_unknown : List (List ℕ) → Selection → Bool
 asked_has_unknown names source.columns = false
 asked_has_unknown names (source.values es) = list_any (has_unknown names) es
@@ -92,14 +95,16 @@ abbrev pub input_names_row : Given → Bool
 input_names_row (source.value e) = names_row e
 input_names_row (source.drawn name) = false
 
+-- a column of an INSERT's list is not in the table, if there is a list
 abbrev pub list_has_unknown : List (List ℕ) → Option (List (List ℕ)) → Bool
 list_has_unknown names None = false
 list_has_unknown names (Some given) = list_any (is_unknown names) given
 
+-- a column of a setting, set or read, is not in the table
 abbrev pub setting_has_unknown : List (List ℕ) → Assignment → Bool
 setting_has_unknown names setting = is_unknown names setting.name || has_unknown names setting.to
 
--- a column is not in the table, or stands in an input
+-- a column that the table lacks, or any column in an input
 abbrev pub misnames_column : List (List ℕ) → Parsed → Bool
 misnames_column names (source.select table asked condition keys held) = asked_has_unknown names asked || where_has_unknown names condition || list_any (λ (key : Key). is_unknown names key.name) keys
 misnames_column names (source.next sequence) = false
@@ -112,11 +117,12 @@ misnames_column names source.set_read_only = false
 
 -- ---- sequences
 
+-- an input draws from a sequence that is not in the schema
 abbrev pub input_lacks_sequence : List (List ℕ) → Given → Bool
 input_lacks_sequence sequences (source.value e) = false
 input_lacks_sequence sequences (source.drawn name) = is_unknown sequences name
 
--- a sequence is not in the schema
+-- a sequence that the schema lacks
 abbrev pub lacks_sequence : List (List ℕ) → Parsed → Bool
 lacks_sequence sequences (source.select table asked condition keys held) = false
 lacks_sequence sequences (source.next name) = is_unknown sequences name
@@ -127,8 +133,9 @@ lacks_sequence sequences source.commit = false
 lacks_sequence sequences source.rollback = false
 lacks_sequence sequences source.set_read_only = false
 
--- ---- the statement with numbers for names, part by part
+-- ---- numbers for names, part by part
 
+-- an expression
 abbrev pub term_in : List (List ℕ) → Expression → Term
 term_in names source.null = plain.null
 term_in names (source.int n) = plain.int n
@@ -142,31 +149,38 @@ term_in names (source.bin op a b) = plain.bin op (term_in names a) (term_in name
 term_in names (source.is_null e) = plain.is_null (term_in names e)
 term_in names (source.not_null e) = plain.not_null (term_in names e)
 
+-- a condition, if there is one
 abbrev pub where_in : List (List ℕ) → Option Expression → Option Term
 where_in names None = None
 where_in names (Some e) = Some (term_in names e)
 
+-- an aggregate
 abbrev pub total_in : List (List ℕ) → Aggregate → Total
 total_in names source.count = plain.count
 total_in names (source.total e) = plain.total (term_in names e)
 total_in names (source.least e) = plain.least (term_in names e)
 total_in names (source.greatest e) = plain.greatest (term_in names e)
 
+-- what a SELECT asks for
 abbrev pub asked_in : List (List ℕ) → Selection → Asked
 asked_in names source.columns = plain.columns
 asked_in names (source.values es) = plain.values (map (term_in names) es)
 asked_in names (source.aggregates as_) = plain.totals (map (total_in names) as_)
 
+-- a column to order by
 abbrev pub key_in : List (List ℕ) → Key → ReadyKey
 key_in names key = record { column = number_of names key.name; desc = key.desc }
 
+-- an input of an INSERT
 abbrev pub entry_in : List (List ℕ) → List (List ℕ) → Given → Entry
 entry_in names sequences (source.value e) = plain.value (term_in names e)
 entry_in names sequences (source.drawn name) = plain.drawn (number_of sequences name)
 
+-- a new value of a column
 abbrev pub change_in : List (List ℕ) → Assignment → Change
 change_in names setting = record { column = number_of names setting.name; to = term_in names setting.to }
 
+-- an INSERT's list of columns, if there is one
 abbrev pub places_in : List (List ℕ) → Option (List (List ℕ)) → Option (List ℕ)
 places_in names None = None
 places_in names (Some given) = Some (map (number_of names) given)
@@ -189,11 +203,12 @@ abbrev pub has_twice : {X : Type 0} → (X → ℕ) → List X → Bool
 has_twice number [] = false
 has_twice number (first ∷ others) = list_any (λ other. nat_eq (number other) (number first)) others || has_twice number others
 
+-- a column stands twice in an INSERT's list
 abbrev pub list_has_twice : Option (List ℕ) → Bool
 list_has_twice None = false
 list_has_twice (Some places) = has_twice (λ place. place) places
 
--- a column is named twice in an INSERT's list or in SET; in ORDER BY it may be
+-- of the columns that get a value none may come up again; columns to order by may
 abbrev pub repeats_column : Plan → Bool
 repeats_column (plain.select table asked condition keys held) = false
 repeats_column (plain.next sequence) = false

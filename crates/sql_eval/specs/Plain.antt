@@ -76,23 +76,28 @@ term_of (checked.Bin' op p a q b) = bin op (term_of a) (term_of b)
 term_of (checked.IsNull' p e) = is_null (term_of e)
 term_of (checked.NotNull' p e) = not_null (term_of e)
 
+-- the plain tree of a condition, if there is one
 abbrev pub optional_term : Option Checked → Option Term
 optional_term None = None
 optional_term (Some e) = Some (term_of e)
 
+-- the plain tree of an aggregate
 abbrev pub total_of : ReadyAgg → Total
 total_of agg.Count = count
 total_of (agg.Sum e) = total (term_of e)
 total_of (agg.Min e) = least (term_of e)
 total_of (agg.Max e) = greatest (term_of e)
 
+-- the plain tree of an input
 abbrev pub entry_of : ReadyInput → Entry
 entry_of (input.Expr e) = value (term_of e)
 entry_of (input.Next sequence) = drawn sequence
 
+-- the plain tree of a new value of a column
 abbrev pub change_of : ReadySetting → Change
 change_of setting = record { column = setting.column; to = term_of setting.to }
 
+-- the plain tree of what a SELECT asks for
 abbrev pub asked_of : ReadyItems → Asked
 asked_of items.All = columns
 asked_of (items.Exprs es) = values (map term_of es)

@@ -18,6 +18,7 @@ use Rattle.sql_eval.specs.Plain as term
 
 -- ---- faults: every part is evaluated, and of two faults the zero divisor is told
 
+-- the fault that is told of two
 abbrev pub worse : Fault → Fault → Fault
 worse ZeroDivisor other = ZeroDivisor
 worse fault other = other
@@ -29,7 +30,7 @@ both (Ok a) (Err fault) = Err fault
 both (Err fault) (Ok b) = Err fault
 both (Err fault) (Err other) = Err (worse fault other)
 
--- an operation on what a part has; a part whose operand has a fault adds none
+-- an operation on what a part has; after a fault there is none
 abbrev pub then_apply : {A B : Type 0} → (A → Result B Fault) → Result A Fault → Result B Fault
 then_apply f (Ok a) = f a
 then_apply f (Err fault) = Err fault
@@ -41,17 +42,20 @@ abbrev pub is_in_range : ℤ → Bool
 is_in_range (pos n) = nat_lt n (2 ^ 63)
 is_in_range (negsuc n) = nat_lt n (2 ^ 63)
 
+-- a result within 64 bits, or else overflow
 abbrev pub number : ℤ → Result Value Fault
 number n = if is_in_range n then Ok (Int n) else Err Overflow
 
+-- the number is 0
 abbrev pub is_zero : ℤ → Bool
 is_zero (pos n) = nat_eq n 0
 is_zero (negsuc n) = false
 
--- level 1 truncates toward zero
+-- level 1 drops what is behind the point
 abbrev pub quotient : ℕ → ℤ → ℤ → ℤ
 quotient level a b = int_div a b
 
+-- arithmetic with two numbers; a divisor 0 is told before the range
 abbrev pub of_numbers : ℕ → Op → ℤ → ℤ → Result Value Fault
 of_numbers level Add a b = number (a +ℤ b)
 of_numbers level Sub a b = number (a -ℤ b)
@@ -59,11 +63,12 @@ of_numbers level Mul a b = number (a *ℤ b)
 of_numbers level Div a b = if is_zero b then Err ZeroDivisor else number (quotient level a b)
 of_numbers level other a b = Ok Null
 
--- arithmetic with a Null is Null
+-- a Null operand makes the result Null
 abbrev pub arithmetic : ℕ → Op → Value → Value → Result Value Fault
 arithmetic level op (Int a) (Int b) = of_numbers level op a b
 arithmetic level op other value = Ok Null
 
+-- minus a number; of Null it is Null
 abbrev pub minus : Value → Result Value Fault
 minus (Int a) = number (neg_ℤ a)
 minus other = Ok Null
@@ -86,6 +91,7 @@ equal level (Row a) (Row b) = Some (nat_eq a b)
 equal level (Draw p a) (Draw q b) = Some (nat_eq p q && nat_eq a b)
 equal level a b = option_map is_eq (order level a b)
 
+-- the outcome of a comparison; none where nobody knows
 abbrev pub comparison : ℕ → Op → Value → Value → Option Bool
 comparison level Eq a b = equal level a b
 comparison level Ne a b = option_map not (equal level a b)
@@ -95,6 +101,7 @@ comparison level Gt a b = option_map is_gt (order level a b)
 comparison level Ge a b = option_map is_ge (order level a b)
 comparison level other a b = None
 
+-- the value is Null
 abbrev pub is_null_value : Value → Bool
 is_null_value Null = true
 is_null_value other = false
@@ -125,6 +132,7 @@ is_connective And = true
 is_connective Or = true
 is_connective other = false
 
+-- AND or OR of two truths
 abbrev pub connected : Op → Truth → Truth → Truth
 connected And s t = conjunction s t
 connected other s t = disjunction s t

@@ -7,18 +7,18 @@ ghost use Rattle.sql_eval.specs.Plain.{asked_of, entry_of, optional_term, plan_o
 
 use crate::ready::{Checked, Ready, ReadyAgg, ReadyInput, ReadyItems, ReadySetting};
 
-fn expr_misses(count: usize, e: &Checked) -> bool
-    ensures { result ≡ misses_bind count (term_of e.now) }
+fn expr_misses(count: usize, expr: &Checked) -> bool
+    ensures { result ≡ misses_bind count (term_of expr.now) }
 {
-    match e {
+    match expr {
         Checked::Null | Checked::Int(_) | Checked::Text(_) | Checked::Column(_) => false,
         Checked::RowId => false,
         Checked::Bind(number) => *number == 0 || count < *number as usize,
-        Checked::Neg(of) => expr_misses(count, of),
-        Checked::Not(of) => expr_misses(count, of),
+        Checked::Neg(operand) => expr_misses(count, operand),
+        Checked::Not(operand) => expr_misses(count, operand),
         Checked::Bin(_, left, right) => expr_misses(count, left) || expr_misses(count, right),
-        Checked::IsNull(of) => expr_misses(count, of),
-        Checked::NotNull(of) => expr_misses(count, of),
+        Checked::IsNull(operand) => expr_misses(count, operand),
+        Checked::NotNull(operand) => expr_misses(count, operand),
     }
 }
 
@@ -26,7 +26,7 @@ fn condition_misses(count: usize, condition: &Option<Checked>) -> bool
     ensures { result ≡ where_misses_bind count (optional_term condition.now) }
 {
     match condition {
-        Some(e) => expr_misses(count, e),
+        Some(expr) => expr_misses(count, expr),
         None => false,
     }
 }
@@ -36,16 +36,16 @@ fn agg_misses(count: usize, agg: &ReadyAgg) -> bool
 {
     match agg {
         ReadyAgg::Count => false,
-        ReadyAgg::Sum(e) => expr_misses(count, e),
-        ReadyAgg::Min(e) => expr_misses(count, e),
-        ReadyAgg::Max(e) => expr_misses(count, e),
+        ReadyAgg::Sum(expr) => expr_misses(count, expr),
+        ReadyAgg::Min(expr) => expr_misses(count, expr),
+        ReadyAgg::Max(expr) => expr_misses(count, expr),
     }
 }
 
 fn some_expr_misses(count: usize, exprs: &[Checked]) -> bool
-    ensures { result ≡ list_any (λ e. misses_bind count (term_of e)) exprs.now }
+    ensures { result ≡ list_any (λ expr. misses_bind count (term_of expr)) exprs.now }
 {
-    exprs.iter().any(|e| expr_misses(count, e))
+    exprs.iter().any(|expr| expr_misses(count, expr))
 }
 
 fn some_agg_misses(count: usize, aggs: &[ReadyAgg]) -> bool
@@ -69,7 +69,7 @@ fn input_misses(count: usize, input: &ReadyInput) -> bool
     ensures { result ≡ entry_misses_bind count (entry_of input.now) }
 {
     match input {
-        ReadyInput::Expr(e) => expr_misses(count, e),
+        ReadyInput::Expr(expr) => expr_misses(count, expr),
         ReadyInput::Next(_) => false,
     }
 }

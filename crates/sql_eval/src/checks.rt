@@ -9,15 +9,29 @@ use crate::names::{
     names_column_twice, names_unknown_column, names_unknown_sequence, names_unknown_table,
     statement_table,
 };
-use crate::numbers::numbered;
+use crate::numbers::numbered_statement;
 use crate::ready::Ready;
 use crate::rules::keeps_kinds;
+use crate::scope::Scope;
 use desk_schema::Schema;
 use desk_values::{Binds, Fault};
 use sql_reader::Statement;
 use std::alloc::Global;
 
-/// The statement with numbers for names, or the fault of lowest rank that applies to it.
+/// The statement with numbers for names, for these binds.
+///
+/// # Errors
+///
+/// `Refused` has the first of these faults that applies anywhere in the statement:
+///
+/// 1. `UnknownTable`: no table of the schema has that name.
+/// 2. `UnknownColumn`: the table lacks a column; an INSERT's list or an UPDATE has one two times; an INSERT's input
+///    mentions a column or ROWID.
+/// 3. `UnknownSequence`: no sequence has that name.
+/// 4. `BindMissing`: a bind was not given.
+/// 5. `Kinds`: parts that do not go together, or more or fewer inputs than columns.
+///
+/// `Memory` says nothing of the statement.
 pub fn check(
     alloc: Global,
     schema: &Schema,
@@ -31,17 +45,18 @@ pub fn check(
         return Err(CheckErr::Refused(Fault::UnknownTable));
     }
     let table = statement_table(schema, st);
-    let ready = numbered(alloc, schema, table, st)?;
-    if names_unknown_column(schema, table, st) || names_column_twice(&ready) {
+    let scope = Scope { schema, table };
+    let ready = numbered_statement(alloc, scope, st)?;
+    if names_unknown_column(scope, st) || names_column_twice(&ready) {
         return Err(CheckErr::Refused(Fault::UnknownColumn));
     }
-    if names_unknown_sequence(schema, st) {
+    if names_unknown_sequence(scope, st) {
         return Err(CheckErr::Refused(Fault::UnknownSequence));
     }
     if misses_some_bind(binds.len(), &ready) {
         return Err(CheckErr::Refused(Fault::BindMissing));
     }
-    if !keeps_kinds(schema, table, binds, &ready) {
+    if !keeps_kinds(scope, binds, &ready) {
         return Err(CheckErr::Refused(Fault::Kinds));
     }
     Ok(ready)

@@ -7,7 +7,7 @@ use desk_values::{Fault, Memory};
 /// Why a statement did not pass the checks.
 #[derive(Clone, Copy, Debug, PartialEq, Eq)]
 pub enum CheckErr {
-    /// The check of lowest rank that fails.
+    /// The fault of the first check that fails, in the order of [`check`](crate::check).
     Refused(Fault),
     /// Want of memory.
     Memory,
@@ -24,7 +24,7 @@ impl From<Memory> for CheckErr {
 /// Why an expression has no value.
 #[derive(Clone, Copy, Debug, PartialEq, Eq)]
 pub enum EvalErr {
-    /// A divisor is zero, or else a number leaves 64 bits.
+    /// `ZeroDivisor` where some part divides by zero, else `Overflow` where the result of some part leaves 64 bits.
     Refused(Fault),
     /// Want of memory.
     Memory,

@@ -1,17 +1,18 @@
 ghost use Rattle.std.specs.Prelude.{◌≡◌, option_map};
-ghost use Rattle.desk_schema.specs.Schema.{columns_of};
 ghost use Rattle.sql_eval.specs.Kinds.{has_order, is_comparable, is_null_kind, is_number, is_same_kind, is_taken, is_truth, kept, kind_at, kind_of, kind_of_column, kind_of_value, operator_kind};
 ghost use Rattle.sql_eval.specs.Plain.{term_of};
+ghost use Rattle.sql_eval.specs.Scope.{scope_columns};
 ghost use Rattle.sql_eval.specs.Value.{bind_at};
 
 use crate::ready::Checked;
-use desk_schema::{Kind, Schema};
+use crate::scope::Scope;
+use desk_schema::Kind;
 use desk_values::{Binds, Value};
 use sql_reader::Op;
 
 /// The kind of a part of an expression.
 #[derive(Clone, Copy, Debug, PartialEq, Eq)]
-pub enum PartKind {
+pub(crate) enum PartKind {
     /// A Null, which goes with every kind.
     Null,
     /// A whole number.
@@ -30,54 +31,34 @@ impl PartKind {
     fn is_null(self) -> bool
         ensures { result ≡ is_null_kind self }
     {
-        match self {
-            PartKind::Null => true,
-            _ => false,
-        }
+        matches!(self, PartKind::Null)
     }
 
     /// Whether it is a condition.
     pub(crate) fn is_condition(self) -> bool
         ensures { result ≡ is_truth self }
     {
-        match self {
-            PartKind::Truth => true,
-            _ => false,
-        }
+        matches!(self, PartKind::Truth)
     }
 
     /// Whether arithmetic takes it.
     pub(crate) fn is_numeric(self) -> bool
         ensures { result ≡ is_number self }
     {
-        match self {
-            PartKind::Null | PartKind::Int => true,
-            _ => false,
-        }
+        matches!(self, PartKind::Null | PartKind::Int)
     }
 
     /// Whether its values have an order.
     pub(crate) fn is_ordered(self) -> bool
         ensures { result ≡ has_order self }
     {
-        match self {
-            PartKind::Null | PartKind::Int | PartKind::Text => true,
-            _ => false,
-        }
+        matches!(self, PartKind::Null | PartKind::Int | PartKind::Text)
     }
 
     fn is_same(self, other: PartKind) -> bool
         ensures { result ≡ is_same_kind self other }
     {
-        match (self, other) {
-            (PartKind::Null, PartKind::Null) => true,
-            (PartKind::Int, PartKind::Int) => true,
-            (PartKind::Text, PartKind::Text) => true,
-            (PartKind::Row, PartKind::Row) => true,
-            (PartKind::Seq(left), PartKind::Seq(right)) => left == right,
-            (PartKind::Truth, PartKind::Truth) => true,
-            _ => false,
-        }
+        self == other
     }
 
     fn compares_with(self, other: PartKind) -> bool
@@ -96,6 +77,7 @@ impl PartKind {
     }
 }
 
+/// The kind of a value.
 fn value_kind(value: &Value) -> PartKind
     ensures { result ≡ kind_of_value value.now }
 {
@@ -108,16 +90,12 @@ fn value_kind(value: &Value) -> PartKind
     }
 }
 
+/// The kind of the bind of a number from 1.
 fn bind_kind(binds: &Binds, number: u32) -> Option<PartKind>
     ensures { result ≡ option_map kind_of_value (bind_at binds.now number) }
 {
-    if number == 0 {
-        return None;
-    }
-    match binds.get((number - 1) as usize) {
-        Some(value) => Some(value_kind(value)),
-        None => None,
-    }
+    let place = number.checked_sub(1)?;
+    binds.get(place as usize).map(|value| value_kind(value))
 }
 
 /// The kind of what a column of this declaration holds.
@@ -131,16 +109,6 @@ pub(crate) fn declared_kind(kind: Kind) -> PartKind
     }
 }
 
-/// The kind of a column by its number. `None` where there is no such column.
-pub(crate) fn column_kind(schema: &Schema, table: u32, column: u32) -> Option<PartKind>
-    ensures { result ≡ kind_at (columns_of schema.now.tables table) column }
-{
-    match schema.column(table, column) {
-        Some((kind, _)) => Some(declared_kind(kind)),
-        None => None,
-    }
-}
-
 /// The kind, where the rule is kept.
 fn kept_kind(rule: bool, kind: PartKind) -> Option<PartKind>
     ensures { result ≡ kept rule kind }
@@ -148,6 +116,7 @@ fn kept_kind(rule: bool, kind: PartKind) -> Option<PartKind>
     if rule { Some(kind) } else { None }
 }
 
+/// The kind of an operation on parts of these kinds.
 fn kind_of_operator(op: Op, left: PartKind, right: PartKind) -> Option<PartKind>
     ensures { result ≡ operator_kind op left right }
 {
@@ -165,36 +134,36 @@ fn kind_of_operator(op: Op, left: PartKind, right: PartKind) -> Option<PartKind>
 }
 
 /// The kind of an expression over the columns of a table. `None` where it breaks a rule of kinds.
-pub(crate) fn expr_kind(schema: &Schema, table: u32, binds: &Binds, e: &Checked) -> Option<PartKind>
-    ensures { result ≡ kind_of (columns_of schema.now.tables table) binds.now (term_of e.now) }
+pub(crate) fn expr_kind(scope: Scope<'_>, binds: &Binds, expr: &Checked) -> Option<PartKind>
+    ensures { result ≡ kind_of (scope_columns scope.entry) binds.now (term_of expr.now) }
 {
-    match e {
+    match expr {
         Checked::Null => Some(PartKind::Null),
         Checked::Int(_) => Some(PartKind::Int),
         Checked::Text(_) => Some(PartKind::Text),
         Checked::Bind(number) => bind_kind(binds, *number),
-        Checked::Column(column) => column_kind(schema, table, *column),
+        Checked::Column(column) => scope.column_kind(*column),
         Checked::RowId => Some(PartKind::Row),
-        Checked::Neg(of) => {
-            let of = expr_kind(schema, table, binds, of)?;
-            kept_kind(of.is_numeric(), PartKind::Int)
+        Checked::Neg(operand) => {
+            let kind = expr_kind(scope, binds, operand)?;
+            kept_kind(kind.is_numeric(), PartKind::Int)
         }
-        Checked::Not(of) => {
-            let of = expr_kind(schema, table, binds, of)?;
-            kept_kind(of.is_condition(), PartKind::Truth)
+        Checked::Not(operand) => {
+            let kind = expr_kind(scope, binds, operand)?;
+            kept_kind(kind.is_condition(), PartKind::Truth)
         }
         Checked::Bin(op, left, right) => {
-            let left = expr_kind(schema, table, binds, left)?;
-            let right = expr_kind(schema, table, binds, right)?;
+            let left = expr_kind(scope, binds, left)?;
+            let right = expr_kind(scope, binds, right)?;
             kind_of_operator(*op, left, right)
         }
-        Checked::IsNull(of) => {
-            let of = expr_kind(schema, table, binds, of)?;
-            kept_kind(!of.is_condition(), PartKind::Truth)
+        Checked::IsNull(operand) => {
+            let kind = expr_kind(scope, binds, operand)?;
+            kept_kind(!kind.is_condition(), PartKind::Truth)
         }
-        Checked::NotNull(of) => {
-            let of = expr_kind(schema, table, binds, of)?;
-            kept_kind(!of.is_condition(), PartKind::Truth)
+        Checked::NotNull(operand) => {
+            let kind = expr_kind(scope, binds, operand)?;
+            kept_kind(!kind.is_condition(), PartKind::Truth)
         }
     }
 }

@@ -1,10 +1,11 @@
-//! Laws that callers may rest on. The functions do nothing: their contracts are the laws.
+//! Laws of [`truth_of`](crate::truth_of) and [`eval`](crate::eval) that callers may rest on. The functions do nothing:
+//! their contracts are the laws.
 
 ghost use Rattle.sql_reader.specs.declared.tree.Op.TheVariants.{And, Or};
 ghost use Rattle.sql_eval.specs.Laws.{AreStandardTables, GoesByTable, NotGoesByTable, NullIsNull, NullIsUnknown, TruthFaultIsAmongParts, UnknownMeansNull, ValueFaultIsAmongParts, ValueHasItsKind};
 ghost use Rattle.sql_eval.specs.Logic.{conjunction, disjunction};
 
-/// NOT, AND and OR are those of the standard's three-valued logic.
+/// NOT, AND and OR go by the truth tables of three-valued logic (ISO/IEC 9075-2, boolean value expression).
 pub fn three_valued_logic()
     ensures tables { AreStandardTables }
     ensures not { NotGoesByTable }
@@ -12,13 +13,15 @@ pub fn three_valued_logic()
     ensures or { GoesByTable Or disjunction }
 {}
 
-/// A comparison with Null is unknown, and arithmetic with Null is Null.
+/// What Null does where the other side has a value: a comparison becomes unknown, a calculation Null, also by zero
+/// (ISO/IEC 9075-2, comparison predicate and numeric value expression).
 pub fn null_operands()
     ensures unknown { NullIsUnknown }
     ensures null { NullIsNull }
 {}
 
-/// Every part is evaluated: a fault of any part is a fault of the whole, the zero divisor before overflow.
+/// No part is skipped: the fault of any part is that of the whole, the zero divisor before overflow. There is no other
+/// fault, and an operator with a faulty operand adds none.
 pub fn faults_of_parts()
     ensures value { ValueFaultIsAmongParts }
     ensures truth { TruthFaultIsAmongParts }

@@ -2,6 +2,9 @@
 //!
 //! Enters: a statement, a schema, binds, and the values of a row. Leaves: the statement with numbers for names,
 //! values, truth, or the fault that the rules give. It touches nothing but memory.
+//!
+//! Values and truths are those of ISO/IEC 9075-2: arithmetic with Null is Null, a comparison with Null is unknown, and
+//! conditions have three truth values. The order of faults is this program's own.
 #![tactic(auto)]
 
 mod binds;
@@ -14,14 +17,14 @@ mod names;
 mod numbers;
 mod ready;
 mod rules;
-mod seen;
+mod scope;
 #[cfg(test)]
 mod tests;
 mod value;
+mod value_ref;
 
 pub use checks::check;
 pub use error::{CheckErr, EvalErr};
-pub use kind::PartKind;
 pub use laws::{faults_of_parts, null_operands, three_valued_logic, values_have_their_kind};
 pub use logic::Truth;
 pub use ready::{

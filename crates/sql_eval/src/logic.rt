@@ -1,7 +1,7 @@
 ghost use Rattle.std.specs.Prelude.{◌≡◌};
 ghost use Rattle.sql_eval.specs.Logic.{conjunction, disjunction, negation};
 
-/// A truth value of SQL.
+/// A truth value of SQL (ISO/IEC 9075-2, boolean value expression). A row passes a condition only where it is `True`.
 #[derive(Clone, Copy, Debug, PartialEq, Eq)]
 pub enum Truth {
     /// It holds.
@@ -13,7 +13,7 @@ pub enum Truth {
 }
 
 impl Truth {
-    /// `NOT`
+    /// `NOT`: unknown stays unknown.
     pub fn negated(self) -> Truth
         ensures { result ≡ negation self }
     {
@@ -24,7 +24,7 @@ impl Truth {
         }
     }
 
-    /// `AND`
+    /// `AND`: false where one side is false, else unknown where one is unknown.
     pub fn and(self, other: Truth) -> Truth
         ensures { result ≡ conjunction self other }
     {
@@ -35,7 +35,7 @@ impl Truth {
         }
     }
 
-    /// `OR`
+    /// `OR`: true where one side is true, else unknown where one is unknown.
     pub fn or(self, other: Truth) -> Truth
         ensures { result ≡ disjunction self other }
     {

@@ -3,12 +3,13 @@
 ghost use Rattle.std.specs.Prelude.{◌≡◌, map, nat_eq};
 ghost use Rattle.std.specs.Option.{option_copied};
 ghost use Rattle.std.specs.List.{list_any};
-ghost use Rattle.desk_schema.specs.Schema.{column_names, columns_of};
 ghost use Rattle.sql_reader.specs.Plain.{aggregate_of, assignment_of, given_of, optional_tree, parsed_of, selection_of, tree_of};
 ghost use Rattle.sql_eval.specs.Names.{asked_has_unknown, has_twice, has_unknown, input_lacks_sequence, input_names_row, is_unknown, is_unknown_table, lacks_sequence, list_has_unknown, misnames_column, names_row, number_of, repeats_column, setting_has_unknown, table_number, table_of, total_has_unknown, where_has_unknown};
 ghost use Rattle.sql_eval.specs.Plain.{plan_of};
+ghost use Rattle.sql_eval.specs.Scope.{scope_column_names, scope_sequences};
 
 use crate::ready::{Ready, ReadySetting};
+use crate::scope::Scope;
 use desk_schema::Schema;
 use desk_values::Txt;
 use sql_reader::{Agg, Expr, Input, Items, Key, Names, Setting, Statement};
@@ -50,116 +51,113 @@ pub(crate) fn statement_table(schema: &Schema, statement: &Statement) -> u32
 }
 
 /// Whether a column of the expression is not in the table.
-fn expr_names_unknown(schema: &Schema, table: u32, e: &Expr) -> bool
-    ensures { result ≡ has_unknown (column_names (columns_of schema.now.tables table)) (tree_of e.now) }
+fn expr_names_unknown(scope: Scope<'_>, expr: &Expr) -> bool
+    ensures { result ≡ has_unknown (scope_column_names scope.entry) (tree_of expr.now) }
 {
-    match e {
+    match expr {
         Expr::Null | Expr::Int(_) | Expr::Text(_) | Expr::Bind(_) | Expr::RowId => false,
-        Expr::Column(name) => schema.column_named(table, name).is_none(),
-        Expr::Neg(of) => expr_names_unknown(schema, table, of),
-        Expr::Not(of) => expr_names_unknown(schema, table, of),
+        Expr::Column(name) => scope.column_named(name).is_none(),
+        Expr::Neg(operand) => expr_names_unknown(scope, operand),
+        Expr::Not(operand) => expr_names_unknown(scope, operand),
         Expr::Bin(_, left, right) => {
-            expr_names_unknown(schema, table, left) || expr_names_unknown(schema, table, right)
+            expr_names_unknown(scope, left) || expr_names_unknown(scope, right)
         }
-        Expr::IsNull(of) => expr_names_unknown(schema, table, of),
-        Expr::NotNull(of) => expr_names_unknown(schema, table, of),
+        Expr::IsNull(operand) => expr_names_unknown(scope, operand),
+        Expr::NotNull(operand) => expr_names_unknown(scope, operand),
     }
 }
 
-fn condition_names_unknown(schema: &Schema, table: u32, condition: &Option<Expr>) -> bool
-    ensures { result ≡ where_has_unknown (column_names (columns_of schema.now.tables table)) (optional_tree condition.now) }
+fn condition_names_unknown(scope: Scope<'_>, condition: &Option<Expr>) -> bool
+    ensures { result ≡ where_has_unknown (scope_column_names scope.entry) (optional_tree condition.now) }
 {
     match condition {
-        Some(e) => expr_names_unknown(schema, table, e),
+        Some(expr) => expr_names_unknown(scope, expr),
         None => false,
     }
 }
 
-fn agg_names_unknown(schema: &Schema, table: u32, agg: &Agg) -> bool
-    ensures { result ≡ total_has_unknown (column_names (columns_of schema.now.tables table)) (aggregate_of agg.now) }
+fn agg_names_unknown(scope: Scope<'_>, agg: &Agg) -> bool
+    ensures { result ≡ total_has_unknown (scope_column_names scope.entry) (aggregate_of agg.now) }
 {
     match agg {
         Agg::Count => false,
-        Agg::Sum(e) => expr_names_unknown(schema, table, e),
-        Agg::Min(e) => expr_names_unknown(schema, table, e),
-        Agg::Max(e) => expr_names_unknown(schema, table, e),
+        Agg::Sum(expr) => expr_names_unknown(scope, expr),
+        Agg::Min(expr) => expr_names_unknown(scope, expr),
+        Agg::Max(expr) => expr_names_unknown(scope, expr),
     }
 }
 
-fn some_expr_names_unknown(schema: &Schema, table: u32, exprs: &[Expr]) -> bool
-    ensures { result ≡ list_any (λ e. has_unknown (column_names (columns_of schema.now.tables table)) (tree_of e)) exprs.now }
+fn some_expr_names_unknown(scope: Scope<'_>, exprs: &[Expr]) -> bool
+    ensures { result ≡ list_any (λ expr. has_unknown (scope_column_names scope.entry) (tree_of expr)) exprs.now }
 {
-    exprs.iter().any(|e| expr_names_unknown(schema, table, e))
+    exprs.iter().any(|expr| expr_names_unknown(scope, expr))
 }
 
-fn some_agg_names_unknown(schema: &Schema, table: u32, aggs: &[Agg]) -> bool
-    ensures { result ≡ list_any (λ agg. total_has_unknown (column_names (columns_of schema.now.tables table)) (aggregate_of agg)) aggs.now }
+fn some_agg_names_unknown(scope: Scope<'_>, aggs: &[Agg]) -> bool
+    ensures { result ≡ list_any (λ agg. total_has_unknown (scope_column_names scope.entry) (aggregate_of agg)) aggs.now }
 {
-    aggs.iter().any(|agg| agg_names_unknown(schema, table, agg))
+    aggs.iter().any(|agg| agg_names_unknown(scope, agg))
 }
 
 #[tactic(auto, using(crate::proofs::Mapped::any_mapped))]
-fn items_name_unknown(schema: &Schema, table: u32, items: &Items) -> bool
-    ensures { result ≡ asked_has_unknown (column_names (columns_of schema.now.tables table)) (selection_of items.now) }
+fn items_name_unknown(scope: Scope<'_>, items: &Items) -> bool
+    ensures { result ≡ asked_has_unknown (scope_column_names scope.entry) (selection_of items.now) }
 {
     match items {
         Items::All => false,
-        Items::Exprs(exprs) => some_expr_names_unknown(schema, table, exprs.as_slice()),
-        Items::Aggs(aggs) => some_agg_names_unknown(schema, table, aggs.as_slice()),
+        Items::Exprs(exprs) => some_expr_names_unknown(scope, exprs.as_slice()),
+        Items::Aggs(aggs) => some_agg_names_unknown(scope, aggs.as_slice()),
     }
 }
 
-fn some_key_is_unknown(schema: &Schema, table: u32, keys: &[Key]) -> bool
-    ensures { result ≡ list_any (λ key. is_unknown (column_names (columns_of schema.now.tables table)) key.name) keys.now }
+fn some_key_is_unknown(scope: Scope<'_>, keys: &[Key]) -> bool
+    ensures { result ≡ list_any (λ key. is_unknown (scope_column_names scope.entry) key.name) keys.now }
 {
     keys.iter()
-        .any(|key| schema.column_named(table, &key.name).is_none())
+        .any(|key| scope.column_named(&key.name).is_none())
 }
 
-fn some_name_is_unknown(schema: &Schema, table: u32, names: &[Txt]) -> bool
-    ensures { result ≡ list_any (is_unknown (column_names (columns_of schema.now.tables table))) names.now }
+fn some_name_is_unknown(scope: Scope<'_>, names: &[Txt]) -> bool
+    ensures { result ≡ list_any (is_unknown (scope_column_names scope.entry)) names.now }
 {
-    names
-        .iter()
-        .any(|name| schema.column_named(table, name).is_none())
+    names.iter().any(|name| scope.column_named(name).is_none())
 }
 
-fn list_names_unknown(schema: &Schema, table: u32, named: &Option<Names>) -> bool
-    ensures { result ≡ list_has_unknown (column_names (columns_of schema.now.tables table)) named.now }
+fn list_names_unknown(scope: Scope<'_>, named: &Option<Names>) -> bool
+    ensures { result ≡ list_has_unknown (scope_column_names scope.entry) named.now }
 {
     match named {
-        Some(names) => some_name_is_unknown(schema, table, names.as_slice()),
+        Some(names) => some_name_is_unknown(scope, names.as_slice()),
         None => false,
     }
 }
 
-fn setting_names_unknown(schema: &Schema, table: u32, setting: &Setting) -> bool
-    ensures { result ≡ setting_has_unknown (column_names (columns_of schema.now.tables table)) (assignment_of setting.now) }
+fn setting_names_unknown(scope: Scope<'_>, setting: &Setting) -> bool
+    ensures { result ≡ setting_has_unknown (scope_column_names scope.entry) (assignment_of setting.now) }
 {
-    schema.column_named(table, &setting.name).is_none()
-        || expr_names_unknown(schema, table, &setting.to)
+    scope.column_named(&setting.name).is_none() || expr_names_unknown(scope, &setting.to)
 }
 
-fn some_setting_names_unknown(schema: &Schema, table: u32, settings: &[Setting]) -> bool
-    ensures { result ≡ list_any (λ setting. setting_has_unknown (column_names (columns_of schema.now.tables table)) (assignment_of setting)) settings.now }
+fn some_setting_names_unknown(scope: Scope<'_>, settings: &[Setting]) -> bool
+    ensures { result ≡ list_any (λ setting. setting_has_unknown (scope_column_names scope.entry) (assignment_of setting)) settings.now }
 {
     settings
         .iter()
-        .any(|setting| setting_names_unknown(schema, table, setting))
+        .any(|setting| setting_names_unknown(scope, setting))
 }
 
 /// Whether a column or ROWID stands in the expression.
-fn expr_names_row(e: &Expr) -> bool
-    ensures { result ≡ names_row (tree_of e.now) }
+fn expr_names_row(expr: &Expr) -> bool
+    ensures { result ≡ names_row (tree_of expr.now) }
 {
-    match e {
+    match expr {
         Expr::Null | Expr::Int(_) | Expr::Text(_) | Expr::Bind(_) => false,
         Expr::Column(_) | Expr::RowId => true,
-        Expr::Neg(of) => expr_names_row(of),
-        Expr::Not(of) => expr_names_row(of),
+        Expr::Neg(operand) => expr_names_row(operand),
+        Expr::Not(operand) => expr_names_row(operand),
         Expr::Bin(_, left, right) => expr_names_row(left) || expr_names_row(right),
-        Expr::IsNull(of) => expr_names_row(of),
-        Expr::NotNull(of) => expr_names_row(of),
+        Expr::IsNull(operand) => expr_names_row(operand),
+        Expr::NotNull(operand) => expr_names_row(operand),
     }
 }
 
@@ -167,7 +165,7 @@ fn input_names_some_row(input: &Input) -> bool
     ensures { result ≡ input_names_row (given_of input.now) }
 {
     match input {
-        Input::Expr(e) => expr_names_row(e),
+        Input::Expr(expr) => expr_names_row(expr),
         Input::Next(_) => false,
     }
 }
@@ -180,23 +178,23 @@ fn some_input_names_row(inputs: &[Input]) -> bool
 
 /// Whether a column is not in the table, or stands in an input.
 #[tactic(auto, using(crate::proofs::Mapped::any_mapped))]
-pub(crate) fn names_unknown_column(schema: &Schema, table: u32, statement: &Statement) -> bool
-    ensures { result ≡ misnames_column (column_names (columns_of schema.now.tables table)) (parsed_of statement.now) }
+pub(crate) fn names_unknown_column(scope: Scope<'_>, statement: &Statement) -> bool
+    ensures { result ≡ misnames_column (scope_column_names scope.entry) (parsed_of statement.now) }
 {
     match statement {
         Statement::Select(_, items, condition, keys, _) => {
-            items_name_unknown(schema, table, items)
-                || condition_names_unknown(schema, table, condition)
-                || some_key_is_unknown(schema, table, keys.as_slice())
+            items_name_unknown(scope, items)
+                || condition_names_unknown(scope, condition)
+                || some_key_is_unknown(scope, keys.as_slice())
         }
         Statement::Insert(_, named, inputs) => {
-            list_names_unknown(schema, table, named) || some_input_names_row(inputs.as_slice())
+            list_names_unknown(scope, named) || some_input_names_row(inputs.as_slice())
         }
         Statement::Update(_, settings, condition) => {
-            some_setting_names_unknown(schema, table, settings.as_slice())
-                || condition_names_unknown(schema, table, condition)
+            some_setting_names_unknown(scope, settings.as_slice())
+                || condition_names_unknown(scope, condition)
         }
-        Statement::Delete(_, condition) => condition_names_unknown(schema, table, condition),
+        Statement::Delete(_, condition) => condition_names_unknown(scope, condition),
         Statement::Next(_) => false,
         Statement::Commit => false,
         Statement::Rollback => false,
@@ -204,31 +202,29 @@ pub(crate) fn names_unknown_column(schema: &Schema, table: u32, statement: &Stat
     }
 }
 
-fn input_names_unknown(schema: &Schema, input: &Input) -> bool
-    ensures { result ≡ input_lacks_sequence schema.now.sequences (given_of input.now) }
+fn input_names_unknown(scope: Scope<'_>, input: &Input) -> bool
+    ensures { result ≡ input_lacks_sequence (scope_sequences scope.entry) (given_of input.now) }
 {
     match input {
         Input::Expr(_) => false,
-        Input::Next(sequence) => schema.seq_named(sequence).is_none(),
+        Input::Next(sequence) => scope.sequence_named(sequence).is_none(),
     }
 }
 
-fn some_input_names_unknown(schema: &Schema, inputs: &[Input]) -> bool
-    ensures { result ≡ list_any (λ input. input_lacks_sequence schema.now.sequences (given_of input)) inputs.now }
+fn some_input_names_unknown(scope: Scope<'_>, inputs: &[Input]) -> bool
+    ensures { result ≡ list_any (λ input. input_lacks_sequence (scope_sequences scope.entry) (given_of input)) inputs.now }
 {
-    inputs
-        .iter()
-        .any(|input| input_names_unknown(schema, input))
+    inputs.iter().any(|input| input_names_unknown(scope, input))
 }
 
 /// Whether a sequence is not in the schema.
 #[tactic(auto, using(crate::proofs::Mapped::any_mapped))]
-pub(crate) fn names_unknown_sequence(schema: &Schema, statement: &Statement) -> bool
-    ensures { result ≡ lacks_sequence schema.now.sequences (parsed_of statement.now) }
+pub(crate) fn names_unknown_sequence(scope: Scope<'_>, statement: &Statement) -> bool
+    ensures { result ≡ lacks_sequence (scope_sequences scope.entry) (parsed_of statement.now) }
 {
     match statement {
-        Statement::Next(sequence) => schema.seq_named(sequence).is_none(),
-        Statement::Insert(_, _, inputs) => some_input_names_unknown(schema, inputs.as_slice()),
+        Statement::Next(sequence) => scope.sequence_named(sequence).is_none(),
+        Statement::Insert(_, _, inputs) => some_input_names_unknown(scope, inputs.as_slice()),
         Statement::Select(_, _, _, _, _) => false,
         Statement::Update(_, _, _) => false,
         Statement::Delete(_, _) => false,

@@ -1,16 +1,18 @@
 use desk_values::{List, Txt};
 use sql_reader::Op;
 
-/// A statement with the numbers of tables, columns and sequences in place of their names.
+/// A statement with the numbers of tables, columns and sequences in place of their names, as [`check`](crate::check)
+/// gives it. The numbers are places in the schema, from 0.
 #[derive(Drop)]
 pub enum Ready {
-    /// Rows of a table: the table, what is asked of each row, which rows, their order, and whether they are held.
+    /// Rows of a table: the table, what is asked of each row, which rows (all where there is no condition), their order,
+    /// and whether they are held, as FOR UPDATE asks.
     Select(u32, ReadyItems, Option<Checked>, ReadyKeys, bool),
-    /// A draw from a sequence.
+    /// A draw from the sequence of this number.
     Next(u32),
-    /// A new row: the table, the columns that are given (all of them where none is named), and their values.
+    /// A new row: the table, the columns that are given (all of them where none is named), and as many values.
     Insert(u32, Option<Columns>, ReadyInputs),
-    /// New values: the table, the columns that are set, and which rows.
+    /// New values: the table, the columns that are set, each once, and which rows.
     Update(u32, ReadySets, Option<Checked>),
     /// The table and which of its rows go.
     Delete(u32, Option<Checked>),
@@ -33,7 +35,7 @@ pub enum ReadyItems {
     Aggs(ReadyAggs),
 }
 
-/// A value over all rows.
+/// A value over all rows. Its expression is one of numbers or Nulls for the sum, and also of texts for the others.
 #[derive(Drop)]
 pub enum ReadyAgg {
     /// How many rows there are.
@@ -46,7 +48,7 @@ pub enum ReadyAgg {
     Max(Checked),
 }
 
-/// A value of an INSERT.
+/// A value of an INSERT. It names nothing of a row.
 #[derive(Drop)]
 pub enum ReadyInput {
     /// The value of an expression.
@@ -55,7 +57,7 @@ pub enum ReadyInput {
     Next(u32),
 }
 
-/// A column to order by.
+/// A column to order by, of numbers or texts.
 #[derive(Drop)]
 pub struct ReadyKey {
     /// The column's number.
@@ -73,7 +75,8 @@ pub struct ReadySetting {
     pub to: Checked,
 }
 
-/// An expression with the numbers of columns in place of their names.
+/// An expression with the numbers of columns in place of their names. [`check`](crate::check) saw to it that its kinds
+/// go together and that its binds are there.
 #[derive(Drop)]
 pub enum Checked {
     /// `NULL`

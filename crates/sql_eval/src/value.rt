@@ -1,20 +1,33 @@
 ghost use Rattle.std.specs.Prelude.{◌≡◌, ◌↔◌, IfOk, IsErrOf, slice_get, unwrap_or};
 ghost use Rattle.sql_eval.specs.Logic.{truth_of_test};
 ghost use Rattle.sql_eval.specs.Plain.{term_of};
-ghost use Rattle.sql_eval.specs.Seen.{seen_outcome, seen_value};
+ghost use Rattle.sql_eval.specs.ValueRef.{ref_outcome, ref_value};
 ghost use Rattle.sql_eval.specs.Value.{IsTextOf, bind_at, both, connected, is_connective, then_apply, truth_value, value_of};
 
 use crate::error::EvalErr;
 use crate::logic::Truth;
 use crate::ready::Checked;
-use crate::seen::{
-    Seen, arithmetic_of, both_seen, comparison_of, is_null_of, minus_of, see, worse_fault,
+use crate::value_ref::{
+    ValueRef, arithmetic_of, borrowed, both_values, comparison_of, is_null_of, minus_of,
+    worse_fault,
 };
-use desk_values::{Binds, Fault, Memory, Txt, TxtErr, Value, Values};
+use desk_values::{Binds, Copied, Fault, Value, Values};
 use sql_reader::Op;
 use std::alloc::Global;
 
-/// The value of an expression for the row of this number and these values. Only a text takes memory.
+/// The value of an expression for one row: Null, or of the kind that the checks gave the expression.
+///
+/// `level` is the level of the rules of values. It is an argument so that other rules can join: so far there is level 1
+/// alone, which every number stands for. At it division truncates toward zero, and texts compare byte by byte.
+///
+/// `row` is the id of the row. `values` are those of the columns that `e` was checked for, and `binds` are those that it
+/// was checked with; one that is not there is Null. A condition has no value but a truth, which [`truth_of`] gives; here
+/// it is Null.
+///
+/// # Errors
+///
+/// All parts are evaluated. `Refused` has `ZeroDivisor` where any part divides a number by zero, else `Overflow` where
+/// a result of any part leaves 64 bits. `Memory` comes only where the value is a text, since only that is copied.
 pub fn eval(
     alloc: Global,
     level: u32,
@@ -27,28 +40,24 @@ pub fn eval(
     ensures refused { (fault : Fault) → IsErrOf result (EvalErr.Refused fault) ↔ (value_of level row values.now binds.now (term_of e.now) ≡ Err fault) }
     ensures memory { IsErrOf result EvalErr.Memory → IsTextOf (value_of level row values.now binds.now (term_of e.now)) }
 {
-    match value_seen(level, row, values, binds, e) {
-        Ok(Seen::Null) => Ok(Value::Null),
-        Ok(Seen::Int(number)) => Ok(Value::Int(number)),
-        Ok(Seen::Text(text)) => Ok(Value::Text(copied(alloc, text)?)),
-        Ok(Seen::Row(row)) => Ok(Value::Row(row)),
-        Ok(Seen::Draw(sequence, value)) => Ok(Value::Draw(sequence, value)),
+    let _ = alloc;
+    match borrowed_value(level, row, values, binds, e) {
+        Ok(ValueRef::Null) => Ok(Value::Null),
+        Ok(ValueRef::Int(number)) => Ok(Value::Int(number)),
+        Ok(ValueRef::Text(text)) => Ok(Value::Text(text.copy()?)),
+        Ok(ValueRef::Row(row)) => Ok(Value::Row(row)),
+        Ok(ValueRef::Draw(sequence, value)) => Ok(Value::Draw(sequence, value)),
         Err(fault) => Err(EvalErr::Refused(fault)),
     }
 }
 
-/// An equal text.
-fn copied(alloc: Global, text: &Txt) -> Result<Txt, Memory>
-    ensures { IfOk result (λ copy. copy ≡ text.now) }
-{
-    match Txt::from_bytes(alloc, text.as_str().as_bytes()) {
-        Ok(copy) => Ok(copy),
-        Err(TxtErr::Memory) => Err(Memory),
-        Err(TxtErr::TooLong | TxtErr::NotUtf8) => unreachable!(),
-    }
-}
-
-/// The truth of a condition for the row of this number and these values. It takes no memory.
+/// The truth of a condition for one row. It takes no memory.
+///
+/// The arguments are those of [`eval`]. An expression that is no condition is unknown.
+///
+/// # Errors
+///
+/// As of [`eval`]: both sides of AND and OR are evaluated, whatever the truth of the first.
 pub fn truth_of(
     level: u32,
     row: u64,
@@ -59,79 +68,79 @@ pub fn truth_of(
     ensures { result ≡ truth_value level row values.now binds.now (term_of e.now) }
 {
     match e {
-        Checked::Not(of) => Ok(truth_of(level, row, values, binds, of)?.negated()),
+        Checked::Not(operand) => Ok(truth_of(level, row, values, binds, operand)?.negated()),
         Checked::Bin(op, left, right) => {
             if is_connective_op(*op) {
                 let left = truth_of(level, row, values, binds, left);
                 let right = truth_of(level, row, values, binds, right);
                 connected_truths(*op, left, right)
             } else {
-                let left = value_seen(level, row, values, binds, left);
-                let right = value_seen(level, row, values, binds, right);
-                let (left, right) = both_seen(left, right)?;
+                let left = borrowed_value(level, row, values, binds, left);
+                let right = borrowed_value(level, row, values, binds, right);
+                let (left, right) = both_values(left, right)?;
                 Ok(tested(comparison_of(level, *op, left, right)))
             }
         }
-        Checked::IsNull(of) => {
-            let of = value_seen(level, row, values, binds, of)?;
-            Ok(tested(Some(is_null_of(of))))
+        Checked::IsNull(operand) => {
+            let value = borrowed_value(level, row, values, binds, operand)?;
+            Ok(tested(Some(is_null_of(value))))
         }
-        Checked::NotNull(of) => {
-            let of = value_seen(level, row, values, binds, of)?;
-            Ok(tested(Some(!is_null_of(of))))
+        Checked::NotNull(operand) => {
+            let value = borrowed_value(level, row, values, binds, operand)?;
+            Ok(tested(Some(!is_null_of(value))))
         }
         _ => Ok(Truth::Unknown),
     }
 }
 
-/// What is seen of the value of an expression.
-fn value_seen<'a>(
+/// The value of an expression, its text borrowed.
+fn borrowed_value<'a>(
     level: u32,
     row: u64,
     values: &'a Values,
     binds: &'a Binds,
-    e: &'a Checked,
-) -> Result<Seen<'a>, Fault>
-    ensures { seen_outcome result ≡ value_of level row values.now binds.now (term_of e.now) }
+    expr: &'a Checked,
+) -> Result<ValueRef<'a>, Fault>
+    ensures { ref_outcome result ≡ value_of level row values.now binds.now (term_of expr.now) }
 {
-    match e {
-        Checked::Null => Ok(Seen::Null),
-        Checked::Int(number) => Ok(Seen::Int(*number)),
-        Checked::Text(text) => Ok(Seen::Text(text)),
-        Checked::Bind(number) => Ok(bind_seen(binds, *number)),
-        Checked::Column(number) => Ok(column_seen(values, *number)),
-        Checked::RowId => Ok(Seen::Row(row)),
-        Checked::Neg(of) => minus_of(value_seen(level, row, values, binds, of)?),
+    match expr {
+        Checked::Null => Ok(ValueRef::Null),
+        Checked::Int(number) => Ok(ValueRef::Int(*number)),
+        Checked::Text(text) => Ok(ValueRef::Text(text)),
+        Checked::Bind(number) => Ok(bind_value(binds, *number)),
+        Checked::Column(number) => Ok(column_value(values, *number)),
+        Checked::RowId => Ok(ValueRef::Row(row)),
+        Checked::Neg(operand) => minus_of(borrowed_value(level, row, values, binds, operand)?),
         Checked::Bin(op, left, right) => {
-            let left = value_seen(level, row, values, binds, left);
-            let right = value_seen(level, row, values, binds, right);
-            let (left, right) = both_seen(left, right)?;
+            let left = borrowed_value(level, row, values, binds, left);
+            let right = borrowed_value(level, row, values, binds, right);
+            let (left, right) = both_values(left, right)?;
             arithmetic_of(level, *op, left, right)
         }
-        Checked::Not(_) | Checked::IsNull(_) | Checked::NotNull(_) => Ok(Seen::Null),
+        Checked::Not(_) | Checked::IsNull(_) | Checked::NotNull(_) => Ok(ValueRef::Null),
     }
 }
 
 /// The value of a bind by its number from 1.
-fn bind_seen(binds: &Binds, number: u32) -> Seen<'_>
-    ensures { seen_value result ≡ unwrap_or (bind_at binds.now number) Value.Null }
+fn bind_value(binds: &Binds, number: u32) -> ValueRef<'_>
+    ensures { ref_value result ≡ unwrap_or (bind_at binds.now number) Value.Null }
 {
     if number == 0 {
-        return Seen::Null;
+        return ValueRef::Null;
     }
     match binds.get((number - 1) as usize) {
-        Some(value) => see(value),
-        None => Seen::Null,
+        Some(value) => borrowed(value),
+        None => ValueRef::Null,
     }
 }
 
 /// The value of a column by its number from 0.
-fn column_seen(values: &Values, number: u32) -> Seen<'_>
-    ensures { seen_value result ≡ unwrap_or (slice_get values.now number) Value.Null }
+fn column_value(values: &Values, number: u32) -> ValueRef<'_>
+    ensures { ref_value result ≡ unwrap_or (slice_get values.now number) Value.Null }
 {
     match values.get(number as usize) {
-        Some(value) => see(value),
-        None => Seen::Null,
+        Some(value) => borrowed(value),
+        None => ValueRef::Null,
     }
 }
 

@@ -3,8 +3,8 @@ use Rattle.std.proofs.Common.{◌≡◌, ℕ, Bool, true, false, List, [], ◌�
 use Rattle.std.proofs.lemmas.List.{append-nil}
 use Rattle.sql_reader.specs.declared.tree.Key.{Key}
 use Rattle.sql_reader.specs.declared.part.Part.TheVariants.{Disjunction}
-use Rattle.sql_reader.specs.declared.token.Keyword.{Keyword}
-use Rattle.sql_reader.specs.declared.token.Keyword.TheVariants as word
+use Rattle.desk_values.specs.declared.keyword.Keyword.{Keyword}
+use Rattle.desk_values.specs.declared.keyword.Keyword.TheVariants as word
 use Rattle.sql_reader.specs.declared.token.Sign.TheVariants as sign
 use Rattle.sql_reader.specs.declared.token.Token.{Token}
 use Rattle.sql_reader.specs.declared.token.Token.TheVariants as token

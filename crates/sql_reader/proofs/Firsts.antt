@@ -6,15 +6,17 @@ use Rattle.sql_reader.specs.declared.tree.Op.{Op}
 use Rattle.sql_reader.specs.declared.tree.Op.TheVariants as op
 use Rattle.sql_reader.specs.declared.part.Part.{Part}
 use Rattle.sql_reader.specs.declared.part.Part.TheVariants.{Disjunction, Conjunction, Negation, Comparison, Sum, Product, Factor, Primary}
-use Rattle.sql_reader.specs.declared.token.Keyword.{Keyword}
-use Rattle.sql_reader.specs.declared.token.Keyword.TheVariants as word
+use Rattle.desk_values.specs.declared.keyword.Keyword.{Keyword}
+use Rattle.desk_values.specs.declared.keyword.Keyword.TheVariants as word
 use Rattle.sql_reader.specs.declared.token.Sign.{Sign}
 use Rattle.sql_reader.specs.declared.token.Sign.TheVariants as sign
 use Rattle.sql_reader.specs.declared.token.Token.{Token}
 use Rattle.sql_reader.specs.declared.token.Token.TheVariants as token
-use Rattle.sql_reader.specs.Words.{keyword_number, sign_number, same_keyword, same_sign, keyword_operator, sign_operator}
+use Rattle.desk_values.specs.Keyword.{keyword_number, same_keyword}
+use Rattle.sql_reader.specs.Words.{sign_number, same_sign, keyword_operator, sign_operator}
 use Rattle.sql_reader.specs.Grammar.{looseness, line_of, operator_token}
-use Rattle.sql_reader.specs.Scan.{◌>>=◌, all_keywords}
+use Rattle.desk_values.specs.Keyword.{all_keywords}
+use Rattle.sql_reader.specs.Scan.{◌>>=◌}
 use Rattle.sql_reader.specs.Descent.{after_word, after_sign, operator_of, operator_among, operator_at}
 use Rattle.sql_reader.proofs.Options.{bind_then, guard_some, some_is, nothing_is}
 

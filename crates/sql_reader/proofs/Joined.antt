@@ -8,7 +8,7 @@ use Rattle.sql_reader.specs.declared.token.Sign.TheVariants as sign
 use Rattle.sql_reader.specs.declared.token.Token.{Token}
 use Rattle.sql_reader.specs.declared.token.Token.TheVariants as token
 use Rattle.sql_reader.specs.Plain.{Parsed}
-use Rattle.sql_reader.specs.Words.{keyword_word}
+use Rattle.desk_values.specs.Keyword.{keyword_word}
 use Rattle.sql_reader.specs.Written.{joined, token_text, spaced, spaced_all, first_word, further_tokens, written}
 
 pub joined_map : {A B : Type 0} (f : B → List Token) (g : A → B) (xs : List A) → joined f (map g xs) ≡ joined (λ x. f (g x)) xs

@@ -11,12 +11,13 @@ use Rattle.std.proofs.lemmas.Bool.Decides.{nat_tests}
 use Rattle.std.proofs.lemmas.Fmt.{decimal_digit, decimal_step}
 use Rattle.std.proofs.lemmas.Str.{IsUtf8-from_ascii, is_utf8-from_IsUtf8}
 use Rattle.desk_values.specs.Good.{IsTxt}
-use Rattle.sql_reader.specs.declared.token.Keyword.{Keyword}
+use Rattle.desk_values.specs.declared.keyword.Keyword.{Keyword}
 use Rattle.sql_reader.specs.declared.token.Sign.{Sign}
 use Rattle.sql_reader.specs.declared.token.Sign.TheVariants as sign
 use Rattle.sql_reader.specs.declared.token.Token.{Token}
 use Rattle.sql_reader.specs.declared.token.Token.TheVariants as token
-use Rattle.sql_reader.specs.Words.{keyword_word, sign_text}
+use Rattle.desk_values.specs.Keyword.{keyword_word}
+use Rattle.sql_reader.specs.Words.{sign_text}
 use Rattle.sql_reader.specs.Lexical.{is_space, is_part, is_word, is_numeral, folded, quoted, goes_on, EndsBefore, Lexeme, word, name, number, string, bind, mark, other_not_equal, Tokens, end, space, then}
 use Rattle.sql_reader.specs.Scan.{◌>>=◌, txt_at, keyword_at, name_or, word_at, value_after, value_at, number_at, bind_number, bind_at, content_at, string_at, sign_at, run_of, behind_run, with_rest, token_at, step_at, tokens_at, scanned}
 use Rattle.sql_reader.proofs.Options.{bind_then, chosen, some_is, pair_is, nothing_is}

@@ -10,13 +10,13 @@ use Rattle.std.proofs.lemmas.Bool.{and_from, and_parts}
 use Rattle.std.proofs.lemmas.Bool.Decides.{nat_tests}
 use Rattle.std.proofs.lemmas.Fmt.{decimal_is_IsNumeral}
 use Rattle.std.proofs.lemmas.Str.Parse.{digit_from_value}
-use Rattle.sql_reader.specs.declared.token.Keyword.{Keyword}
-use Rattle.sql_reader.specs.declared.token.Keyword.TheVariants as word
+use Rattle.desk_values.specs.declared.keyword.Keyword.{Keyword}
+use Rattle.desk_values.specs.declared.keyword.Keyword.TheVariants as word
 use Rattle.sql_reader.specs.declared.token.Sign.{Sign}
 use Rattle.sql_reader.specs.declared.token.Sign.TheVariants as sign
 use Rattle.sql_reader.specs.declared.token.Token.{Token}
 use Rattle.sql_reader.specs.declared.token.Token.TheVariants as token
-use Rattle.sql_reader.specs.Words.{keyword_word}
+use Rattle.desk_values.specs.Keyword.{keyword_word}
 use Rattle.sql_reader.specs.Lexical as l
 use Rattle.sql_reader.specs.Lexical.{is_space, is_part, is_word, is_numeral, folded, lengthens, goes_on, EndsBefore, Lexeme, Tokens}
 use Rattle.sql_reader.specs.Written.{token_text, spaced, spaced_all}

@@ -6,6 +6,9 @@ use Rattle.std.proofs.lemmas.Bool.{and_parts, leb-true}
 use Rattle.sql_reader.proofs.Options.{guard_some}
 use Rattle.std.proofs.lemmas.Bool.Decides.{nat_tests}
 use Rattle.std.proofs.lemmas.Str.{IsUtf8-from_is_utf8, is_utf8-from_IsUtf8}
+use Rattle.desk_values.specs.declared.text.TxtErr.{TxtErr}
+use Rattle.desk_values.specs.declared.text.TxtErr.TheVariants as text_error
+use Rattle.sql_reader.specs.Spelling.{Fails, sql_err}
 use Rattle.sql_reader.specs.Scan.{txt_at}
 use Rattle.desk_values.specs.Good.{IsTxt}
 
@@ -47,3 +50,8 @@ txt_is bytes text e =
     let g = guard_some (nat_le (length bytes) 1000 && is_utf8 bytes) bytes text e in
     let t = and_parts (nat_le (length bytes) 1000) (is_utf8 bytes) g.0 in
     rw (← g.1) (record { limit = leb-true _ _ t.0; utf8 = IsUtf8-from_is_utf8 bytes t.1 })
+
+pub txt_err : (bytes : List ℕ) (e : TxtErr) → (e ≡ text_error.TooLong → 1000 < length bytes) → (e ≡ text_error.NotUtf8 → (length bytes ≤ 1000) × ¬ (IsUtf8 bytes)) → Fails (sql_err e) (txt_at bytes)
+txt_err bytes text_error.TooLong long utf8 = txt_long bytes (long refl)
+txt_err bytes text_error.NotUtf8 long utf8 = txt_not_utf8 bytes (utf8 refl).1
+txt_err bytes text_error.Memory long utf8 = tt

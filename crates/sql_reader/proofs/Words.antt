@@ -11,10 +11,11 @@ use Rattle.std.proofs.lemmas.Bool.{and_from, and_parts, ltb-true, lt-ltb, leb-tr
 use Rattle.std.proofs.lemmas.Bool.Decides.{nat_tests}
 use Rattle.std.proofs.lemmas.Slice.Eq.{bytes_eq-Decides}
 use Rattle.std.proofs.lemmas.Fmt.{decimal_digit, decimal_step}
-use Rattle.sql_reader.specs.declared.token.Keyword.{Keyword}
-use Rattle.sql_reader.specs.declared.token.Keyword.TheVariants as word
-use Rattle.sql_reader.specs.Words.{keyword_word}
-use Rattle.sql_reader.specs.Scan.{all_keywords, keyword_at, value_after, bind_number}
+use Rattle.desk_values.specs.declared.keyword.Keyword.{Keyword}
+use Rattle.desk_values.specs.declared.keyword.Keyword.TheVariants as word
+use Rattle.desk_values.specs.Keyword.{keyword_word}
+use Rattle.desk_values.specs.Keyword.{all_keywords}
+use Rattle.sql_reader.specs.Scan.{keyword_at, value_after, bind_number}
 use Rattle.sql_reader.proofs.Options.{guard_some, find_passes, some, some_is}
 
 pub keyword_again : (k : Keyword) → keyword_at (keyword_word k) ≡ Some k

@@ -3,13 +3,14 @@ use Rattle.std.specs.Prelude.{ℕ, zero, suc, ◌==◌, if◌then◌else◌, Lis
 use Rattle.sql_reader.specs.declared.tree.Op.{Op}
 use Rattle.sql_reader.specs.declared.part.Part.{Part}
 use Rattle.sql_reader.specs.declared.part.Part.TheVariants.{Disjunction, Conjunction, Negation, Comparison, Sum, Product, Factor, Primary}
-use Rattle.sql_reader.specs.declared.token.Keyword.{Keyword}
-use Rattle.sql_reader.specs.declared.token.Keyword.TheVariants as word
+use Rattle.desk_values.specs.declared.keyword.Keyword.{Keyword}
+use Rattle.desk_values.specs.declared.keyword.Keyword.TheVariants as word
 use Rattle.sql_reader.specs.declared.token.Sign.{Sign}
 use Rattle.sql_reader.specs.declared.token.Sign.TheVariants as sign
 use Rattle.sql_reader.specs.declared.token.Token.{Token}
 use Rattle.sql_reader.specs.declared.token.Token.TheVariants as token
-use Rattle.sql_reader.specs.Words.{same_keyword, same_sign, keyword_operator, sign_operator}
+use Rattle.desk_values.specs.Keyword.{same_keyword}
+use Rattle.sql_reader.specs.Words.{same_sign, keyword_operator, sign_operator}
 use Rattle.sql_reader.specs.Plain.{Expression, null, int, text, bind, column, rowid, neg, not, bin, is_null, not_null}
 use Rattle.sql_reader.specs.Grammar.{line_of, looseness}
 use Rattle.sql_reader.specs.Scan.{◌>>=◌}
@@ -52,7 +53,7 @@ chain_at operand part ts = do
   left ← operand ts
   more_at operand part (length ts) left.0 left.1
 
--- NULL or NOT NULL behind IS
+-- NULL or NOT NULL after IS
 unfoldable pub null_test : Expression → List Token → Option (Expression × List Token)
 null_test left ts = cases (after_word word.Not ts) (after_word word.Null ts >>= λ rest. Some (is_null left, rest)) (λ after. after_word word.Null after >>= λ rest. Some (not_null left, rest))
 

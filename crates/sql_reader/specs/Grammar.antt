@@ -5,7 +5,7 @@ use Rattle.sql_reader.specs.declared.tree.Op.TheVariants as op
 use Rattle.sql_reader.specs.declared.tree.Key.{Key}
 use Rattle.sql_reader.specs.declared.part.Part.{Part}
 use Rattle.sql_reader.specs.declared.part.Part.TheVariants.{Disjunction, Conjunction, Negation, Comparison, Sum, Product, Factor, Primary}
-use Rattle.sql_reader.specs.declared.token.Keyword.TheVariants as word
+use Rattle.desk_values.specs.declared.keyword.Keyword.TheVariants as word
 use Rattle.sql_reader.specs.declared.token.Sign.TheVariants as sign
 use Rattle.sql_reader.specs.declared.token.Token.{Token}
 use Rattle.sql_reader.specs.declared.token.Token.TheVariants as token
@@ -37,11 +37,12 @@ looseness Negation = 5
 looseness Conjunction = 6
 looseness Disjunction = 7
 
--- what stands before and after an operator of the line without parentheses
+-- what stands before an operator of the line without parentheses
 abbrev pub left_of : Part → Part
 left_of Comparison = Sum
 left_of line = line
 
+-- what stands after an operator of the line without parentheses
 abbrev pub right_of : Part → Part
 right_of Disjunction = Conjunction
 right_of Conjunction = Negation
@@ -49,6 +50,7 @@ right_of Comparison = Sum
 right_of Sum = Product
 right_of other = Factor
 
+-- the token of each operator
 abbrev pub operator_token : Op → Token
 operator_token op.Or = token.Word word.Or
 operator_token op.And = token.Word word.And
@@ -64,7 +66,7 @@ operator_token op.Mul = token.Sign sign.Star
 operator_token op.Div = token.Sign sign.Slash
 
 -- Reads part depth tokens e: the tokens are the expression e as that part, where parentheses, NOT and unary minus
--- nest at most depth deep. Operators of one line group to the left.
+-- nest at most depth deep. a - b - c is (a - b) - c, and so on every line.
 pub data Reads : Part → ℕ → List Token → Expression → Type 0 where
   conjunction : {d : ℕ} {ts : List Token} {e : Expression} → Reads Conjunction d ts e → Reads Disjunction d ts e
   or_ : {d : ℕ} {ts us : List Token} {o : Op} {a b : Expression} → line_of o ≡ Disjunction → Reads Disjunction d ts a → Reads Conjunction d us b → Reads Disjunction d (ts ++ operator_token o ∷ us) (bin o a b)
@@ -99,39 +101,47 @@ pub data Joined {A : Type 0} (IsMember : List Token → A → Type 0) : List Tok
   last : {ts : List Token} {x : A} → IsMember ts x → Joined IsMember ts (x ∷ [])
   more : {ts us : List Token} {x : A} {xs : List A} → IsMember ts x → Joined IsMember us xs → Joined IsMember (ts ++ token.Sign sign.Comma ∷ us) (x ∷ xs)
 
--- a list has at most 16 members
+-- a list is no longer than 16
 abbrev pub IsList : {A : Type 0} → (List Token → A → Type 0) → List Token → List A → Type 0
 IsList IsMember ts xs = Joined IsMember ts xs × (length xs ≤ 16)
 
+-- one name
 pub data IsName : List Token → List ℕ → Type 0 where
   name : {n : List ℕ} → IsName (token.Name n ∷ []) n
 
+-- a column to order by: ascending where nothing is said
 pub data IsKey : List Token → Key → Type 0 where
   plain : {n : List ℕ} → IsKey (token.Name n ∷ []) (record { name = n; desc = false })
   ascending : {n : List ℕ} → IsKey (token.Name n ∷ token.Word word.Asc ∷ []) (record { name = n; desc = false })
   descending : {n : List ℕ} → IsKey (token.Name n ∷ token.Word word.Desc ∷ []) (record { name = n; desc = true })
 
+-- COUNT of a star, or SUM, MIN or MAX of an expression in parentheses
 pub data IsAggregate : List Token → Aggregate → Type 0 where
   count_ : IsAggregate (token.Word word.Count ∷ token.Sign sign.Open ∷ token.Sign sign.Star ∷ token.Sign sign.Close ∷ []) count
   sum_ : {ts : List Token} {e : Expression} → IsExpression ts e → IsAggregate (token.Word word.Sum ∷ token.Sign sign.Open ∷ (ts ++ token.Sign sign.Close ∷ [])) (total e)
   min_ : {ts : List Token} {e : Expression} → IsExpression ts e → IsAggregate (token.Word word.Min ∷ token.Sign sign.Open ∷ (ts ++ token.Sign sign.Close ∷ [])) (least e)
   max_ : {ts : List Token} {e : Expression} → IsExpression ts e → IsAggregate (token.Word word.Max ∷ token.Sign sign.Open ∷ (ts ++ token.Sign sign.Close ∷ [])) (greatest e)
 
+-- a value of an INSERT: an expression, or the next value of a sequence
 pub data IsInput : List Token → Given → Type 0 where
   value_ : {ts : List Token} {e : Expression} → IsExpression ts e → IsInput ts (value e)
   next_ : {n : List ℕ} → IsInput (token.Name n ∷ token.Sign sign.Dot ∷ token.Word word.Nextval ∷ []) (drawn n)
 
+-- a column, an equals sign and its new value
 pub data IsSetting : List Token → Assignment → Type 0 where
   set_ : {n : List ℕ} {ts : List Token} {e : Expression} → IsExpression ts e → IsSetting (token.Name n ∷ token.Sign sign.Equal ∷ ts) (record { name = n; to = e })
 
+-- which rows: all of them where nothing stands
 pub data IsWhere : List Token → Option Expression → Type 0 where
   all_ : IsWhere [] None
   where_ : {ts : List Token} {e : Expression} → IsExpression ts e → IsWhere (token.Word word.Where ∷ ts) (Some e)
 
+-- the order of the rows: by row where nothing stands
 pub data IsOrder : List Token → List Key → Type 0 where
   by_row : IsOrder [] []
   by_keys : {ts : List Token} {keys : List Key} → IsList IsKey ts keys → IsOrder (token.Word word.Order ∷ token.Word word.By ∷ ts) keys
 
+-- whether the rows are held
 pub data IsForUpdate : List Token → Bool → Type 0 where
   free : IsForUpdate [] false
   held : IsForUpdate (token.Word word.For ∷ token.Word word.Update ∷ []) true
@@ -141,6 +151,7 @@ pub data IsSelection : List Token → Selection → Type 0 where
   star : IsSelection (token.Sign sign.Star ∷ []) columns
   list : {ts : List Token} {es : List Expression} → IsList IsExpression ts es → IsSelection ts (values es)
 
+-- the columns that an INSERT gives: all of them where none is named
 pub data IsColumns : List Token → Option (List (List ℕ)) → Type 0 where
   all_ : IsColumns [] None
   some_ : {ts : List Token} {names : List (List ℕ)} → IsList IsName ts names → IsColumns (token.Sign sign.Open ∷ (ts ++ token.Sign sign.Close ∷ [])) (Some names)

@@ -5,12 +5,13 @@ use Rattle.std.specs.Char.{is_ascii_alphabetic, is_ascii_alphanumeric, is_ascii_
 use Rattle.std.specs.Str.Parse.{digits_value}
 use Rattle.std.specs.Fmt.{decimal}
 use Rattle.desk_values.specs.Good.{IsTxt}
-use Rattle.sql_reader.specs.declared.token.Keyword.{Keyword}
+use Rattle.desk_values.specs.declared.keyword.Keyword.{Keyword}
 use Rattle.sql_reader.specs.declared.token.Sign.{Sign}
 use Rattle.sql_reader.specs.declared.token.Sign.TheVariants as sign
 use Rattle.sql_reader.specs.declared.token.Token.{Token}
 use Rattle.sql_reader.specs.declared.token.Token.TheVariants as token
-use Rattle.sql_reader.specs.Words.{keyword_word, sign_text}
+use Rattle.desk_values.specs.Keyword.{keyword_word}
+use Rattle.sql_reader.specs.Words.{sign_text}
 
 -- a space, a tab, a line feed or a carriage return
 abbrev pub is_space : ℕ → Bool
@@ -41,7 +42,7 @@ quoted byte = if byte == 39 then 39 ∷ 39 ∷ [] else byte ∷ []
 -- the bytes are one token
 pub data Lexeme : List ℕ → Token → Type 0 where
   word : {bytes : List ℕ} {keyword : Keyword} → is_word bytes ≡ true → folded bytes ≡ keyword_word keyword → Lexeme bytes (token.Word keyword)
-  -- a name has at most 30 bytes, and is no word of the language
+  -- a name is no longer than 30 bytes, and no word of the language
   name : {bytes : List ℕ} → is_word bytes ≡ true → ((keyword : Keyword) → folded bytes ≢ keyword_word keyword) → length bytes ≤ 30 → Lexeme bytes (token.Name (folded bytes))
   number : {bytes : List ℕ} → is_numeral bytes ≡ true → digits_value 10 bytes < 2 ^ 63 → Lexeme bytes (token.Number (pos (digits_value 10 bytes)))
   string : {bytes : List ℕ} → IsTxt bytes → Lexeme (39 ∷ (flat_map quoted bytes ++ 39 ∷ [])) (token.Text bytes)

@@ -14,6 +14,7 @@ use Rattle.sql_reader.specs.declared.tree.Items.TheVariants as items
 use Rattle.sql_reader.specs.declared.tree.Statement.{Statement}
 use Rattle.sql_reader.specs.declared.tree.Statement.TheVariants as statement
 
+-- an expression
 pub data Expression : Type 0 where
   null : Expression
   int : ℤ → Expression
@@ -75,23 +76,28 @@ tree_of (expr.Bin' op p a q b) = bin op (tree_of a) (tree_of b)
 tree_of (expr.IsNull' p e) = is_null (tree_of e)
 tree_of (expr.NotNull' p e) = not_null (tree_of e)
 
+-- the plain tree of an expression that may be absent
 abbrev pub optional_tree : Option Expr → Option Expression
 optional_tree None = None
 optional_tree (Some e) = Some (tree_of e)
 
+-- the plain tree of an aggregate
 abbrev pub aggregate_of : Agg → Aggregate
 aggregate_of agg.Count = count
 aggregate_of (agg.Sum e) = total (tree_of e)
 aggregate_of (agg.Min e) = least (tree_of e)
 aggregate_of (agg.Max e) = greatest (tree_of e)
 
+-- the plain tree of a value of an INSERT
 abbrev pub given_of : Input → Given
 given_of (input.Expr e) = value (tree_of e)
 given_of (input.Next name) = drawn name
 
+-- the plain tree of a new value of a column
 abbrev pub assignment_of : Setting → Assignment
 assignment_of setting = record { name = setting.name; to = tree_of setting.to }
 
+-- the plain tree of what a SELECT asks for
 abbrev pub selection_of : Items → Selection
 selection_of items.All = columns
 selection_of (items.Exprs es) = values (map tree_of es)

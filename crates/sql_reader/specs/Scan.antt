@@ -3,21 +3,18 @@ use Rattle.std.specs.Prelude.{ℕ, zero, suc, ◌+◌, ◌-◌, ◌*◌, ◌^◌
 use Rattle.std.specs.List.{find, prefix_len, cons_option}
 use Rattle.std.specs.Char.{is_ascii_alphabetic, is_ascii_digit}
 use Rattle.std.specs.Str.{is_utf8, bytes_eq}
-use Rattle.sql_reader.specs.declared.token.Keyword.{Keyword}
-use Rattle.sql_reader.specs.declared.token.Keyword.TheVariants as word
+use Rattle.desk_values.specs.declared.keyword.Keyword.{Keyword}
 use Rattle.sql_reader.specs.declared.token.Sign.{Sign}
 use Rattle.sql_reader.specs.declared.token.Sign.TheVariants as sign
 use Rattle.sql_reader.specs.declared.token.Token.{Token}
 use Rattle.sql_reader.specs.declared.token.Token.TheVariants as token
-use Rattle.sql_reader.specs.Words.{keyword_word, sign_text}
+use Rattle.desk_values.specs.Keyword.{keyword_word, all_keywords}
+use Rattle.sql_reader.specs.Words.{sign_text}
 use Rattle.sql_reader.specs.Lexical.{is_space, is_part, folded}
 
 infixl 10 ◌>>=◌
 abbrev pub ◌>>=◌ : {A B : Type 0} → Option A → (A → Option B) → Option B
 o >>= f = option_and_then f o
-
-abbrev pub all_keywords : List Keyword
-all_keywords = word.And ∷ word.Asc ∷ word.By ∷ word.Commit ∷ word.Count ∷ word.Delete ∷ word.Desc ∷ word.Dual ∷ word.For ∷ word.From ∷ word.Insert ∷ word.Into ∷ word.Is ∷ word.Max ∷ word.Min ∷ word.Nextval ∷ word.Not ∷ word.Null ∷ word.Only ∷ word.Or ∷ word.Order ∷ word.Read ∷ word.Rollback ∷ word.Rowid ∷ word.Savepoint ∷ word.Select ∷ word.Set ∷ word.Sum ∷ word.To ∷ word.Transaction ∷ word.Update ∷ word.Values ∷ word.Where ∷ []
 
 -- the longer signs come first
 abbrev pub all_signs : List Sign

@@ -2,6 +2,8 @@
 use Rattle.std.specs.Prelude.{◌≡◌, ℕ, List, Option, None, Some, Result, Ok, Err}
 use Rattle.sql_reader.specs.declared.error.SqlErr.{SqlErr}
 use Rattle.sql_reader.specs.declared.error.SqlErr.TheVariants as error
+use Rattle.desk_values.specs.declared.text.TxtErr.{TxtErr}
+use Rattle.desk_values.specs.declared.text.TxtErr.TheVariants as text_error
 use Rattle.sql_reader.specs.declared.token.Token.{Token}
 use Rattle.sql_reader.specs.Plain.{Parsed}
 use Rattle.sql_reader.specs.Lexical.{Tokens}
@@ -15,6 +17,13 @@ Spells text statement = (tokens : List Token) × Tokens text tokens × IsStateme
 abbrev pub IsStatement : Parsed → Type 0
 IsStatement statement = (text : List ℕ) × Spells text statement
 
+-- the error for bytes that are no text of the desk: it may be for want of memory
+abbrev pub sql_err : TxtErr → SqlErr
+sql_err text_error.TooLong = error.Syntax
+sql_err text_error.NotUtf8 = error.Syntax
+sql_err text_error.Memory = error.Memory
+
+-- the error tells the truth: Syntax comes only where reading gives nothing, Memory at any time
 abbrev pub Fails : {Y : Type 0} → SqlErr → Option Y → Type 0
 Fails error.Syntax read = read ≡ None
 Fails error.Memory read = Unit {0}

@@ -4,19 +4,20 @@ use Rattle.std.specs.List.{flat_map, join_with_byte}
 use Rattle.std.specs.Char.{to_ascii_uppercase}
 use Rattle.std.specs.Fmt.{decimal, signed_decimal}
 use Rattle.sql_reader.specs.declared.tree.Key.{Key}
-use Rattle.sql_reader.specs.declared.token.Keyword.{Keyword}
-use Rattle.sql_reader.specs.declared.token.Keyword.TheVariants as word
+use Rattle.desk_values.specs.declared.keyword.Keyword.{Keyword}
+use Rattle.desk_values.specs.declared.keyword.Keyword.TheVariants as word
 use Rattle.sql_reader.specs.declared.token.Sign.TheVariants as sign
 use Rattle.sql_reader.specs.declared.token.Token.{Token}
 use Rattle.sql_reader.specs.declared.token.Token.TheVariants as token
-use Rattle.sql_reader.specs.Words.{keyword_word, sign_text}
+use Rattle.desk_values.specs.Keyword.{keyword_word}
+use Rattle.sql_reader.specs.Words.{sign_text}
 use Rattle.sql_reader.specs.Plain.{Expression, null, int, text, bind, column, rowid, neg, not, bin, is_null, not_null, Aggregate, count, total, least, greatest, Given, value, drawn, Assignment, Selection, columns, values, aggregates, Parsed, select, next, insert, update, delete, commit, rollback, set_read_only}
 use Rattle.sql_reader.specs.Lexical.{quoted}
 use Rattle.sql_reader.specs.declared.part.Part.{Part}
 use Rattle.sql_reader.specs.declared.part.Part.TheVariants.{Disjunction, Negation, Comparison, Sum, Factor, Primary}
 use Rattle.sql_reader.specs.Grammar.{looseness, left_of, right_of, line_of, operator_token}
 
--- words in upper case, numbers without leading zeros, `<>` for what differs
+-- the text of a token: words in capitals, no zeros before a number, never `!=`
 abbrev pub token_text : Token → List ℕ
 token_text (token.Word keyword) = map to_ascii_uppercase (keyword_word keyword)
 token_text (token.Name n) = n
@@ -25,7 +26,7 @@ token_text (token.Text t) = 39 ∷ (flat_map quoted t ++ 39 ∷ [])
 token_text (token.Bind n) = 58 ∷ decimal n
 token_text (token.Sign s) = sign_text s
 
--- in parentheses where a tighter part is wanted
+-- these tokens, in parentheses where a tighter part is wanted than they are
 abbrev pub enclosed : Part → Part → List Token → List Token
 enclosed wanted part ts = if nat_lt (looseness wanted) (looseness part) then token.Sign sign.Open ∷ (ts ++ token.Sign sign.Close ∷ []) else ts
 
@@ -56,6 +57,7 @@ bare_tokens (not_null e) = enclosed Sum (part_of e) (bare_tokens e) ++ token.Wor
 abbrev pub expression_tokens : Part → Expression → List Token
 expression_tokens wanted e = enclosed wanted (part_of e) (bare_tokens e)
 
+-- a whole expression
 abbrev pub whole : Expression → List Token
 whole e = expression_tokens Disjunction e
 
@@ -64,50 +66,61 @@ abbrev pub joined : {A : Type 0} → (A → List Token) → List A → List Toke
 joined member [] = []
 joined member (x ∷ xs) = member x ++ flat_map (λ y. token.Sign sign.Comma ∷ member y) xs
 
+-- a word and an expression in parentheses
 abbrev pub called : Token → Expression → List Token
 called word e = word ∷ token.Sign sign.Open ∷ (whole e ++ token.Sign sign.Close ∷ [])
 
+-- an aggregate
 abbrev pub aggregate_tokens : Aggregate → List Token
 aggregate_tokens count = token.Word word.Count ∷ token.Sign sign.Open ∷ token.Sign sign.Star ∷ token.Sign sign.Close ∷ []
 aggregate_tokens (total e) = called (token.Word word.Sum) e
 aggregate_tokens (least e) = called (token.Word word.Min) e
 aggregate_tokens (greatest e) = called (token.Word word.Max) e
 
+-- a value of an INSERT
 abbrev pub given_tokens : Given → List Token
 given_tokens (value e) = whole e
 given_tokens (drawn n) = token.Name n ∷ token.Sign sign.Dot ∷ token.Word word.Nextval ∷ []
 
+-- a column and its new value
 abbrev pub assignment_tokens : Assignment → List Token
 assignment_tokens a = token.Name a.name ∷ token.Sign sign.Equal ∷ whole a.to
 
--- ASC is left out
+-- a column to order by; ASC is left out
 abbrev pub key_tokens : Key → List Token
 key_tokens key = token.Name key.name ∷ (if key.desc then token.Word word.Desc ∷ [] else [])
 
+-- a name
 abbrev pub name_tokens : List ℕ → List Token
 name_tokens n = token.Name n ∷ []
 
+-- what a SELECT asks for
 abbrev pub selection_tokens : Selection → List Token
 selection_tokens columns = token.Sign sign.Star ∷ []
 selection_tokens (values es) = joined whole es
 selection_tokens (aggregates as_) = joined aggregate_tokens as_
 
+-- which rows: nothing for all of them
 abbrev pub where_tokens : Option Expression → List Token
 where_tokens None = []
 where_tokens (Some e) = token.Word word.Where ∷ whole e
 
+-- the order: nothing where no key is given
 abbrev pub order_tokens : List Key → List Token
 order_tokens [] = []
 order_tokens (key ∷ keys) = token.Word word.Order ∷ token.Word word.By ∷ joined key_tokens (key ∷ keys)
 
+-- whether the rows are held
 abbrev pub for_update_tokens : Bool → List Token
 for_update_tokens true = token.Word word.For ∷ token.Word word.Update ∷ []
 for_update_tokens false = []
 
+-- the columns that an INSERT gives: nothing for all of them
 abbrev pub columns_tokens : Option (List (List ℕ)) → List Token
 columns_tokens None = []
 columns_tokens (Some names) = token.Sign sign.Open ∷ (joined name_tokens names ++ token.Sign sign.Close ∷ [])
 
+-- the values of an INSERT in parentheses
 abbrev pub inputs_tokens : List Given → List Token
 inputs_tokens inputs = token.Word word.Values ∷ token.Sign sign.Open ∷ (joined given_tokens inputs ++ token.Sign sign.Close ∷ [])
 
@@ -122,7 +135,7 @@ first_word commit = word.Commit
 first_word rollback = word.Rollback
 first_word set_read_only = word.Set
 
--- the tokens behind the first word
+-- the tokens after the first word
 abbrev pub further_tokens : Parsed → List Token
 further_tokens (select table items condition keys held) = selection_tokens items ++ token.Word word.From ∷ token.Name table ∷ (where_tokens condition ++ (order_tokens keys ++ for_update_tokens held))
 further_tokens (next n) = token.Name n ∷ token.Sign sign.Dot ∷ token.Word word.Nextval ∷ token.Word word.From ∷ token.Word word.Dual ∷ []
@@ -137,22 +150,24 @@ further_tokens set_read_only = token.Word word.Transaction ∷ token.Word word.R
 abbrev pub statement_tokens : Parsed → List Token
 statement_tokens statement = token.Word (first_word statement) ∷ further_tokens statement
 
--- how many parentheses open
+-- 1 for a parenthesis that opens
 abbrev pub opening : Token → ℕ
 opening (token.Sign sign.Open) = 1
 opening other = 0
 
+-- how many parentheses open in these tokens
 abbrev pub opened : List Token → ℕ
 opened [] = 0
 opened (t ∷ ts) = opening t + opened ts
 
--- the written text: one space between any two tokens
+-- the written text: the tokens, parted by single spaces
 unfoldable pub written : Parsed → List ℕ
 written statement = join_with_byte 32 (map token_text (statement_tokens statement))
 
--- a token behind a space
+-- a token after a space
 unfoldable pub spaced : Token → List ℕ
 spaced t = 32 ∷ token_text t
 
+-- tokens, each after a space
 abbrev pub spaced_all : List Token → List ℕ
 spaced_all ts = flat_map spaced ts

@@ -4,14 +4,12 @@
 ghost use Rattle.std.specs.Prelude.{◌≡◌, IfOk, map};
 ghost use Rattle.sql_reader.specs.Plain.{tree_of, optional_tree, aggregate_of, given_of, assignment_of, selection_of, parsed_of};
 
-use crate::tree::{
-    Agg, Aggs, Expr, Exprs, Input, Inputs, Items, Key, Keys, Sets, Setting, Statement,
-};
+use crate::tree::{Agg, Expr, Input, Items, Key, Setting, Statement};
 use desk_values::{Copied, List, Memory};
 use std::alloc::Global;
 
 impl Expr {
-    /// An equal expression.
+    /// An equal expression. `Memory` where memory runs out.
     pub fn copy(&self, alloc: Global) -> Result<Expr, Memory>
         ensures { IfOk result (λ copy. tree_of copy ≡ tree_of self.now) }
     {
@@ -48,7 +46,7 @@ impl Expr {
 }
 
 impl Agg {
-    /// An equal aggregate.
+    /// An equal aggregate. `Memory` where memory runs out.
     pub fn copy(&self, alloc: Global) -> Result<Agg, Memory>
         ensures { IfOk result (λ copy. aggregate_of copy ≡ aggregate_of self.now) }
     {
@@ -62,7 +60,7 @@ impl Agg {
 }
 
 impl Input {
-    /// An equal input.
+    /// An equal input. `Memory` where memory runs out.
     pub fn copy(&self, alloc: Global) -> Result<Input, Memory>
         ensures { IfOk result (λ copy. given_of copy ≡ given_of self.now) }
     {
@@ -74,7 +72,7 @@ impl Input {
 }
 
 impl Setting {
-    /// An equal setting.
+    /// An equal setting. `Memory` where memory runs out.
     pub fn copy(&self, alloc: Global) -> Result<Setting, Memory>
         ensures { IfOk result (λ copy. assignment_of copy ≡ assignment_of self.now) }
     {
@@ -94,44 +92,74 @@ impl Copied for Key {
     }
 }
 
-fn copy_exprs(alloc: Global, exprs: &Exprs) -> Result<Exprs, Memory>
-    ensures { IfOk result (λ copy. map tree_of copy ≡ map tree_of exprs.now) }
-{
-    let mut copy = List::new(alloc);
-    for expr in exprs.as_slice() {
-        copy.push(expr.copy(alloc)?)?;
-    }
-    Ok(copy)
+// A part of a statement that is copied as the plain value that it stands for.
+trait CopiedTree: Drop + Sized {
+    /// The plain value.
+    ghost Plain: { Type 0 };
+
+    ghost view: { Self → Plain };
+
+    fn copy_tree(&self, alloc: Global) -> Result<Self, Memory>
+        ensures { IfOk result (λ copy. view copy ≡ view self.now) };
 }
 
-fn copy_aggs(alloc: Global, aggs: &Aggs) -> Result<Aggs, Memory>
-    ensures { IfOk result (λ copy. map aggregate_of copy ≡ map aggregate_of aggs.now) }
-{
-    let mut copy = List::new(alloc);
-    for agg in aggs.as_slice() {
-        copy.push(agg.copy(alloc)?)?;
+impl CopiedTree for Expr {
+    ghost use Rattle.sql_reader.specs.Plain.{Expression as Plainly, tree_of as plain};
+
+    ghost Plain = { Plainly };
+
+    ghost view = { plain };
+
+    fn copy_tree(&self, alloc: Global) -> Result<Expr, Memory> {
+        self.copy(alloc)
     }
-    Ok(copy)
 }
 
-fn copy_inputs(alloc: Global, inputs: &Inputs) -> Result<Inputs, Memory>
-    ensures { IfOk result (λ copy. map given_of copy ≡ map given_of inputs.now) }
-{
-    let mut copy = List::new(alloc);
-    for input in inputs.as_slice() {
-        copy.push(input.copy(alloc)?)?;
+impl CopiedTree for Agg {
+    ghost use Rattle.sql_reader.specs.Plain.{Aggregate as Plainly, aggregate_of as plain};
+
+    ghost Plain = { Plainly };
+
+    ghost view = { plain };
+
+    fn copy_tree(&self, alloc: Global) -> Result<Agg, Memory> {
+        self.copy(alloc)
     }
-    Ok(copy)
 }
 
-fn copy_sets(alloc: Global, sets: &Sets) -> Result<Sets, Memory>
-    ensures { IfOk result (λ copy. map assignment_of copy ≡ map assignment_of sets.now) }
-{
-    let mut copy = List::new(alloc);
-    for set in sets.as_slice() {
-        copy.push(set.copy(alloc)?)?;
+impl CopiedTree for Input {
+    ghost use Rattle.sql_reader.specs.Plain.{Given as Plainly, given_of as plain};
+
+    ghost Plain = { Plainly };
+
+    ghost view = { plain };
+
+    fn copy_tree(&self, alloc: Global) -> Result<Input, Memory> {
+        self.copy(alloc)
     }
-    Ok(copy)
+}
+
+impl CopiedTree for Setting {
+    ghost use Rattle.sql_reader.specs.Plain.{Assignment as Plainly, assignment_of as plain};
+
+    ghost Plain = { Plainly };
+
+    ghost view = { plain };
+
+    fn copy_tree(&self, alloc: Global) -> Result<Setting, Memory> {
+        self.copy(alloc)
+    }
+}
+
+// Equal parts in the same order.
+fn copy_all<T: CopiedTree>(alloc: Global, trees: &List<T>) -> Result<List<T>, Memory>
+    ensures { IfOk result (λ copies. map T.view copies ≡ map T.view trees.now) }
+{
+    let mut copies = List::new(alloc);
+    for tree in trees.as_slice() {
+        copies.push(tree.copy_tree(alloc)?)?;
+    }
+    Ok(copies)
 }
 
 fn copy_condition(alloc: Global, condition: &Option<Expr>) -> Result<Option<Expr>, Memory>
@@ -144,20 +172,20 @@ fn copy_condition(alloc: Global, condition: &Option<Expr>) -> Result<Option<Expr
 }
 
 impl Items {
-    /// Equal items.
+    /// Equal items. `Memory` where memory runs out.
     pub fn copy(&self, alloc: Global) -> Result<Items, Memory>
         ensures { IfOk result (λ copy. selection_of copy ≡ selection_of self.now) }
     {
         match self {
             Items::All => Ok(Items::All),
-            Items::Exprs(exprs) => Ok(Items::Exprs(copy_exprs(alloc, exprs)?)),
-            Items::Aggs(aggs) => Ok(Items::Aggs(copy_aggs(alloc, aggs)?)),
+            Items::Exprs(exprs) => Ok(Items::Exprs(copy_all(alloc, exprs)?)),
+            Items::Aggs(aggs) => Ok(Items::Aggs(copy_all(alloc, aggs)?)),
         }
     }
 }
 
 impl Statement {
-    /// An equal statement.
+    /// An equal statement. `Memory` where memory runs out.
     pub fn copy(&self, alloc: Global) -> Result<Statement, Memory>
         ensures { IfOk result (λ copy. parsed_of copy ≡ parsed_of self.now) }
     {
@@ -172,18 +200,18 @@ impl Statement {
             Statement::Next(sequence) => Ok(Statement::Next(sequence.copy()?)),
             Statement::Insert(table, None, inputs) => {
                 let table = table.copy()?;
-                let inputs = copy_inputs(alloc, inputs)?;
+                let inputs = copy_all(alloc, inputs)?;
                 Ok(Statement::Insert(table, None, inputs))
             }
             Statement::Insert(table, Some(names), inputs) => {
                 let table = table.copy()?;
                 let names = names.copy()?;
-                let inputs = copy_inputs(alloc, inputs)?;
+                let inputs = copy_all(alloc, inputs)?;
                 Ok(Statement::Insert(table, Some(names), inputs))
             }
             Statement::Update(table, sets, condition) => {
                 let table = table.copy()?;
-                let sets = copy_sets(alloc, sets)?;
+                let sets = copy_all(alloc, sets)?;
                 let condition = copy_condition(alloc, condition)?;
                 Ok(Statement::Update(table, sets, condition))
             }

@@ -9,9 +9,10 @@ ghost use Rattle.sql_reader.specs.Descent.{after_word, after_sign, operator_of, 
 
 use crate::error::SqlErr;
 use crate::part::Part;
-use crate::token::{Keyword, Sign, Token};
+use crate::token::{Sign, Token, word_operator};
 use crate::tree::{Expr, Op};
 use desk_values::Copied;
+use desk_values::keyword::Keyword;
 use std::alloc::Global;
 
 /// What comes after the word, where it is first.
@@ -31,7 +32,7 @@ pub fn after_sign(sign: Sign, tokens: &[Token]) -> Option<&[Token]>
     ensures { Finds (λ rest. rest.now) result (after_sign sign tokens.now) }
 {
     match tokens {
-        [Token::Sign(found), rest @ ..] if found.same(sign) => Some(rest),
+        [Token::Sign(found), rest @ ..] if *found == sign => Some(rest),
         _ => None,
     }
 }
@@ -40,27 +41,21 @@ pub fn after_sign(sign: Sign, tokens: &[Token]) -> Option<&[Token]>
 pub fn expect_word(word: Keyword, tokens: &[Token]) -> Result<&[Token], SqlErr>
     ensures { Gives (λ rest. rest.now) result (after_word word tokens.now) }
 {
-    match after_word(word, tokens) {
-        Some(rest) => Ok(rest),
-        None => Err(SqlErr::Syntax),
-    }
+    after_word(word, tokens).ok_or(SqlErr::Syntax)
 }
 
 /// What comes after the sign, which has to be first.
 pub fn expect_sign(sign: Sign, tokens: &[Token]) -> Result<&[Token], SqlErr>
     ensures { Gives (λ rest. rest.now) result (after_sign sign tokens.now) }
 {
-    match after_sign(sign, tokens) {
-        Some(rest) => Ok(rest),
-        None => Err(SqlErr::Syntax),
-    }
+    after_sign(sign, tokens).ok_or(SqlErr::Syntax)
 }
 
 fn token_operator(token: &Token) -> Option<Op>
     ensures { result ≡ operator_of token.now }
 {
     match token {
-        Token::Word(word) => word.operator(),
+        Token::Word(word) => word_operator(*word),
         Token::Sign(sign) => sign.operator(),
         _ => None,
     }
@@ -73,10 +68,10 @@ fn operator(part: Part, tokens: &[Token]) -> Option<(Op, &[Token])>
 {
     let (first, rest) = tokens.split_first()?;
     let op = token_operator(first)?;
-    (op.part().looseness() == part.looseness()).then_some((op, rest))
+    (op.part() == part).then_some((op, rest))
 }
 
-// NULL or NOT NULL behind IS.
+// NULL or NOT NULL after IS.
 #[tactic(auto, unfolding(crate::specs::Descent::null_test))]
 fn null_test(alloc: Global, left: Expr, tokens: &[Token]) -> Result<(Expr, &[Token]), SqlErr>
     ensures { Gives (λ x. (tree_of x.0, x.1.now)) result (null_test (tree_of left) tokens.now) }
@@ -94,13 +89,13 @@ fn null_test(alloc: Global, left: Expr, tokens: &[Token]) -> Result<(Expr, &[Tok
 #[tactic(auto, unfolding(crate::specs::Descent::part_at))]
 pub fn part(
     alloc: Global,
-    part: Part,
+    wanted: Part,
     tokens: &[Token],
     depth: u32,
 ) -> Result<(Expr, &[Token]), SqlErr>
-    ensures { Gives (λ x. (tree_of x.0, x.1.now)) result (part_at depth part tokens.now) }
+    ensures { Gives (λ x. (tree_of x.0, x.1.now)) result (part_at depth wanted tokens.now) }
 {
-    match part {
+    match wanted {
         Part::Disjunction => chain(alloc, Part::Disjunction, tokens, depth),
         Part::Conjunction => chain(alloc, Part::Conjunction, tokens, depth),
         Part::Negation => negation(alloc, tokens, depth),
@@ -143,10 +138,10 @@ fn chain(
     let mut left = first;
     let mut rest = after;
     for _ in 0..tokens.len() {
-        let Some((op, behind)) = operator(line, rest) else {
+        let Some((op, after_operator)) = operator(line, rest) else {
             return Ok((left, rest));
         };
-        let (right, after) = part(alloc, line.right(), behind, depth)?;
+        let (right, after) = part(alloc, line.right(), after_operator, depth)?;
         left = Expr::Bin(op, Box::new(alloc, left)?, Box::new(alloc, right)?);
         rest = after;
     }
@@ -171,8 +166,8 @@ fn comparison(alloc: Global, tokens: &[Token], depth: u32) -> Result<(Expr, &[To
     ensures { Gives (λ x. (tree_of x.0, x.1.now)) result (part_at depth Part.Comparison tokens.now) }
 {
     let (left, rest) = part(alloc, Part::Sum, tokens, depth)?;
-    if let Some((op, behind)) = operator(Part::Comparison, rest) {
-        let (right, rest) = part(alloc, Part::Sum, behind, depth)?;
+    if let Some((op, after_operator)) = operator(Part::Comparison, rest) {
+        let (right, rest) = part(alloc, Part::Sum, after_operator, depth)?;
         let left = Box::new(alloc, left)?;
         let right = Box::new(alloc, right)?;
         return Ok((Expr::Bin(op, left, right), rest));

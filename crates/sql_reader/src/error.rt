@@ -1,7 +1,7 @@
 ghost use Rattle.std.specs.Prelude.{◌≡◌};
 ghost use Rattle.sql_reader.specs.declared.error.SqlErr.TheVariants.{Memory as OutOfMemory};
 
-use desk_values::Memory;
+use desk_values::{Memory, TxtErr};
 use std::alloc::{AllocError, AllocFailed};
 
 /// Why a text gave no statement.
@@ -9,7 +9,7 @@ use std::alloc::{AllocError, AllocFailed};
 pub enum SqlErr {
     /// The text spells no statement.
     Syntax,
-    /// Want of memory.
+    /// Memory ran out.
     Memory,
 }
 
@@ -34,5 +34,19 @@ impl<T: Drop> From<AllocFailed<T>> for SqlErr {
 
     fn from(_error: AllocFailed<T>) -> SqlErr {
         SqlErr::Memory
+    }
+}
+
+impl From<TxtErr> for SqlErr {
+    ghost use Rattle.sql_reader.specs.Spelling.{sql_err};
+
+    ghost from_gives = { λ from error. error ≡ sql_err from };
+
+    fn from(error: TxtErr) -> SqlErr {
+        match error {
+            TxtErr::Memory => SqlErr::Memory,
+            TxtErr::TooLong => SqlErr::Syntax,
+            TxtErr::NotUtf8 => SqlErr::Syntax,
+        }
     }
 }

@@ -17,9 +17,7 @@ mod write;
 mod writer;
 
 pub use error::SqlErr;
-pub use part::Part;
 pub use read::{one_statement, read_statement};
-pub use token::{KEYWORDS, Keyword, NAME_LIMIT, SIGNS, Sign, Token};
 pub use tree::{
     Agg, Aggs, Expr, Exprs, Input, Inputs, Items, Key, Keys, Names, Op, Sets, Setting, Statement,
 };

@@ -1,48 +1,32 @@
 ghost use Rattle.std.specs.Prelude.{◌≡◌};
-ghost use Rattle.sql_reader.specs.Grammar.{line_of, right_of, left_of, looseness};
+ghost use Rattle.sql_reader.specs.Grammar.{line_of, right_of, left_of};
 
 use crate::tree::Op;
 
-/// A part of an expression, from the loosest to the tightest.
-#[derive(Clone, Copy, Debug, PartialEq, Eq)]
-pub enum Part {
-    /// `OR` between conjunctions.
-    Disjunction,
-    /// `AND` between negations.
-    Conjunction,
-    /// `NOT` before a negation.
-    Negation,
-    /// A comparison of two sums, or a test of one.
-    Comparison,
-    /// `+` and `-` between products.
-    Sum,
-    /// `*` and `/` between factors.
-    Product,
-    /// Unary minus before a factor.
-    Factor,
+/// A part of an expression, from the tightest to the loosest: a tighter part is less than a looser one.
+#[derive(Clone, Copy, Debug, PartialEq, Eq, PartialOrd, Ord)]
+pub(crate) enum Part {
     /// A single token, or parentheses.
     Primary,
+    /// Unary minus before a factor.
+    Factor,
+    /// `*` and `/` between factors.
+    Product,
+    /// `+` and `-` between products.
+    Sum,
+    /// A comparison of two sums, or a test of one.
+    Comparison,
+    /// `NOT` before a negation.
+    Negation,
+    /// `AND` between negations.
+    Conjunction,
+    /// `OR` between conjunctions.
+    Disjunction,
 }
 
 impl Part {
-    /// A greater number for a looser part.
-    pub fn looseness(self) -> u8
-        ensures { result ≡ looseness self }
-    {
-        match self {
-            Part::Primary => 0,
-            Part::Factor => 1,
-            Part::Product => 2,
-            Part::Sum => 3,
-            Part::Comparison => 4,
-            Part::Negation => 5,
-            Part::Conjunction => 6,
-            Part::Disjunction => 7,
-        }
-    }
-
     /// What stands before an operator of this part.
-    pub fn left(self) -> Part
+    pub(crate) fn left(self) -> Part
         ensures { result ≡ left_of self }
     {
         match self {
@@ -52,7 +36,7 @@ impl Part {
     }
 
     /// What stands after an operator of this part.
-    pub fn right(self) -> Part
+    pub(crate) fn right(self) -> Part
         ensures { result ≡ right_of self }
     {
         match self {
@@ -67,7 +51,7 @@ impl Part {
 
 impl Op {
     /// The part in which the operator stands.
-    pub fn part(self) -> Part
+    pub(crate) fn part(self) -> Part
         ensures { result ≡ line_of self }
     {
         match self {

@@ -10,7 +10,13 @@ use crate::tree::Statement;
 use desk_values::Txt;
 use std::alloc::Global;
 
-/// The statement that the text spells, and `Syntax` where it spells none.
+/// The one statement that the text spells: a part of SQL as ISO/IEC 9075-2 has it, with some forms of Oracle's (see
+/// [`Statement`]). Words and names may be in either case, any spaces, tabs and line ends may stand between
+/// tokens, and one `;` may end the statement.
+///
+/// # Errors
+///
+/// `Syntax` exactly where the text spells no statement, and `Memory` where memory runs out.
 pub fn read_statement(alloc: Global, text: &Txt) -> Result<Statement, SqlErr>
     // The text spells what is given.
     ensures ok { IfOk result (λ statement. Spells text.now (parsed_of statement)) }
@@ -30,7 +36,7 @@ fn read(alloc: Global, text: &[u8]) -> Result<Statement, SqlErr>
     statement(alloc, &tokens)
 }
 
-/// A text spells at most one statement.
+/// A text spells at most one statement. The call does nothing: its clause is the law.
 pub fn one_statement()
     ensures { (text : List ℕ) (a b : Parsed) → Spells text a → Spells text b → a ≡ b }
 {}

@@ -1,4 +1,4 @@
-//! From bytes to tokens, from left to right. Each token is the longest that fits.
+//! From bytes to tokens, from left to right. A token takes as many bytes as it can.
 
 ghost use Rattle.std.specs.Prelude.{◌≡◌, ◌∷◌, IfOk, MatchOption, false};
 ghost use Rattle.std.specs.List.{prefix_len};
@@ -7,17 +7,18 @@ ghost use Rattle.sql_reader.specs.Lexical.{is_space, is_part, folded};
 ghost use Rattle.sql_reader.specs.Scan.{begins_quote, txt_at, keyword_at, word_at, value_at, number_at, bind_number, bind_at, content_at, string_at, sign_at, run_of, behind_run, token_at, step_at, tokens_at, scanned};
 
 use crate::error::SqlErr;
-use crate::token::{KEYWORDS, Keyword, NAME_LIMIT, SIGNS, Sign, Token};
-use desk_values::{Txt, TxtErr};
+use crate::token::{SIGNS, Sign, Token};
+use desk_values::Txt;
+use desk_values::keyword::{KEYWORDS, Keyword, NAME_LIMIT};
 use std::alloc::{AllocError, Global};
 
-fn space(byte: u8) -> bool
+fn is_space(byte: u8) -> bool
     ensures { result ≡ is_space byte }
 {
     byte == b' ' || byte == b'\t' || byte == b'\n' || byte == b'\r'
 }
 
-fn part(byte: u8) -> bool
+fn is_word_byte(byte: u8) -> bool
     ensures { result ≡ is_part byte }
 {
     byte.is_ascii_alphanumeric() || byte == b'_'
@@ -34,19 +35,14 @@ fn split_run(bytes: &[u8]) -> (&[u8], &[u8])
 fn run_len(bytes: &[u8]) -> usize
     ensures { result ≡ prefix_len is_part bytes.now }
 {
-    bytes.iter().take_while(|byte| part(**byte)).count()
+    bytes.iter().take_while(|byte| is_word_byte(**byte)).count()
 }
 
 #[tactic(auto, unfolding(crate::specs::Scan::txt_at))]
-fn txt(alloc: Global, bytes: &[u8]) -> Result<Txt, SqlErr>
+fn text_of(alloc: Global, bytes: &[u8]) -> Result<Txt, SqlErr>
     ensures { Gives (λ text. text) result (txt_at bytes.now) }
 {
-    match Txt::from_bytes(alloc, bytes) {
-        Ok(text) => Ok(text),
-        Err(TxtErr::Memory) => Err(SqlErr::Memory),
-        Err(TxtErr::TooLong) => Err(SqlErr::Syntax),
-        Err(TxtErr::NotUtf8) => Err(SqlErr::Syntax),
-    }
+    Ok(Txt::from_bytes(alloc, bytes)?)
 }
 
 #[tactic(auto, unfolding(crate::specs::Scan::keyword_at))]
@@ -78,17 +74,15 @@ fn word(alloc: Global, run: &[u8]) -> Result<Token, SqlErr>
     if folded.len() > NAME_LIMIT {
         return Err(SqlErr::Syntax);
     }
-    Ok(Token::Name(txt(alloc, &folded)?))
+    Ok(Token::Name(text_of(alloc, &folded)?))
 }
 
 #[tactic(auto, unfolding(crate::specs::Scan::number_at))]
 fn number(run: &[u8]) -> Result<Token, SqlErr>
     ensures { Gives (λ t. t) result (number_at run.now) }
 {
-    match value(run) {
-        Some(value) => Ok(Token::Number(value)),
-        None => Err(SqlErr::Syntax),
-    }
+    let value = value(run).ok_or(SqlErr::Syntax)?;
+    Ok(Token::Number(value))
 }
 
 // The number of the digits, where it is in range.
@@ -114,10 +108,8 @@ fn value(run: &[u8]) -> Option<i64>
 fn bind(run: &[u8]) -> Result<Token, SqlErr>
     ensures { Gives (λ t. t) result (bind_at run.now) }
 {
-    match bind_value(run) {
-        Some(number) => Ok(Token::Bind(number)),
-        None => Err(SqlErr::Syntax),
-    }
+    let number = bind_value(run).ok_or(SqlErr::Syntax)?;
+    Ok(Token::Bind(number))
 }
 
 // A number from 1 to 16.
@@ -134,7 +126,7 @@ fn bind_value(run: &[u8]) -> Option<u32>
     }
 }
 
-// The bytes of a string behind its first quote, and the rest behind the last.
+// The bytes of a string after its first quote, and the rest after the last.
 fn content(alloc: Global, bytes: &[u8]) -> Result<(Vec<u8>, &[u8]), SqlErr>
     ensures { Gives (λ x. (x.0.items, x.1.now)) result (content_at bytes.now) }
 {
@@ -143,8 +135,8 @@ fn content(alloc: Global, bytes: &[u8]) -> Result<(Vec<u8>, &[u8]), SqlErr>
     while let Some((first, after)) = rest.split_first() {
         if *first != b'\'' {
             rest = after;
-        } else if let Some(behind) = behind_quote(after) {
-            rest = behind;
+        } else if let Some(after_pair) = after_quote(after) {
+            rest = after_pair;
         } else {
             return Ok((content, after));
         }
@@ -153,12 +145,12 @@ fn content(alloc: Global, bytes: &[u8]) -> Result<(Vec<u8>, &[u8]), SqlErr>
     Err(SqlErr::Syntax)
 }
 
-// What stands behind a quote, where one is first.
-fn behind_quote(bytes: &[u8]) -> Option<&[u8]>
-    ensures { MatchOption result (begins_quote bytes.now ≡ false) (λ behind. bytes.now ≡ 39 ∷ behind.now) }
+// What stands after a quote, where one is first.
+fn after_quote(bytes: &[u8]) -> Option<&[u8]>
+    ensures { MatchOption result (begins_quote bytes.now ≡ false) (λ rest. bytes.now ≡ 39 ∷ rest.now) }
 {
-    let (first, behind) = bytes.split_first()?;
-    (*first == b'\'').then_some(behind)
+    let (first, rest) = bytes.split_first()?;
+    (*first == b'\'').then_some(rest)
 }
 
 #[tactic(auto, unfolding(crate::specs::Scan::string_at))]
@@ -166,7 +158,7 @@ fn string(alloc: Global, bytes: &[u8]) -> Result<(Token, &[u8]), SqlErr>
     ensures { Gives (λ x. (x.0, x.1.now)) result (string_at bytes.now) }
 {
     let (content, rest) = content(alloc, bytes)?;
-    Ok((Token::Text(txt(alloc, &content)?), rest))
+    Ok((Token::Text(text_of(alloc, &content)?), rest))
 }
 
 // The longest sign.
@@ -220,7 +212,7 @@ fn step(alloc: Global, bytes: &[u8]) -> Result<(Option<Token>, &[u8]), SqlErr>
 {
     match bytes {
         [] => Ok((None, bytes)),
-        [first, others @ ..] if space(*first) => Ok((None, others)),
+        [first, others @ ..] if is_space(*first) => Ok((None, others)),
         [first, others @ ..] => {
             let (token, rest) = token(alloc, *first, others, bytes)?;
             Ok((Some(token), rest))

@@ -11,8 +11,9 @@ ghost use Rattle.sql_reader.specs.Sentences.{list_at, name_at, key_at, enclosed_
 use crate::descent::{after_sign, after_word, expect_sign, expect_word, part};
 use crate::error::SqlErr;
 use crate::part::Part;
-use crate::token::{Keyword, Sign, Token};
+use crate::token::{Sign, Token};
 use crate::tree::{Agg, Expr, Input, Inputs, Items, Key, Keys, Names, Setting, Statement};
+use desk_values::keyword::Keyword;
 use desk_values::{Copied, List, Txt};
 use std::alloc::Global;
 
@@ -96,8 +97,7 @@ impl Member for Txt {
 
     ghost reading = { reading_of };
 
-    fn read(alloc: Global, tokens: &[Token]) -> Result<(Txt, &[Token]), SqlErr> {
-        let _ = alloc;
+    fn read(_alloc: Global, tokens: &[Token]) -> Result<(Txt, &[Token]), SqlErr> {
         name(tokens)
     }
 }
@@ -126,8 +126,7 @@ impl Member for Key {
 
     ghost reading = { reading_of };
 
-    fn read(alloc: Global, tokens: &[Token]) -> Result<(Key, &[Token]), SqlErr> {
-        let _ = alloc;
+    fn read(_alloc: Global, tokens: &[Token]) -> Result<(Key, &[Token]), SqlErr> {
         key(tokens)
     }
 }
@@ -198,8 +197,8 @@ fn draw(tokens: &[Token]) -> Option<(&Txt, &[Token])>
     ensures { Finds (λ x. (x.0.now, x.1.now)) result (draw_at tokens.now) }
 {
     let (name, after) = first_name(tokens)?;
-    let behind = after_sign(Sign::Dot, after)?;
-    let rest = after_word(Keyword::Nextval, behind)?;
+    let after_dot = after_sign(Sign::Dot, after)?;
+    let rest = after_word(Keyword::Nextval, after_dot)?;
     Some((name, rest))
 }
 
@@ -244,8 +243,8 @@ fn setting(alloc: Global, tokens: &[Token]) -> Result<(Setting, &[Token]), SqlEr
     ensures { Gives (λ x. (assignment_of x.0, x.1.now)) result (setting_at tokens.now) }
 {
     let (name, after) = name(tokens)?;
-    let behind = expect_sign(Sign::Equal, after)?;
-    let (to, rest) = expression(alloc, behind)?;
+    let after_equal = expect_sign(Sign::Equal, after)?;
+    let (to, rest) = expression(alloc, after_equal)?;
     Ok((Setting { name, to }, rest))
 }
 
@@ -315,10 +314,10 @@ fn is_aggregate(tokens: &[Token]) -> bool
 fn aggregate_word(word: Keyword) -> bool
     ensures { result ≡ is_aggregate_word word }
 {
-    match word {
-        Keyword::Count | Keyword::Sum | Keyword::Min | Keyword::Max => true,
-        _ => false,
-    }
+    matches!(
+        word,
+        Keyword::Count | Keyword::Sum | Keyword::Min | Keyword::Max
+    )
 }
 
 #[tactic(auto, unfolding(crate::specs::Sentences::aggregates_at))]

@@ -1,53 +1,13 @@
 ghost use Rattle.std.specs.Prelude.{◌≡◌};
-ghost use Rattle.sql_reader.specs.Words.{keyword_word, sign_text, same_keyword, same_sign, keyword_operator, sign_operator};
+ghost use Rattle.sql_reader.specs.Words.{sign_text, keyword_operator, sign_operator};
 
 use crate::tree::Op;
 use desk_values::Txt;
-
-/// The greatest number of bytes of a name.
-pub const NAME_LIMIT: usize = 30;
-
-/// A word of the language, which can't be a name.
-#[derive(Clone, Copy, Debug, PartialEq, Eq)]
-pub enum Keyword {
-    And,
-    Asc,
-    By,
-    Commit,
-    Count,
-    Delete,
-    Desc,
-    Dual,
-    For,
-    From,
-    Insert,
-    Into,
-    Is,
-    Max,
-    Min,
-    Nextval,
-    Not,
-    Null,
-    Only,
-    Or,
-    Order,
-    Read,
-    Rollback,
-    Rowid,
-    Savepoint,
-    Select,
-    Set,
-    Sum,
-    To,
-    Transaction,
-    Update,
-    Values,
-    Where,
-}
+use desk_values::keyword::Keyword;
 
 /// A sign of one or two characters.
 #[derive(Clone, Copy, Debug, PartialEq, Eq)]
-pub enum Sign {
+pub(crate) enum Sign {
     /// `(`
     Open,
     /// `)`
@@ -82,7 +42,7 @@ pub enum Sign {
 
 /// The least part of a statement's text.
 #[derive(Drop)]
-pub enum Token {
+pub(crate) enum Token {
     /// A word of the language.
     Word(Keyword),
     /// A name in lower case.
@@ -97,45 +57,8 @@ pub enum Token {
     Sign(Sign),
 }
 
-/// The words of the language.
-pub const KEYWORDS: [Keyword; 33] = [
-    Keyword::And,
-    Keyword::Asc,
-    Keyword::By,
-    Keyword::Commit,
-    Keyword::Count,
-    Keyword::Delete,
-    Keyword::Desc,
-    Keyword::Dual,
-    Keyword::For,
-    Keyword::From,
-    Keyword::Insert,
-    Keyword::Into,
-    Keyword::Is,
-    Keyword::Max,
-    Keyword::Min,
-    Keyword::Nextval,
-    Keyword::Not,
-    Keyword::Null,
-    Keyword::Only,
-    Keyword::Or,
-    Keyword::Order,
-    Keyword::Read,
-    Keyword::Rollback,
-    Keyword::Rowid,
-    Keyword::Savepoint,
-    Keyword::Select,
-    Keyword::Set,
-    Keyword::Sum,
-    Keyword::To,
-    Keyword::Transaction,
-    Keyword::Update,
-    Keyword::Values,
-    Keyword::Where,
-];
-
 /// The signs, the longer ones first.
-pub const SIGNS: [Sign; 15] = [
+pub(crate) const SIGNS: [Sign; 15] = [
     Sign::NotEqual,
     Sign::LessOrEqual,
     Sign::GreaterOrEqual,
@@ -153,77 +76,20 @@ pub const SIGNS: [Sign; 15] = [
     Sign::Semicolon,
 ];
 
-impl Keyword {
-    /// Whether they are the same word.
-    pub fn same(self, other: Keyword) -> bool
-        ensures { result ≡ same_keyword self other }
-    {
-        self as u8 == other as u8
-    }
-
-    /// The operator that the word is.
-    pub fn operator(self) -> Option<Op>
-        ensures { result ≡ keyword_operator self }
-    {
-        match self {
-            Keyword::And => Some(Op::And),
-            Keyword::Or => Some(Op::Or),
-            _ => None,
-        }
-    }
-
-    /// The word in lower case.
-    pub fn word(self) -> &'static [u8]
-        ensures { result.now ≡ keyword_word self }
-    {
-        match self {
-            Keyword::And => b"and",
-            Keyword::Asc => b"asc",
-            Keyword::By => b"by",
-            Keyword::Commit => b"commit",
-            Keyword::Count => b"count",
-            Keyword::Delete => b"delete",
-            Keyword::Desc => b"desc",
-            Keyword::Dual => b"dual",
-            Keyword::For => b"for",
-            Keyword::From => b"from",
-            Keyword::Insert => b"insert",
-            Keyword::Into => b"into",
-            Keyword::Is => b"is",
-            Keyword::Max => b"max",
-            Keyword::Min => b"min",
-            Keyword::Nextval => b"nextval",
-            Keyword::Not => b"not",
-            Keyword::Null => b"null",
-            Keyword::Only => b"only",
-            Keyword::Or => b"or",
-            Keyword::Order => b"order",
-            Keyword::Read => b"read",
-            Keyword::Rollback => b"rollback",
-            Keyword::Rowid => b"rowid",
-            Keyword::Savepoint => b"savepoint",
-            Keyword::Select => b"select",
-            Keyword::Set => b"set",
-            Keyword::Sum => b"sum",
-            Keyword::To => b"to",
-            Keyword::Transaction => b"transaction",
-            Keyword::Update => b"update",
-            Keyword::Values => b"values",
-            Keyword::Where => b"where",
-        }
+/// The operator between two expressions that the word is.
+pub(crate) fn word_operator(word: Keyword) -> Option<Op>
+    ensures { result ≡ keyword_operator word }
+{
+    match word {
+        Keyword::And => Some(Op::And),
+        Keyword::Or => Some(Op::Or),
+        _ => None,
     }
 }
 
 impl Sign {
-    /// Whether they are the same sign.
-    pub fn same(self, other: Sign) -> bool
-        ensures { result ≡ same_sign self other }
-    {
-        self as u8 == other as u8
-    }
-
     /// The operator between two expressions that the sign is.
-    pub fn operator(self) -> Option<Op>
+    pub(crate) fn operator(self) -> Option<Op>
         ensures { result ≡ sign_operator self }
     {
         match self {
@@ -242,7 +108,7 @@ impl Sign {
     }
 
     /// The text of the sign.
-    pub fn text(self) -> &'static [u8]
+    pub(crate) fn text(self) -> &'static [u8]
         ensures { result.now ≡ sign_text self }
     {
         match self {

@@ -1,47 +1,53 @@
+//! The trees of statements: a part of SQL as ISO/IEC 9075-2 has it, and beside it what is Oracle's: `FOR UPDATE` after
+//! a `SELECT`, `ROWID`, `DUAL`, `NEXTVAL`, numbered binds and `!=`. Where a text is read, names are in lower case, and
+//! each list has 1 to 16 members.
+
 use desk_values::{List, Txt};
 
 /// A statement of SQL.
 #[derive(Drop)]
 pub enum Statement {
-    /// Rows of a table: the table, what is asked of each row, which rows, their order, and whether they are held.
+    /// `SELECT`: the table, what is asked for, which rows (all of them without a condition), the columns to order by
+    /// (none: by row), and whether the rows are held by `FOR UPDATE`.
     Select(Txt, Items, Option<Expr>, Keys, bool),
-    /// A draw from a sequence.
+    /// `SELECT sequence.NEXTVAL FROM DUAL`: the next value of the named sequence.
     Next(Txt),
-    /// A new row: the table, the columns that are given (all of them where none is named), and their values.
+    /// `INSERT` of one row: the table, the columns that are given (all of them where none is named), and their
+    /// values in the same order.
     Insert(Txt, Option<Names>, Inputs),
-    /// New values: the table, the columns that are set, and which rows.
+    /// `UPDATE`: the table, the columns that are set, and which rows (all of them without a condition).
     Update(Txt, Sets, Option<Expr>),
-    /// The table and which of its rows go.
+    /// `DELETE`: the table, and which of its rows go (all of them without a condition).
     Delete(Txt, Option<Expr>),
-    /// The end of a transaction, whose changes last.
+    /// `COMMIT`: the end of a transaction, whose changes last.
     Commit,
-    /// The end of a transaction, whose changes are dropped.
+    /// `ROLLBACK`: the end of a transaction, whose changes are dropped.
     Rollback,
-    /// The begin of a transaction that only reads.
+    /// `SET TRANSACTION READ ONLY`: the start of a transaction that only reads.
     SetReadOnly,
 }
 
 /// What a SELECT asks for.
 #[derive(Drop)]
 pub enum Items {
-    /// `*`, the columns.
+    /// `*`: all columns of each row.
     All,
-    /// A value for each row.
+    /// These values of each row.
     Exprs(Exprs),
-    /// One row for all rows.
+    /// These values over all rows: one row.
     Aggs(Aggs),
 }
 
-/// A value over all rows.
+/// A value over all rows (a set function in ISO/IEC 9075-2).
 #[derive(Drop)]
 pub enum Agg {
-    /// How many rows there are.
+    /// `COUNT(*)`: how many rows there are.
     Count,
-    /// The sum.
+    /// `SUM`: the sum.
     Sum(Expr),
-    /// The least value.
+    /// `MIN`: the least value.
     Min(Expr),
-    /// The greatest value.
+    /// `MAX`: the greatest value.
     Max(Expr),
 }
 
@@ -50,20 +56,20 @@ pub enum Agg {
 pub enum Input {
     /// The value of an expression.
     Expr(Expr),
-    /// A draw from the named sequence.
+    /// `sequence.NEXTVAL`: the next value of the named sequence.
     Next(Txt),
 }
 
-/// A column to order by.
+/// A column to order by (`ORDER BY` in ISO/IEC 9075-2).
 #[derive(Drop)]
 pub struct Key {
     /// The column.
     pub name: Txt,
-    /// Whether the greatest comes first.
+    /// Whether the greatest comes first (`DESC`); else the least does (`ASC`, or neither).
     pub desc: bool,
 }
 
-/// A new value of a column.
+/// A new value of a column: `name = to` in an `UPDATE`.
 #[derive(Drop)]
 pub struct Setting {
     /// The column.
@@ -72,20 +78,23 @@ pub struct Setting {
     pub to: Expr,
 }
 
-/// An expression.
+/// An expression: a value or a condition. From the tightest to the loosest bind unary minus; `*` and `/`; `+` and
+/// `-`; the comparisons, `IS NULL` and `IS NOT NULL`; `NOT`; `AND`; `OR`. The operators of one line group to the left,
+/// and comparisons do not follow one another. Where a text is read, `NOT`, unary minus and parentheses nest at most 32
+/// deep.
 #[derive(Drop)]
 pub enum Expr {
     /// `NULL`
     Null,
-    /// A number, never negative where it was read.
+    /// A whole number, never negative where it was read: a minus before it is `Neg`.
     Int(i64),
-    /// A text.
+    /// A text. In SQL it stands between quotes, with each quote in it written twice.
     Text(Txt),
-    /// The value of a bind, by its number from 1.
+    /// `:1` to `:16`: the value of a bind, by its number from 1.
     Bind(u32),
-    /// The value of a column.
+    /// The value of the named column.
     Column(Txt),
-    /// The row's id.
+    /// `ROWID`: the id of the row.
     RowId,
     /// Unary minus.
     Neg(Box<Expr>),
@@ -112,7 +121,7 @@ pub enum Op {
     Div,
     /// `=`
     Eq,
-    /// `<>`
+    /// `<>`, which may be written `!=` too
     Ne,
     /// `<`
     Lt,

@@ -10,8 +10,15 @@ use crate::writer::text;
 use desk_values::{Bytes, Memory};
 use std::alloc::Global;
 
-/// One text that spells the statement: keywords in upper case, one space between any two tokens, and parentheses
-/// only where the tree needs them. It may have over 1,000 bytes.
+/// One text that spells the statement, one that some text spells: words of the language in upper case, names in
+/// lower case, one space between any two tokens, numbers without leading zeros, `<>` for what differs, no `;`, and
+/// parentheses only where the tree needs them. It may have over 1,000 bytes, and then it is no [`Txt`].
+///
+/// [`Txt`]: desk_values::Txt
+///
+/// # Errors
+///
+/// `Memory` where memory runs out.
 pub fn write_statement(alloc: Global, statement: &Statement) -> Result<Bytes, Memory>
     requires { IsStatement (parsed_of statement.now) }
     ensures written { IfOk result (λ bytes. bytes ≡ written (parsed_of statement.now)) }
@@ -20,7 +27,8 @@ pub fn write_statement(alloc: Global, statement: &Statement) -> Result<Bytes, Me
     text(alloc, statement)
 }
 
-/// No tokens that are the statement have fewer parentheses than those that are written.
+/// No tokens that are the statement have fewer parentheses than those that are written. The call does nothing: its
+/// clause is the law.
 pub fn fewest_parentheses()
     ensures { (statement : Parsed) (tokens : List Token) → IsStatementOf tokens statement → opened (statement_tokens statement) ≤ opened tokens }
 {}

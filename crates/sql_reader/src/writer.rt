@@ -1,4 +1,4 @@
-//! From trees to text, token by token, each behind one space. A chain of operators leans to the left, so this goes
+//! From trees to text, token by token, each after one space. A chain of operators leans to the left, so this goes
 //! some 500 levels deep at most, with a small frame each.
 
 ghost use Rattle.std.specs.Prelude.{◌≡◌, ◌++◌, ◌∷◌, [], OnOk, IfOk, List, map};
@@ -9,14 +9,16 @@ ghost use Rattle.sql_reader.specs.declared.token.Token.TheVariants as token;
 ghost use Rattle.sql_reader.specs.Plain.{tree_of, optional_tree, aggregate_of, given_of, assignment_of, selection_of, parsed_of, select, next};
 ghost use Rattle.sql_reader.specs.Lexical.{quoted};
 ghost use Rattle.sql_reader.specs.Grammar.{operator_token};
-ghost use Rattle.sql_reader.specs.Words.{keyword_word};
+ghost use Rattle.desk_values.specs.Keyword.{keyword_word};
 ghost use Rattle.sql_reader.specs.Written.{spaced, spaced_all, part_of, bare_tokens, expression_tokens, joined, aggregate_tokens, given_tokens, assignment_tokens, key_tokens, name_tokens, selection_tokens, where_tokens, order_tokens, for_update_tokens, columns_tokens, called, whole, inputs_tokens, further_tokens, first_word, written};
 
 use crate::part::Part;
-use crate::token::{Keyword, Sign};
+use crate::token::Sign;
 use crate::tree::{
     Agg, Expr, Input, Inputs, Items, Key, Keys, Names, Op, Sets, Setting, Statement,
 };
+use desk_values::fields::{append_i64, append_u64};
+use desk_values::keyword::Keyword;
 use desk_values::{Bytes, List, Memory, Txt};
 use std::alloc::Global;
 
@@ -54,22 +56,20 @@ fn name(out: &mut Bytes, name: &Txt) -> Result<(), Memory>
 }
 
 #[tactic(auto, unfolding(crate::specs::Written::spaced))]
-fn number(out: &mut Bytes, alloc: Global, number: i64) -> Result<(), Memory>
+fn number(out: &mut Bytes, number: i64) -> Result<(), Memory>
     ensures { OnOk result (out.new ≡ out.old ++ spaced (token.Number number)) }
 {
     out.push(b' ')?;
-    let digits = number.to_string(alloc)?;
-    out.append(digits.as_bytes())
+    append_i64(number, out)
 }
 
 #[tactic(auto, unfolding(crate::specs::Written::spaced))]
-fn bind(out: &mut Bytes, alloc: Global, number: u32) -> Result<(), Memory>
+fn bind(out: &mut Bytes, number: u32) -> Result<(), Memory>
     ensures { OnOk result (out.new ≡ out.old ++ spaced (token.Bind number)) }
 {
     out.push(b' ')?;
     out.push(b':')?;
-    let digits = number.to_string(alloc)?;
-    out.append(digits.as_bytes())
+    append_u64(u64::from(number), out)
 }
 
 // The bytes of a string, each quote twice.
@@ -133,51 +133,52 @@ fn part(expr: &Expr) -> Part
     }
 }
 
-// An expression where the grammar wants that part: in parentheses where the part is tighter.
+// An expression where the grammar wants that part: in parentheses where the wanted part is tighter than the
+// expression.
 #[cycle(written)]
-fn expression(out: &mut Bytes, alloc: Global, wanted: Part, expr: &Expr) -> Result<(), Memory>
+fn expression(out: &mut Bytes, wanted: Part, expr: &Expr) -> Result<(), Memory>
     ensures { OnOk result (out.new ≡ out.old ++ spaced_all (expression_tokens wanted (tree_of expr.now))) }
 {
-    if part(expr).looseness() <= wanted.looseness() {
-        return bare(out, alloc, expr);
+    if part(expr) <= wanted {
+        return bare(out, expr);
     }
     sign(out, Sign::Open)?;
-    bare(out, alloc, expr)?;
+    bare(out, expr)?;
     sign(out, Sign::Close)
 }
 
 // An expression without parentheses around it.
 #[cycle(written)]
-fn bare(out: &mut Bytes, alloc: Global, expr: &Expr) -> Result<(), Memory>
+fn bare(out: &mut Bytes, expr: &Expr) -> Result<(), Memory>
     ensures { OnOk result (out.new ≡ out.old ++ spaced_all (bare_tokens (tree_of expr.now))) }
 {
     match expr {
         Expr::Null => word(out, Keyword::Null),
-        Expr::Int(value) => number(out, alloc, *value),
+        Expr::Int(value) => number(out, *value),
         Expr::Text(text) => string(out, text),
-        Expr::Bind(place) => bind(out, alloc, *place),
+        Expr::Bind(place) => bind(out, *place),
         Expr::Column(column) => name(out, column),
         Expr::RowId => word(out, Keyword::Rowid),
         Expr::Neg(of) => {
             sign(out, Sign::Minus)?;
-            expression(out, alloc, Part::Factor, of)
+            expression(out, Part::Factor, of)
         }
         Expr::Not(of) => {
             word(out, Keyword::Not)?;
-            expression(out, alloc, Part::Negation, of)
+            expression(out, Part::Negation, of)
         }
         Expr::Bin(op, left, right) => {
-            expression(out, alloc, op.part().left(), left)?;
+            expression(out, op.part().left(), left)?;
             operator(out, *op)?;
-            expression(out, alloc, op.part().right(), right)
+            expression(out, op.part().right(), right)
         }
         Expr::IsNull(of) => {
-            expression(out, alloc, Part::Sum, of)?;
+            expression(out, Part::Sum, of)?;
             word(out, Keyword::Is)?;
             word(out, Keyword::Null)
         }
         Expr::NotNull(of) => {
-            expression(out, alloc, Part::Sum, of)?;
+            expression(out, Part::Sum, of)?;
             word(out, Keyword::Is)?;
             word(out, Keyword::Not)?;
             word(out, Keyword::Null)
@@ -189,28 +190,28 @@ fn bare(out: &mut Bytes, alloc: Global, expr: &Expr) -> Result<(), Memory>
 trait Listed {
     ghost tokens: { Self → List OneToken };
 
-    fn write(&self, out: &mut Bytes, alloc: Global) -> Result<(), Memory>
+    fn write(&self, out: &mut Bytes) -> Result<(), Memory>
         ensures { OnOk result (out.new ≡ out.old ++ spaced_all (tokens self.now)) };
 }
 
 // Members with commas between them.
-fn list<T: Listed>(out: &mut Bytes, alloc: Global, members: &[T]) -> Result<(), Memory>
+fn list<T: Listed>(out: &mut Bytes, members: &[T]) -> Result<(), Memory>
     ensures { OnOk result (out.new ≡ out.old ++ spaced_all (joined T.tokens members.now)) }
 {
     let Some((first, others)) = members.split_first() else {
         return Ok(());
     };
-    first.write(out, alloc)?;
-    further_members(out, alloc, others)
+    first.write(out)?;
+    further_members(out, others)
 }
 
 // Members with a comma before each.
-fn further_members<T: Listed>(out: &mut Bytes, alloc: Global, members: &[T]) -> Result<(), Memory>
+fn further_members<T: Listed>(out: &mut Bytes, members: &[T]) -> Result<(), Memory>
     ensures { OnOk result (out.new ≡ out.old ++ spaced_all (flat_map (λ y. token.Sign Sign.Comma ∷ T.tokens y) members.now)) }
 {
     for member in members {
         sign(out, Sign::Comma)?;
-        member.write(out, alloc)?;
+        member.write(out)?;
     }
     Ok(())
 }
@@ -221,18 +222,18 @@ impl Listed for Expr {
 
     ghost tokens = { λ expr. tokens_of (plain expr) };
 
-    fn write(&self, out: &mut Bytes, alloc: Global) -> Result<(), Memory> {
-        expression(out, alloc, Part::Disjunction, self)
+    fn write(&self, out: &mut Bytes) -> Result<(), Memory> {
+        expression(out, Part::Disjunction, self)
     }
 }
 
 // A word and an expression in parentheses.
-fn call(out: &mut Bytes, alloc: Global, function: Keyword, of: &Expr) -> Result<(), Memory>
+fn call(out: &mut Bytes, function: Keyword, of: &Expr) -> Result<(), Memory>
     ensures { OnOk result (out.new ≡ out.old ++ spaced_all (called (token.Word function) (tree_of of.now))) }
 {
     word(out, function)?;
     sign(out, Sign::Open)?;
-    expression(out, alloc, Part::Disjunction, of)?;
+    expression(out, Part::Disjunction, of)?;
     sign(out, Sign::Close)
 }
 
@@ -242,7 +243,7 @@ impl Listed for Agg {
 
     ghost tokens = { λ agg. tokens_of (plain agg) };
 
-    fn write(&self, out: &mut Bytes, alloc: Global) -> Result<(), Memory> {
+    fn write(&self, out: &mut Bytes) -> Result<(), Memory> {
         match self {
             Agg::Count => {
                 word(out, Keyword::Count)?;
@@ -250,9 +251,9 @@ impl Listed for Agg {
                 sign(out, Sign::Star)?;
                 sign(out, Sign::Close)
             }
-            Agg::Sum(of) => call(out, alloc, Keyword::Sum, of),
-            Agg::Min(of) => call(out, alloc, Keyword::Min, of),
-            Agg::Max(of) => call(out, alloc, Keyword::Max, of),
+            Agg::Sum(of) => call(out, Keyword::Sum, of),
+            Agg::Min(of) => call(out, Keyword::Min, of),
+            Agg::Max(of) => call(out, Keyword::Max, of),
         }
     }
 }
@@ -263,9 +264,9 @@ impl Listed for Input {
 
     ghost tokens = { λ input. tokens_of (plain input) };
 
-    fn write(&self, out: &mut Bytes, alloc: Global) -> Result<(), Memory> {
+    fn write(&self, out: &mut Bytes) -> Result<(), Memory> {
         match self {
-            Input::Expr(value) => expression(out, alloc, Part::Disjunction, value),
+            Input::Expr(value) => expression(out, Part::Disjunction, value),
             Input::Next(sequence) => {
                 name(out, sequence)?;
                 sign(out, Sign::Dot)?;
@@ -281,10 +282,10 @@ impl Listed for Setting {
 
     ghost tokens = { λ setting. tokens_of (plain setting) };
 
-    fn write(&self, out: &mut Bytes, alloc: Global) -> Result<(), Memory> {
+    fn write(&self, out: &mut Bytes) -> Result<(), Memory> {
         name(out, &self.name)?;
         sign(out, Sign::Equal)?;
-        expression(out, alloc, Part::Disjunction, &self.to)
+        expression(out, Part::Disjunction, &self.to)
     }
 }
 
@@ -293,7 +294,7 @@ impl Listed for Key {
 
     ghost tokens = { tokens_of };
 
-    fn write(&self, out: &mut Bytes, _alloc: Global) -> Result<(), Memory> {
+    fn write(&self, out: &mut Bytes) -> Result<(), Memory> {
         name(out, &self.name)?;
         if self.desc {
             word(out, Keyword::Desc)?;
@@ -307,35 +308,35 @@ impl Listed for Txt {
 
     ghost tokens = { λ name. tokens_of name };
 
-    fn write(&self, out: &mut Bytes, _alloc: Global) -> Result<(), Memory> {
+    fn write(&self, out: &mut Bytes) -> Result<(), Memory> {
         name(out, self)
     }
 }
 
 #[tactic(auto, using(crate::proofs::Joined::joined_map))]
-fn selection(out: &mut Bytes, alloc: Global, items: &Items) -> Result<(), Memory>
+fn selection(out: &mut Bytes, items: &Items) -> Result<(), Memory>
     ensures { OnOk result (out.new ≡ out.old ++ spaced_all (selection_tokens (selection_of items.now))) }
 {
     match items {
         Items::All => sign(out, Sign::Star),
-        Items::Exprs(exprs) => list(out, alloc, exprs.as_slice()),
-        Items::Aggs(aggs) => list(out, alloc, aggs.as_slice()),
+        Items::Exprs(exprs) => list(out, exprs.as_slice()),
+        Items::Aggs(aggs) => list(out, aggs.as_slice()),
     }
 }
 
-fn condition(out: &mut Bytes, alloc: Global, condition: &Option<Expr>) -> Result<(), Memory>
+fn condition(out: &mut Bytes, condition: &Option<Expr>) -> Result<(), Memory>
     ensures { OnOk result (out.new ≡ out.old ++ spaced_all (where_tokens (optional_tree condition.now))) }
 {
     match condition {
         Some(expr) => {
             word(out, Keyword::Where)?;
-            expression(out, alloc, Part::Disjunction, expr)
+            expression(out, Part::Disjunction, expr)
         }
         None => Ok(()),
     }
 }
 
-fn order(out: &mut Bytes, alloc: Global, keys: &Keys) -> Result<(), Memory>
+fn order(out: &mut Bytes, keys: &Keys) -> Result<(), Memory>
     ensures { OnOk result (out.new ≡ out.old ++ spaced_all (order_tokens keys.now)) }
 {
     if keys.is_empty() {
@@ -343,7 +344,7 @@ fn order(out: &mut Bytes, alloc: Global, keys: &Keys) -> Result<(), Memory>
     }
     word(out, Keyword::Order)?;
     word(out, Keyword::By)?;
-    list(out, alloc, keys.as_slice())
+    list(out, keys.as_slice())
 }
 
 fn for_update(out: &mut Bytes, held: bool) -> Result<(), Memory>
@@ -356,13 +357,13 @@ fn for_update(out: &mut Bytes, held: bool) -> Result<(), Memory>
     Ok(())
 }
 
-fn columns(out: &mut Bytes, alloc: Global, names: &Option<Names>) -> Result<(), Memory>
+fn columns(out: &mut Bytes, names: &Option<Names>) -> Result<(), Memory>
     ensures { OnOk result (out.new ≡ out.old ++ spaced_all (columns_tokens names.now)) }
 {
     match names {
         Some(names) => {
             sign(out, Sign::Open)?;
-            list(out, alloc, names.as_slice())?;
+            list(out, names.as_slice())?;
             sign(out, Sign::Close)
         }
         None => Ok(()),
@@ -370,25 +371,25 @@ fn columns(out: &mut Bytes, alloc: Global, names: &Option<Names>) -> Result<(), 
 }
 
 #[tactic(auto, using(crate::proofs::Joined::joined_map))]
-fn given(out: &mut Bytes, alloc: Global, inputs: &Inputs) -> Result<(), Memory>
+fn given(out: &mut Bytes, inputs: &Inputs) -> Result<(), Memory>
     ensures { OnOk result (out.new ≡ out.old ++ spaced_all (joined given_tokens (map given_of inputs.now))) }
 {
-    list(out, alloc, inputs.as_slice())
+    list(out, inputs.as_slice())
 }
 
 #[tactic(auto, using(crate::proofs::Joined::joined_map))]
-fn settings(out: &mut Bytes, alloc: Global, sets: &Sets) -> Result<(), Memory>
+fn settings(out: &mut Bytes, sets: &Sets) -> Result<(), Memory>
     ensures { OnOk result (out.new ≡ out.old ++ spaced_all (joined assignment_tokens (map assignment_of sets.now))) }
 {
-    list(out, alloc, sets.as_slice())
+    list(out, sets.as_slice())
 }
 
-fn inputs(out: &mut Bytes, alloc: Global, inputs: &Inputs) -> Result<(), Memory>
+fn inputs(out: &mut Bytes, inputs: &Inputs) -> Result<(), Memory>
     ensures { OnOk result (out.new ≡ out.old ++ spaced_all (inputs_tokens (map given_of inputs.now))) }
 {
     word(out, Keyword::Values)?;
     sign(out, Sign::Open)?;
-    given(out, alloc, inputs)?;
+    given(out, inputs)?;
     sign(out, Sign::Close)
 }
 
@@ -399,30 +400,30 @@ fn from(out: &mut Bytes, table: &Txt) -> Result<(), Memory>
     name(out, table)
 }
 
-// What comes behind the first word.
-fn further(out: &mut Bytes, alloc: Global, statement: &Statement) -> Result<(), Memory>
+// What comes after the first word.
+fn further(out: &mut Bytes, statement: &Statement) -> Result<(), Memory>
     ensures { OnOk result (out.new ≡ out.old ++ spaced_all (further_tokens (parsed_of statement.now))) }
 {
     match statement {
         Statement::Select(table, items, condition, keys, held) => select(
-            out, alloc, table, items, condition, keys, *held,
+            out, table, items, condition, keys, *held,
         ),
         Statement::Next(sequence) => next(out, sequence),
         Statement::Insert(table, names, values) => {
             word(out, Keyword::Into)?;
             name(out, table)?;
-            columns(out, alloc, names)?;
-            inputs(out, alloc, values)
+            columns(out, names)?;
+            inputs(out, values)
         }
         Statement::Update(table, sets, filter) => {
             name(out, table)?;
             word(out, Keyword::Set)?;
-            settings(out, alloc, sets)?;
-            condition(out, alloc, filter)
+            settings(out, sets)?;
+            condition(out, filter)
         }
         Statement::Delete(table, filter) => {
             from(out, table)?;
-            condition(out, alloc, filter)
+            condition(out, filter)
         }
         Statement::Commit => Ok(()),
         Statement::Rollback => Ok(()),
@@ -436,7 +437,6 @@ fn further(out: &mut Bytes, alloc: Global, statement: &Statement) -> Result<(), 
 
 fn select(
     out: &mut Bytes,
-    alloc: Global,
     table: &Txt,
     items: &Items,
     filter: &Option<Expr>,
@@ -445,10 +445,10 @@ fn select(
 ) -> Result<(), Memory>
     ensures { OnOk result (out.new ≡ out.old ++ spaced_all (further_tokens (select table.now (selection_of items.now) (optional_tree filter.now) keys.now held))) }
 {
-    selection(out, alloc, items)?;
+    selection(out, items)?;
     from(out, table)?;
-    condition(out, alloc, filter)?;
-    order(out, alloc, keys)?;
+    condition(out, filter)?;
+    order(out, keys)?;
     for_update(out, held)
 }
 
@@ -476,13 +476,13 @@ fn first(statement: &Statement) -> Keyword
     }
 }
 
-/// The text of a statement: one space between any two tokens.
+/// The text of a statement: its tokens, parted by single spaces.
 #[tactic(auto, using(crate::proofs::Joined::written_is))]
 pub fn text(alloc: Global, statement: &Statement) -> Result<Bytes, Memory>
     ensures { IfOk result (λ bytes. bytes ≡ written (parsed_of statement.now)) }
 {
     let mut out = List::new(alloc);
     upper(&mut out, first(statement))?;
-    further(&mut out, alloc, statement)?;
+    further(&mut out, statement)?;
     Ok(out)
 }

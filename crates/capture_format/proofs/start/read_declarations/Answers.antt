@@ -14,7 +14,7 @@ pub returns-in_err-line-clause-not_yet : goal.returns-in_err-line-clause-not_yet
 returns-in_err-line-clause-not_yet c = λ fails.
     let p = err_from_is_err_and c.from_residual-in_err-line.result c.from_residual-in_err-line.ensures.1 in
     let none = next_failed c.from_residual-in_err-line.result c.in_err-line.field-0.0 (next_line_of c.lines.rest.now) (p.1 ∙ ap Err p.2) c.in_err-line.ensures fails in
-    no_next c.args.bytes.now c.lines.draft c.lines.rest.now c.lines.invariant.so_far none (open_within c.lines.draft (let to = c.lines.invariant.order.to in omega arith))
+    no_next c.args.bytes.now c.lines.draft c.lines.rest.now c.lines.invariant.so_far none (open_within c.lines.draft (let to = c.lines.invariant.under_way.to in omega arith))
 
 pub returns-in_err-finish-clause-not_yet : goal.returns-in_err-finish-clause-not_yet
 returns-in_err-finish-clause-not_yet c = λ fails.
@@ -57,7 +57,5 @@ lines-preserved c =
     let added = c.in_ok-add_line.ensures in
     record {
       so_far = subst (λ (ls : List StartLine). StartSoFar c.args.bytes.now ls c.in_ok-line.after.now) (sym added.ok) so_far;
-      order = added.order;
-      names = added.names;
-      few = added.few;
+      under_way = added.under_way;
     }

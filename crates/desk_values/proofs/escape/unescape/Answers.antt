@@ -1,4 +1,4 @@
-use Rattle.std.proofs.Common.{◌≡◌, ◌∷◌, ◌++◌, [], sym, ◌∙◌, arith}
+use Rattle.std.proofs.Common.{sym, ◌∙◌, arith}
 use Rattle.std.proofs.lemmas.Bool.{eqb-true, eqb-false}
 use Rattle.desk_values.proofs.Escapes.{first_byte_taken, read_more, read_all, read_fault}
 use Rattle.desk_values.proofs.escape.unescape.Goals as goal

@@ -1,6 +1,6 @@
-use Rattle.std.proofs.Common.{sym, ap, arith, take, drop, length, get_or, Some, ◌≡◌, List, ℕ, ◌+◌, ◌-◌}
+use Rattle.std.proofs.Common.{sym, arith}
 use Rattle.std.proofs.lemmas.List.{take_rest}
-use Rattle.desk_values.proofs.Cuts.{IsCut, cut_place, cut_at-cut, cut_at-none, Lacks-from_places}
+use Rattle.desk_values.proofs.Cuts.{cut_place, cut_at-cut, cut_at-none, Lacks-from_places}
 use Rattle.desk_values.proofs.fields.cut.Goals as goal
 
 pub returns-then-other-byte-clause-value : goal.returns-then-other-byte-clause-value

@@ -1,4 +1,4 @@
-use Rattle.std.proofs.Common.{sym, ◌∙◌, subst, ap, List, ℕ}
+use Rattle.std.proofs.Common.{sym, ◌∙◌, subst, List, ℕ}
 use Rattle.std.specs.Str.Parse.{ParsesUnsigned}
 use Rattle.desk_values.proofs.Numbers.{loose_is_none, no_text_is_none, number_parsed, utf8_is}
 use Rattle.desk_values.proofs.fields.number.Goals as goal

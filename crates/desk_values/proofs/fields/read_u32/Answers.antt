@@ -1,4 +1,4 @@
-use Rattle.std.proofs.Common.{arith, lit≤, ℕ, ◌^◌, ◌≤◌}
+use Rattle.std.proofs.Common.{lit≤, ◌^◌}
 use Rattle.desk_values.proofs.Numbers.{numbers_below}
 use Rattle.desk_values.proofs.Readers.{finds_some, finds_only}
 use Rattle.desk_values.proofs.fields.read_u32.Goals as goal

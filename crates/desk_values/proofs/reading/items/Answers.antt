@@ -1,7 +1,7 @@
-use Rattle.std.proofs.Common.{◌≡◌, ◌∷◌, ◌++◌, [], sym, ◌∙◌, ap, subst, Result, Err, arith}
+use Rattle.std.proofs.Common.{sym}
 use Rattle.std.proofs.lemmas.Result.{err_from_is_err_and}
 use Rattle.desk_values.specs.Reading.{value_of, items_of}
-use Rattle.desk_values.proofs.Cuts.{cut_at_parts, each_none, each_more, each_last, each_bad, each_last_bad}
+use Rattle.desk_values.proofs.Cuts.{each_none, each_more, each_last, each_bad, each_last_bad}
 use Rattle.desk_values.proofs.reading.items.Goals as goal
 
 pub loop-item-init : goal.loop-item-init

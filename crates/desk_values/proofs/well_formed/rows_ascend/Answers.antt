@@ -1,5 +1,4 @@
-use Rattle.std.proofs.Common.{sym, ◌∙◌}
-use Rattle.desk_values.proofs.Tests.{rows_ascend_is}
+use Rattle.desk_values.proofs.ImageTests.{rows_ascend_is}
 use Rattle.desk_values.proofs.well_formed.rows_ascend.Goals as goal
 
 pub returns-clause-fact : goal.returns-clause-fact

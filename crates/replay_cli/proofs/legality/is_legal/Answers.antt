@@ -1,5 +1,4 @@
-use Rattle.std.proofs.Common.{ℕ, ◌≤◌, length, arith}
-use Rattle.desk_values.specs.declared.capture.Captured.{Captured}
+use Rattle.std.proofs.Common.{◌≤◌, length, arith}
 use Rattle.replay_cli.proofs.Tested.{fails_where, holds_where, on_false, on_true, never, always, item_at}
 use Rattle.replay_cli.proofs.Passing.{Passed-more, legal_from_Passed, refused_by_fit, refused_by_reply}
 use Rattle.replay_cli.proofs.legality.is_legal.Goals as goal

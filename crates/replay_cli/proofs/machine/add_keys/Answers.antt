@@ -1,4 +1,4 @@
-use Rattle.std.proofs.Common.{take, ap, subst, sym}
+use Rattle.std.proofs.Common.{take, subst, sym}
 use Rattle.replay_cli.specs.Keys.{AreKeys}
 use Rattle.replay_cli.specs.Machine.{keys_of}
 use Rattle.replay_cli.proofs.KeyLemmas.{keys_of-more}

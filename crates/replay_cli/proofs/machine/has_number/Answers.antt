@@ -1,4 +1,4 @@
-use Rattle.std.proofs.Common.{◌≡◌, ap, ◌∙◌, ℕ, ℤ, rules}
+use Rattle.std.proofs.Common.{ap, ◌∙◌, ℤ, rules}
 use Rattle.std.specs.Int.{w64}
 use Rattle.std.specs.BTreeSet.{contains}
 use Rattle.std.proofs.lemmas.Int.{to_z-of_z}

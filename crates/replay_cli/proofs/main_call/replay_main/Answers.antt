@@ -1,8 +1,6 @@
-use Rattle.std.proofs.Common.{◌≡◌, ℕ, List, Option, inl, inr}
-use Rattle.desk_files.specs.Outside.{FileMap}
-use Rattle.replay_cli.specs.declared.failure.Failure.TheVariants.{BadCapture, Missing, NotYet, DeviceFault}
+use Rattle.replay_cli.specs.declared.failure.Failure.TheVariants.{BadCapture, Missing, NotYet}
 use Rattle.replay_cli.specs.Command.{RunSays}
-use Rattle.replay_cli.proofs.Ending.{all_statuses, command_ends, files_left, five_means, five_prints, four_means, good_ends, reason_ends, refused_files, six_prints, three_means, told_before, told_both, two_means, whole_or_fault, zero_means}
+use Rattle.replay_cli.proofs.Ending.{all_statuses, command_ends, files_left, five_means, five_prints, four_means, good_ends, reason_ends, refused_files, six_is_no_fault, six_prints, three_means, told_before, told_both, two_means, whole_or_fault, zero_means}
 use Rattle.replay_cli.proofs.main_call.replay_main.Goals as goal
 
 pub returns-clause-replayed : goal.returns-clause-replayed
@@ -203,3 +201,6 @@ returns-clause-whole_writes g c =
 
 pub returns-clause-line : goal.returns-clause-line
 returns-clause-line g c = (c.run-done.result, c.report.ensures.says)
+
+pub returns-clause-unfailed : goal.returns-clause-unfailed
+returns-clause-unfailed g c = λ is. c.run-done.ensures.unfailed (six_is_no_fault c.run-done.result c.report.result (g.S.Sink.content c.args.out.now) (g.S.Sink.content c.report.new.out) (g.S.Sink.faults c.args.out.now) (g.S.Sink.faults c.report.new.out) c.report.ensures.says is)

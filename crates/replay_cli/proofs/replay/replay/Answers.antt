@@ -1,4 +1,4 @@
-use Rattle.std.proofs.Common.{ℕ, ◌≤◌, length, arith, ap, sym, ◌∙◌}
+use Rattle.std.proofs.Common.{◌≤◌, length, arith}
 use Rattle.replay_cli.proofs.Tested.{item_at}
 use Rattle.replay_cli.proofs.Order.{begins_after, Replaying-more, replay_from_Replaying}
 use Rattle.replay_cli.proofs.replay.replay.Goals as goal

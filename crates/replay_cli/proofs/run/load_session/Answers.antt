@@ -1,4 +1,4 @@
-use Rattle.std.proofs.Common.{◌≡◌, List, ℕ, Ok, Err, sym, subst, ◌∙◌}
+use Rattle.std.proofs.Common.{List, ℕ, Ok, Err, sym, subst}
 use Rattle.std.specs.FinMap.{get}
 use Rattle.desk_values.specs.Room.{Room}
 use Rattle.desk_values.specs.declared.capture.Captured.{Captured}

@@ -1,4 +1,4 @@
-use Rattle.std.proofs.Common.{◌≡◌, List, ℕ, Ok, Err, sym, subst, ◌∙◌}
+use Rattle.std.proofs.Common.{List, ℕ, Ok, Err, sym, subst}
 use Rattle.std.specs.FinMap.{get}
 use Rattle.desk_files.specs.Outside.{Told}
 use Rattle.capture_format.specs.declared.form.FormErr.{FormErr}

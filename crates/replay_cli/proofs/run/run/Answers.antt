@@ -1,10 +1,9 @@
-use Rattle.std.proofs.Common.{◌≡◌, List, ℕ, Ok, Err, sym, ap, subst, ◌∙◌}
+use Rattle.std.proofs.Common.{Err, ap}
 use Rattle.std.specs.FinMap.{get}
 use Rattle.std.proofs.lemmas.Result.{err_from_is_err_and}
 use Rattle.desk_values.specs.Room.{Room}
 use Rattle.desk_values.specs.declared.capture.Captured.{Captured}
 use Rattle.desk_files.specs.Outside.{Told}
-use Rattle.replay_cli.specs.declared.failure.Failure.{Failure}
 use Rattle.replay_cli.specs.Folder.{FileSays, ReadsStart, Holds, AfterWrites, CutShort}
 use Rattle.replay_cli.specs.Texts.{texts_in}
 use Rattle.replay_cli.specs.Words.{start_name, session_name}

@@ -1,9 +1,8 @@
-use Rattle.std.proofs.Common.{◌≡◌, List, ℕ, Option, Some, Result, Ok, Err, refl, sym, subst, ◌∙◌}
+use Rattle.std.proofs.Common.{◌≡◌, List, ℕ, Some, refl, subst}
 use Rattle.std.specs.Prelude.{IsSomeAnd}
 use Rattle.std.specs.FinMap.{insert}
 use Rattle.std.proofs.lemmas.Result.{err_from_is_err_and}
-use Rattle.desk_files.specs.Outside.{FileMap, KeepsOthers, Told}
-use Rattle.replay_cli.specs.Folder.{CutShort, with_all}
+use Rattle.desk_files.specs.Outside.{KeepsOthers, Told}
 use Rattle.replay_cli.specs.Texts.{texts_in}
 use Rattle.replay_cli.specs.Words.{journal_name, report_name, tables_name}
 use Rattle.replay_cli.proofs.Tested.{on_err_always}

@@ -1,8 +1,6 @@
 use Rattle.std.proofs.Common.{◌≡◌, ◌++◌, take}
 use Rattle.std.specs.List.{flat_map}
-use Rattle.desk_values.specs.declared.value.Image.{Image}
-use Rattle.replay_history.specs.declared.report.Line.{Line}
-use Rattle.replay_history.specs.Texts.{line, event_text, line_text, row_text}
+use Rattle.replay_history.specs.Texts.{line, event_text}
 use Rattle.replay_cli.proofs.texts.append_events.Given as goal
 
 abbrev pub invariant-loop-event : goal.invariant-loop-event

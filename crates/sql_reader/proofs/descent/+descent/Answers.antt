@@ -16,7 +16,7 @@ chain-loop-init t c = chain_begins (part_at c.args.depth (right_of c.args.line))
 
 pub chain-loop-preserved : goal.chain-loop-preserved
 chain-loop-preserved t c =
-    rw (c.in_ok-new.ensures.ok, c.in_ok-new-2.ensures.ok) (chain_goes_on (part_at c.args.depth (right_of c.args.line)) c.args.line (length c.args.tokens.now) c.loop.counter (tree_of c.loop.left) c.loop.rest.now c.in-Some.op c.in-Some.behind.now (tree_of c.in_ok-right.right) c.in_ok-right.after.now (chain_at (part_at c.args.depth (right_of c.args.line)) c.args.line c.args.tokens.now) c.loop-test.true c.in-Some.ensures (rw c.right-in-loop.ensures at c.in_ok-right.ensures) c.loop.invariant)
+    rw (c.in_ok-new.ensures.ok, c.in_ok-new-2.ensures.ok) (chain_goes_on (part_at c.args.depth (right_of c.args.line)) c.args.line (length c.args.tokens.now) c.loop.counter (tree_of c.loop.left) c.loop.rest.now c.in-Some.op c.in-Some.after_operator.now (tree_of c.in_ok-right.right) c.in_ok-right.after.now (chain_at (part_at c.args.depth (right_of c.args.line)) c.args.line c.args.tokens.now) c.loop-test.true c.in-Some.ensures (rw c.right-in-loop.ensures at c.in_ok-right.ensures) c.loop.invariant)
 
 pub nested-returns-then-depth-eq0 : goal.nested-returns-then-depth-eq0
 nested-returns-then-depth-eq0 t c = nothing_nests c.args.depth c.args.inner c.args.tokens.now c.if-depth-eq0.true

@@ -6,7 +6,7 @@ use Rattle.sql_reader.proofs.descent.+descent.Given as goal
 
 -- Each call goes to a tighter part, or one level deeper.
 abbrev pub decreases-part : goal.decreases-part
-decreases-part l = 20 * l.depth + (2 * looseness l.part + 2)
+decreases-part l = 20 * l.depth + (2 * looseness l.wanted + 2)
 
 abbrev pub decreases-chain : goal.decreases-chain
 decreases-chain l = 20 * l.depth + (2 * looseness l.line + 1)

@@ -1,16 +1,16 @@
 use Rattle.sql_reader.specs.Scan.{content_at}
 use Rattle.sql_reader.proofs.Fronts.{content_twice, content_other, content_end, content_none}
 use Rattle.sql_reader.proofs.scanner.content.Goals as goal
-use Rattle.sql_reader.proofs.scanner.content.Goals.{then-first-ne39, else-first-ne39+in-Some-behind_quote}
+use Rattle.sql_reader.proofs.scanner.content.Goals.{then-first-ne39, else-first-ne39+in-Some-after_quote}
 
-pub returns-in_default-behind_quote : goal.returns-in_default-behind_quote
-returns-in_default-behind_quote c = content_end c.loop-first.content.items c.loop-first.rest.now c.in-Some.after.now c.in-Some.first.now (content_at c.args.bytes.now) c.in-Some.ensures.cases.0 c.if-first-ne39.false c.in_default-behind_quote.ensures c.loop-first.invariant
+pub returns-in_default-after_quote : goal.returns-in_default-after_quote
+returns-in_default-after_quote c = content_end c.loop-first.content.items c.loop-first.rest.now c.in-Some.after.now c.in-Some.first.now (content_at c.args.bytes.now) c.in-Some.ensures.cases.0 c.if-first-ne39.false c.in_default-after_quote.ensures c.loop-first.invariant
 
 pub loop-first-preserved : goal.loop-first-preserved
 loop-first-preserved c =
     elim c.if-first-ne39.branch [
       | then-first-ne39 w ↦ rw (c.in_ok-push.ensures.items, w.rest-is) (content_other c.loop-first.content.items c.loop-first.rest.now c.in-Some.after.now c.in-Some.first.now (content_at c.args.bytes.now) c.in-Some.ensures.cases.0 w.if-first-ne39.true c.loop-first.invariant)
-      | else-first-ne39+in-Some-behind_quote w ↦ rw (c.in_ok-push.ensures.items, w.rest-is) (content_twice c.loop-first.content.items c.loop-first.rest.now c.in-Some.after.now c.in-Some.first.now w.in-Some-behind_quote.behind.now (content_at c.args.bytes.now) c.in-Some.ensures.cases.0 w.if-first-ne39.false w.in-Some-behind_quote.ensures c.loop-first.invariant)
+      | else-first-ne39+in-Some-after_quote w ↦ rw (c.in_ok-push.ensures.items, w.rest-is) (content_twice c.loop-first.content.items c.loop-first.rest.now c.in-Some.after.now c.in-Some.first.now w.in-Some-after_quote.after_pair.now (content_at c.args.bytes.now) c.in-Some.ensures.cases.0 w.if-first-ne39.false w.in-Some-after_quote.ensures c.loop-first.invariant)
     ]
 
 pub returns : goal.returns

@@ -1,6 +1,5 @@
 use Rattle.std.proofs.Common.{◌≡◌, ◌++◌, take}
 use Rattle.std.specs.List.{flat_map}
-use Rattle.desk_values.specs.declared.value.Image.{Image}
 use Rattle.replay_cli.proofs.machine.Machine.tables.Given as goal
 
 abbrev pub invariant-loop-images : goal.invariant-loop-images

@@ -1,0 +1,538 @@
+use super::{rewritten, statement_of};
+use std::test::*;
+
+// Texts that spell no statement, the empty one first.
+const REFUSED: &str = "
+ \t
+;
+ ;
+x
+1
+'a'
+:1
+*
+(
+COMMIT;;
+;COMMIT
+COMMIT;COMMIT
+COMMIT ; x
+COMMIT;\0
+COMMIT;'
+COMMIT.
+COMMIT)
+(COMMIT)
+EXPLAIN COMMIT
+COMMIT COMMIT
+COMMIT 1
+COMMIT x
+COMMIT TRANSACTION
+COMMI
+COMMITS
+COM MIT
+ROLL BACK
+ROLLBACK t
+ROLLBACK TO
+ROLLBACK TO t
+ROLLBACK TO SAVEPOINT t
+SAVEPOINT
+SAVEPOINT a
+SET
+SET TRANSACTION
+SET TRANSACTION READ
+SET TRANSACTION ONLY
+SET TRANSACTION ONLY READ
+SET READ ONLY
+TRANSACTION READ ONLY
+READ ONLY
+SET SET TRANSACTION READ ONLY
+SET TRANSACTION READ READ ONLY
+SET TRANSACTION READ ONLY ONLY
+SET TRANSACTION READ WRITE
+SETTRANSACTION READ ONLY
+SELECT
+SELECT *
+SELECT a
+SELECT * FROM
+SELECT FROM t
+SELECT a t
+* FROM t
+FROM t SELECT *
+SELECT SELECT a FROM t
+SELECT * * FROM t
+SELECT *, a FROM t
+SELECT a, * FROM t
+SELECT (*) FROM t
+SELECT t.* FROM t
+SELECT a, FROM t
+SELECT ,a FROM t
+SELECT a,,b FROM t
+SELECT a b FROM t
+SELECT (a, b) FROM t
+SELECT a.b FROM t
+SELECT a FROM t u
+SELECT a FROM t, u
+SELECT a FROM (t)
+SELECT a FROM 't'
+SELECT a FROM :1
+SELECT a FROM 1
+SELECT a FROM FROM t
+SELECT a FROM t FROM t
+SELECT a FROM t.u
+SELECT a FROM t WHERE
+SELECT a FROM WHERE b
+SELECT a WHERE b FROM t
+SELECT a FROM t WHERE WHERE a
+SELECT a FROM t WHERE a WHERE b
+SELECT a FROM t WHERE a, b
+SELECT a FROM t WHERE *
+SELECT a FROM t WHERE ORDER BY a
+SELECT a FROM t a = 1
+SELECT a FROM t ORDER
+SELECT a FROM t ORDER BY
+SELECT a FROM t ORDER a
+SELECT a FROM t BY a
+SELECT a FROM t ORDER BY BY a
+SELECT a FROM t BY ORDER a
+SELECT a FROM t ORDER BY a,
+SELECT a FROM t ORDER BY ,a
+SELECT a FROM t ORDER BY a b
+SELECT a FROM t DESC
+SELECT a FROM t ORDER BY DESC
+SELECT a FROM t ORDER BY ASC a
+SELECT a FROM t ORDER BY a ASC DESC
+SELECT a FROM t ORDER BY a DESC DESC
+SELECT a FROM t ORDER BY 1
+SELECT a FROM t ORDER BY :1
+SELECT a FROM t ORDER BY *
+SELECT a FROM t ORDER BY ROWID
+SELECT a FROM t ORDER BY a + 1
+SELECT a FROM t ORDER BY -a
+SELECT a FROM t ORDER BY (a)
+SELECT a FROM t ORDER BY a ORDER BY b
+SELECT a FROM t ORDER BY a WHERE b
+SELECT a FROM t FOR
+SELECT a FROM t UPDATE
+SELECT a FROM t UPDATE FOR
+SELECT a FROM t FOR FOR UPDATE
+SELECT a FROM t FOR UPDATE FOR UPDATE
+SELECT a FROM t FOR UPDATE WHERE b
+SELECT a FROM t FOR UPDATE ORDER BY b
+SELECT a FROM t FOR UPDATE b
+SELECT a FOR UPDATE FROM t
+FOR UPDATE
+SELECT COUNT(*), a FROM t
+SELECT a, COUNT(*) FROM t
+SELECT COUNT(*), * FROM t
+SELECT *, COUNT(*) FROM t
+SELECT COUNT(*) FROM t ORDER BY a
+SELECT COUNT(*) FROM t FOR UPDATE
+SELECT SUM(a) FROM t WHERE b ORDER BY a
+SELECT MAX(a) FROM t WHERE b FOR UPDATE
+SELECT COUNT(*) + 1 FROM t
+SELECT 1 + SUM(a) FROM t
+SELECT -SUM(a) FROM t
+SELECT (SUM(a)) FROM t
+SELECT SUM(SUM(a)) FROM t
+SELECT COUNT FROM t
+SELECT COUNT() FROM t
+SELECT COUNT(a) FROM t
+SELECT COUNT((*)) FROM t
+SELECT COUNT * FROM t
+SELECT COUNT(* FROM t
+SELECT COUNT*) FROM t
+SELECT COUNT(*,*) FROM t
+SELECT SUM(*) FROM t
+SELECT MIN(*) FROM t
+SELECT MAX() FROM t
+SELECT SUM a FROM t
+SELECT SUM(a FROM t
+SELECT SUM a) FROM t
+SELECT SUM(a, b) FROM t
+SELECT COUNT(*), FROM t
+SELECT COUNT(*) SUM(a) FROM t
+SELECT COUNT(*)
+SELECT COUNT(*) FROM
+SELECT COUNT(*) FROM DUAL
+SELECT a FROM t WHERE COUNT(*) = 1
+SELECT a FROM t WHERE MAX(a) = 1
+SELECT AVG(a) FROM t
+SELECT s.NEXTVAL
+SELECT s.NEXTVAL FROM
+SELECT s.NEXTVAL FROM t
+SELECT s.NEXTVAL DUAL
+SELECT NEXTVAL FROM DUAL
+SELECT s NEXTVAL FROM DUAL
+SELECT s. FROM DUAL
+SELECT .NEXTVAL FROM DUAL
+SELECT s..NEXTVAL FROM DUAL
+SELECT NEXTVAL.s FROM DUAL
+SELECT a.s.NEXTVAL FROM DUAL
+SELECT s.CURRVAL FROM DUAL
+SELECT 's'.NEXTVAL FROM DUAL
+SELECT s.NEXTVAL, u.NEXTVAL FROM DUAL
+SELECT s.NEXTVAL, 1 FROM DUAL
+SELECT 1, s.NEXTVAL FROM DUAL
+SELECT (s.NEXTVAL) FROM DUAL
+SELECT s.NEXTVAL + 1 FROM DUAL
+SELECT s.NEXTVAL FROM DUAL WHERE 1 = 1
+SELECT s.NEXTVAL FROM DUAL ORDER BY a
+SELECT s.NEXTVAL FROM DUAL FOR UPDATE
+SELECT * FROM DUAL
+SELECT 1 FROM DUAL
+SELECT a FROM t WHERE a = s.NEXTVAL
+INSERT
+INSERT INTO
+INSERT INTO t
+INSERT t VALUES (1)
+INTO t VALUES (1)
+INSERT INTO VALUES (1)
+INSERT INTO INTO t VALUES (1)
+INSERT INTO t (1)
+INSERT INTO t (a)
+INSERT INTO t (a) (1)
+INSERT INTO t VALUES
+INSERT INTO t VALUES VALUES (1)
+INSERT INTO t VALUES ()
+INSERT INTO t VALUES 1
+INSERT INTO t VALUES (1
+INSERT INTO t VALUES 1)
+INSERT INTO t VALUES (1,)
+INSERT INTO t VALUES (,1)
+INSERT INTO t VALUES (1 2)
+INSERT INTO t VALUES (1), (2)
+INSERT INTO t VALUES (1) (2)
+INSERT INTO t VALUES (1))
+INSERT INTO t VALUES (1) WHERE a
+INSERT INTO t VALUES (*)
+INSERT INTO t VALUES (COUNT(*))
+INSERT INTO t () VALUES (1)
+INSERT INTO t() VALUES (1)
+INSERT INTO t (a,) VALUES (1)
+INSERT INTO t (,a) VALUES (1)
+INSERT INTO t (a b) VALUES (1)
+INSERT INTO t (a VALUES (1)
+INSERT INTO t a) VALUES (1)
+INSERT INTO t a VALUES (1)
+INSERT INTO t (1) VALUES (1)
+INSERT INTO t (t.a) VALUES (1)
+INSERT INTO t ((a)) VALUES (1)
+INSERT INTO t (*) VALUES (1)
+INSERT INTO t (ROWID) VALUES (1)
+INSERT INTO t (s.NEXTVAL) VALUES (1)
+INSERT INTO t (a) (b) VALUES (1)
+INSERT INTO t VALUES (1) (a)
+INSERT INTO t SELECT a FROM u
+INSERT INTO t VALUES ((s.NEXTVAL))
+INSERT INTO t VALUES (s.NEXTVAL + 1)
+INSERT INTO t VALUES (1 + s.NEXTVAL)
+INSERT INTO t VALUES (-s.NEXTVAL)
+INSERT INTO t VALUES (s.a)
+INSERT INTO t VALUES (s.)
+INSERT INTO t VALUES (NEXTVAL)
+INSERT INTO t VALUES (s NEXTVAL)
+UPDATE
+UPDATE t
+UPDATE t SET
+UPDATE SET a = 1
+UPDATE t a = 1
+UPDATE t SET SET a = 1
+UPDATE t SET a
+UPDATE t SET a =
+UPDATE t SET a 1
+UPDATE t SET = 1
+UPDATE t SET a = 1,
+UPDATE t SET ,a = 1
+UPDATE t SET a = 1 b = 2
+UPDATE t SET a = 1, 2
+UPDATE t SET a = 1 SET b = 2
+UPDATE t SET a <> 1
+UPDATE t SET a == 1
+UPDATE t SET a := 1
+UPDATE t SET (a) = 1
+UPDATE t SET (a = 1)
+UPDATE t SET t.a = 1
+UPDATE t SET 1 = a
+UPDATE t SET ROWID = 1
+UPDATE t SET a = s.NEXTVAL
+UPDATE t SET a = b = c = d
+UPDATE t SET a = *
+UPDATE t SET a = 1 WHERE
+UPDATE t WHERE a SET b = 1
+UPDATE t SET a = 1 WHERE b, c = 2
+UPDATE t SET a = 1 ORDER BY a
+UPDATE t SET a = 1 FOR UPDATE
+UPDATE t, u SET a = 1
+UPDATE t u SET a = 1
+UPDATE FROM t SET a = 1
+DELETE
+DELETE t
+DELETE FROM
+DELETE * FROM t
+DELETE FROM FROM t
+DELETE FROM t u
+DELETE FROM t, u
+DELETE FROM 't'
+DELETE FROM t()
+DELETE FROM t WHERE
+DELETE FROM t a = 1
+DELETE WHERE a
+DELETE FROM WHERE a
+DELETE FROM t WHERE a, b
+DELETE FROM t WHERE a WHERE b
+DELETE FROM t ORDER BY a
+DELETE FROM t FOR UPDATE
+FROM t DELETE
+SELECT +a FROM t
+SELECT a + FROM t
+SELECT a + + b FROM t
+SELECT * a FROM t
+SELECT a * / b FROM t
+SELECT a - * b FROM t
+SELECT - FROM t
+SELECT NOT FROM t
+SELECT a NOT FROM t
+SELECT a NOT b FROM t
+SELECT AND a FROM t
+SELECT a AND FROM t
+SELECT a AND AND b FROM t
+SELECT a AND OR b FROM t
+SELECT OR a FROM t
+SELECT a OR FROM t
+SELECT a OR OR b FROM t
+SELECT = a FROM t
+SELECT a = FROM t
+SELECT a = = b FROM t
+SELECT a = b = c FROM t
+SELECT a FROM t WHERE a=1=2
+SELECT a < b < c FROM t
+SELECT a <> b >= c FROM t
+SELECT a = b IS NULL FROM t
+SELECT a IS NULL = b FROM t
+SELECT a IS NULL IS NULL FROM t
+SELECT a IS NOT NULL IS NULL FROM t
+SELECT a IS NULL + 1 FROM t
+SELECT IS NULL FROM t
+SELECT a NULL FROM t
+SELECT a IS FROM t
+SELECT a IS NOT FROM t
+SELECT a IS b FROM t
+SELECT a IS NOT b FROM t
+SELECT a IS (NULL) FROM t
+SELECT a IS NOT NOT NULL FROM t
+SELECT a IS IS NULL FROM t
+SELECT a NOT NULL FROM t
+SELECT a NOT IS NULL FROM t
+SELECT a IS NULL NULL FROM t
+SELECT a = NOT b FROM t
+SELECT a + NOT b FROM t
+SELECT - NOT a FROM t
+SELECT NOT a = NOT b FROM t
+SELECT () FROM t
+SELECT (a FROM t
+SELECT a) FROM t
+SELECT ((a) FROM t
+SELECT (a)) FROM t
+SELECT )a( FROM t
+SELECT (a b) FROM t
+SELECT a(b) FROM t
+SELECT NULL(a) FROM t
+SELECT (SELECT a FROM t) FROM t
+SELECT a FROM t WHERE a;b
+SELECT a FROM t WHERE a IN (1)
+SELECT a FROM t WHERE a LIKE 'b'
+SELECT a FROM t WHERE a BETWEEN 1 AND 2
+SELECT a || b FROM t
+SELECT a /* b */ FROM t
+SELECT a == b FROM t
+SELECT a ! = b FROM t
+SELECT a < = b FROM t
+SELECT a > = b FROM t
+SELECT a < > b FROM t
+SELECT a => b FROM t
+SELECT a =< b FROM t
+SELECT a <=> b FROM t
+SELECT a <>= b FROM t
+SELECT a !== b FROM t
+SELECT a <== b FROM t
+SELECT a >> b FROM t
+SELECT a << b FROM t
+SELECT a >< b FROM t
+SELECT a ! b FROM t
+SELECT a !< b FROM t
+SELECT !a FROM t
+SELECT 9223372036854775808 FROM t
+SELECT -9223372036854775808 FROM t
+SELECT 09223372036854775808 FROM t
+SELECT 9223372036854775810 FROM t
+SELECT 10000000000000000000 FROM t
+SELECT 18446744073709551615 FROM t
+SELECT 18446744073709551616 FROM t
+SELECT 18446744073709551617 FROM t
+SELECT 99999999999999999999999999999999999999999 FROM t
+SELECT 1.5 FROM t
+SELECT .5 FROM t
+SELECT 1. FROM t
+SELECT 1 2 FROM t
+SELECT 1a FROM t
+SELECT 1A FROM t
+SELECT 1_ FROM t
+SELECT 0x1F FROM t
+SELECT 1e5 FROM t
+SELECT 1é FROM t
+SELECT 1FROM t
+SELECT a FROM t WHERE a = 1ORDER BY a
+SELECT a FROM t WHERE 1AND 2
+SELECT 1'a' FROM t
+SELECT : FROM t
+SELECT :0 FROM t
+SELECT :00 FROM t
+SELECT :01 FROM t
+SELECT :016 FROM t
+SELECT :17 FROM t
+SELECT :20 FROM t
+SELECT :99 FROM t
+SELECT :100 FROM t
+SELECT :160 FROM t
+SELECT :4294967297 FROM t
+SELECT :18446744073709551617 FROM t
+SELECT : 1 FROM t
+SELECT :\t1 FROM t
+SELECT :1a FROM t
+SELECT :1A FROM t
+SELECT :1_ FROM t
+SELECT :16a FROM t
+SELECT :1é FROM t
+SELECT :a FROM t
+SELECT ::1 FROM t
+SELECT :-1 FROM t
+SELECT :'1' FROM t
+SELECT :(1) FROM t
+SELECT :1:2 FROM t
+SELECT a :1 FROM t
+SELECT :1FROM t
+SELECT a FROM t WHERE :1AND a
+SELECT ' FROM t
+SELECT 'a FROM t
+SELECT a' FROM t
+SELECT ''' FROM t
+SELECT 'a'' FROM t
+SELECT ''''' FROM t
+SELECT 'a'b' FROM t
+SELECT 'a' 'b' FROM t
+SELECT 'a'b FROM t
+SELECT a'b' FROM t
+SELECT \"a\" FROM t
+SELECT `a` FROM t
+SELECT _a FROM t
+DELETE FROM _a
+DELETE FROM 1a
+DELETE FROM a-b
+DELETE FROM aé
+DELETE FROM ABCDEFGHIJKLMNOPQRSTUVWXYZ_1234
+SELECT abcdefghijklmnopqrstuvwxyz_1234 FROM t
+SELECT abcdefghijklmnopqrstuvwxyz_1234.NEXTVAL FROM DUAL
+SELECT a FROM t ORDER BY abcdefghijklmnopqrstuvwxyz_1234
+UPDATE t SET abcdefghijklmnopqrstuvwxyz_1234 = 1
+SELECTa FROM t
+SELECT aFROM t
+SELECT a FROMt
+SELECT a FROM tWHERE b
+SELECT a FROM t WHEREb
+SELECT a FROM t WHERE a ANDb
+SELECT a FROM t WHERE NOTa b
+SELECT a FROM t WHERE a ISNULL
+SELECT a FROM t WHERE a IS NOTNULL
+SELECT a FROM t ORDERBY a
+SELECT a FROM t FORUPDATE
+INSERT INTOt VALUES (1)
+DELETEFROM t
+SELECT sum FROM t
+SELECT a FROM select
+SELECT a FROM t WHERE by
+SELECT a FROM t ORDER BY order
+SELECT dual.NEXTVAL FROM DUAL
+SELECT null.NEXTVAL FROM DUAL
+INSERT INTO values VALUES (1)
+INSERT INTO t (to) VALUES (1)
+INSERT INTO t VALUES (only)
+INSERT INTO t VALUES (rowid.NEXTVAL)
+UPDATE set SET a = 1
+UPDATE t SET set = 1";
+
+#[test]
+fn other_texts_are_refused(rt: HostRuntime) -> Result<(), Fail> {
+    for text in REFUSED.lines() {
+        assert!(rt; statement_of(rt.alloc(), text)?.is_none(), "{text}");
+    }
+    Ok(())
+}
+
+#[test]
+fn texts_over_several_lines_are_refused_too(rt: HostRuntime) -> Result<(), Fail> {
+    for text in [
+        "\n",
+        " \t\r\n ",
+        "\r\n;\r\n",
+        "COMMIT\n;\nCOMMIT",
+        "COM\nMIT",
+        "SELECT 'a\n FROM t",
+        "SELECT a <\r\n= b FROM t",
+        "SELECT :\n1 FROM t",
+    ] {
+        assert!(rt; statement_of(rt.alloc(), text)?.is_none(), "{text}");
+    }
+    Ok(())
+}
+
+// Characters that begin no token, end no token and part no tokens. Three of them are near to letters: the sign of
+// the Kelvin, the long s and the i without a dot.
+const FOREIGN: &str =
+    "!\"#$%&?@[\\]^`{|}~\0\u{1}\u{8}\u{b}\u{c}\u{1f}\u{7f}\u{85}\u{a0}éß\u{2003}\u{2028}\u{feff}１😀\u{212a}\u{17f}\u{131}";
+
+#[test]
+fn other_characters_stand_in_strings_alone(rt: HostRuntime) -> Result<(), Fail> {
+    for character in FOREIGN.chars() {
+        let before = format!(in rt.alloc(); "{character}COMMIT")?;
+        assert!(rt;
+            statement_of(rt.alloc(), before.as_str())?.is_none(),
+            "{before}"
+        );
+        let after = format!(in rt.alloc(); "DELETE FROM t{character}")?;
+        assert!(rt;
+            statement_of(rt.alloc(), after.as_str())?.is_none(),
+            "{after}"
+        );
+        let alone = format!(in rt.alloc(); "DELETE FROM {character}")?;
+        assert!(rt;
+            statement_of(rt.alloc(), alone.as_str())?.is_none(),
+            "{alone}"
+        );
+        let inside = format!(in rt.alloc(); "SELECT '{character}' FROM t")?;
+        let bytes = rewritten(rt.alloc(), inside.as_str())?;
+        assert_eq!(rt; bytes.as_slice(), inside.as_bytes(), "{inside}");
+    }
+    Ok(())
+}
+
+const RESERVED: &str =
+    "and asc by commit count delete desc dual for from insert into is max min nextval not null only or order read rollback rowid savepoint select set sum to transaction update values where";
+
+#[test]
+fn no_keyword_is_a_name(rt: HostRuntime) -> Result<(), Fail> {
+    for word in RESERVED.split(' ') {
+        let lower = format!(in rt.alloc(); "DELETE FROM {word}")?;
+        assert!(rt;
+            statement_of(rt.alloc(), lower.as_str())?.is_none(),
+            "{lower}"
+        );
+        let upper = lower.to_ascii_uppercase(rt.alloc())?;
+        assert!(rt;
+            statement_of(rt.alloc(), upper.as_str())?.is_none(),
+            "{upper}"
+        );
+        let longer = format!(in rt.alloc(); "DELETE FROM {word}_")?;
+        let bytes = rewritten(rt.alloc(), longer.as_str())?;
+        assert_eq!(rt; bytes.as_slice(), longer.as_bytes(), "{longer}");
+    }
+    Ok(())
+}
