@@ -1,4 +1,4 @@
--- The number of each fault.
+-- The number of each fault, and its rank.
 use Rattle.std.specs.Prelude.{ℕ, ◌==◌, List, [], ◌∷◌, Option}
 use Rattle.std.specs.List.{find}
 use Rattle.desk_values.specs.declared.fault.Fault.{Fault}
@@ -24,6 +24,29 @@ fault_number NotConnected = 28
 fault_number AlreadyConnected = 29
 fault_number UnderWay = 32
 fault_number TooManyRows = 33
+
+-- The order in which faults are told: of two that apply, the one of lower rank. Each has the next rank, from 0, but that
+-- 11 is kept for a savepoint that is not there.
+abbrev pub fault_rank : Fault → ℕ
+fault_rank Syntax = 0
+fault_rank NotConnected = 1
+fault_rank AlreadyConnected = 2
+fault_rank UnknownService = 3
+fault_rank UnknownTable = 4
+fault_rank UnknownColumn = 5
+fault_rank UnknownSequence = 6
+fault_rank BindMissing = 7
+fault_rank Kinds = 8
+fault_rank ReadOnly = 9
+fault_rank UnderWay = 10
+fault_rank ZeroDivisor = 12
+fault_rank Overflow = 13
+fault_rank TooManyRows = 14
+fault_rank Locked = 15
+fault_rank NullValue = 16
+fault_rank TextTooLong = 17
+fault_rank OutOfRange = 18
+fault_rank DuplicateKey = 19
 
 abbrev pub all_faults : List Fault
 all_faults = Syntax ∷ UnknownTable ∷ UnknownColumn ∷ UnknownSequence ∷ UnknownService ∷ Kinds ∷ BindMissing ∷ Locked ∷ DuplicateKey ∷ NullValue ∷ OutOfRange ∷ TextTooLong ∷ ZeroDivisor ∷ Overflow ∷ ReadOnly ∷ NotConnected ∷ AlreadyConnected ∷ UnderWay ∷ TooManyRows ∷ []

@@ -6,3 +6,5 @@ pub mod Text
 pub mod Kept
 pub mod Fields
 pub mod Reading
+pub mod Comparison
+pub mod Ids

@@ -1,6 +1,6 @@
 ghost use Rattle.std.specs.Prelude.{◌≡◌, Some, IfSome};
 ghost use Rattle.desk_values.specs.declared.fault.Fault.{Fault};
-ghost use Rattle.desk_values.specs.Fault.{fault_number, fault_numbered};
+ghost use Rattle.desk_values.specs.Fault.{fault_number, fault_numbered, fault_rank};
 
 /// Why a call is refused. The causes are the profile's own, each with a number.
 #[derive(Clone, Copy, Debug, PartialEq, Eq)]
@@ -99,6 +99,33 @@ impl Fault {
             Fault::AlreadyConnected => 29,
             Fault::UnderWay => 32,
             Fault::TooManyRows => 33,
+        }
+    }
+
+    /// Where the fault stands in the order in which faults are told: of two that apply, the one of lower rank is told.
+    pub fn rank(self) -> u32
+        ensures { result ≡ fault_rank self }
+    {
+        match self {
+            Fault::Syntax => 0,
+            Fault::NotConnected => 1,
+            Fault::AlreadyConnected => 2,
+            Fault::UnknownService => 3,
+            Fault::UnknownTable => 4,
+            Fault::UnknownColumn => 5,
+            Fault::UnknownSequence => 6,
+            Fault::BindMissing => 7,
+            Fault::Kinds => 8,
+            Fault::ReadOnly => 9,
+            Fault::UnderWay => 10,
+            Fault::ZeroDivisor => 12,
+            Fault::Overflow => 13,
+            Fault::TooManyRows => 14,
+            Fault::Locked => 15,
+            Fault::NullValue => 16,
+            Fault::TextTooLong => 17,
+            Fault::OutOfRange => 18,
+            Fault::DuplicateKey => 19,
         }
     }
 

@@ -6,6 +6,7 @@
 
 mod call;
 mod capture;
+mod comparison;
 mod escape;
 mod fault;
 pub mod fields;
@@ -26,6 +27,7 @@ mod writing;
 
 pub use call::{Call, Outcome, Reply};
 pub use capture::{CallList, Captured, Event, History, SessionLists};
+pub use comparison::{same_key, text_order, value_equal, value_order};
 pub use fault::Fault;
 pub use list::List;
 pub use memory::{Copied, Memory};

@@ -24,6 +24,17 @@ pub enum Value {
     Draw(u32, u64),
 }
 
+impl Value {
+    ghost use Rattle.desk_values.specs.Ids.{is_id};
+
+    /// Whether it is an id: the number of a row, or a value that was drawn.
+    pub fn is_id(&self) -> bool
+        ensures { result ≡ is_id self.now }
+    {
+        matches!(self, Value::Row(_) | Value::Draw(_, _))
+    }
+}
+
 impl Copied for Value {
     fn copy(&self) -> Result<Value, Memory> {
         match self {
