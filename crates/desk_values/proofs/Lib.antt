@@ -6,6 +6,7 @@ pub mod ImageTests
 pub mod Escapes
 pub mod Bytes
 pub mod ValueTexts
+pub mod Words
 pub mod Faults
 pub mod ReplyTexts
 pub mod CallTexts

@@ -15,21 +15,19 @@ use Rattle.desk_values.specs.declared.call.Call.{Call}
 use Rattle.desk_values.specs.declared.call.Call.TheVariants.{Connect, Sql, Disconnect}
 use Rattle.desk_values.specs.declared.call.Reply.{Reply}
 use Rattle.desk_values.specs.declared.fault.Fault.{Fault}
+use Rattle.desk_values.specs.Answers.{Answers}
 use Rattle.desk_values.specs.Fault.{fault_numbered}
 use Rattle.desk_values.specs.Fields.{cut_at, pieces}
 use Rattle.desk_values.specs.Text.{is_plain}
 
+-- what an error of a reader says of what there is to read: Bad that there is nothing, want of memory nothing at all
+abbrev pub unread : {T : Type 0} → ReadErr → Option (Option T)
+unread Bad = Some None
+unread Memory = None
+
 -- what a reader answers: what there is to read, or Bad where there is nothing; want of memory may come at any time
 abbrev pub Reads : {T : Type 0} → Result T ReadErr → Option T → Type 0
-Reads (Ok value) read = read ≡ Some value
-Reads (Err Bad) read = read ≡ None
-Reads (Err Memory) read = Unit {0}
-
--- the same of an answer that is seen through a view, as one that holds a reference
-abbrev pub ReadsAs : {X T : Type 0} → (X → T) → Result X ReadErr → Option T → Type 0
-ReadsAs view (Ok value) read = read ≡ Some (view value)
-ReadsAs view (Err Bad) read = read ≡ None
-ReadsAs view (Err Memory) read = Unit {0}
+Reads result read = Answers Some unread result read
 
 infixl 10 ◌>>=◌
 abbrev pub ◌>>=◌ : {A B : Type 0} → Option A → (A → Option B) → Option B

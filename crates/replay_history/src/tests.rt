@@ -1,4 +1,5 @@
 use crate::{Class, Mode, Report};
+use desk_values::Word;
 use std::test::Fail;
 
 #[test]
