@@ -4,6 +4,7 @@ use Rattle.std.specs.Option.{option_map, option_and_then}
 use Rattle.std.specs.Fmt.{decimal}
 use Rattle.std.specs.Str.{is_utf8, bytes_eq}
 use Rattle.std.specs.Str.Parse.{digits_value}
+use Rattle.percent_encoding.specs.Percent.{percent_decode}
 use Rattle.desk_values.specs.declared.read_err.ReadErr.{ReadErr}
 use Rattle.desk_values.specs.declared.read_err.ReadErr.TheVariants.{Bad, Memory}
 use Rattle.desk_values.specs.declared.value.Value.{Value}
@@ -18,7 +19,7 @@ use Rattle.desk_values.specs.declared.fault.Fault.{Fault}
 use Rattle.desk_values.specs.Answers.{Answers}
 use Rattle.desk_values.specs.Fault.{fault_numbered}
 use Rattle.desk_values.specs.Fields.{cut_at, pieces}
-use Rattle.desk_values.specs.Text.{is_plain}
+use Rattle.desk_values.specs.Text.{escaped}
 
 -- what an error of a reader says of what there is to read: Bad that there is nothing, want of memory nothing at all
 abbrev pub unread : {T : Type 0} → ReadErr → Option (Option T)
@@ -67,38 +68,13 @@ integer_of bytes = if slice_index bytes 0 == 45 then number_of (drop 1 bytes) >>
 
 -- ---- texts
 
--- what an upper-case hexadecimal digit stands for
-abbrev pub hex_value : ℕ → Option ℕ
-hex_value byte = if nat_le 48 byte && nat_le byte 57 then Some (byte - 48) else (if nat_le 65 byte && nat_le byte 70 then Some (byte - 55) else None)
+-- these bytes, where they are a text
+unfoldable pub txt_in : List ℕ → Option (List ℕ)
+txt_in bytes = if nat_le (length bytes) 1000 && is_utf8 bytes then Some bytes else None
 
--- the byte that two digits stand for, unless it stands for itself
-abbrev pub hex_byte : ℕ → ℕ → Option ℕ
-hex_byte high low = do
-  h ← hex_value high
-  l ← hex_value low
-  if is_plain (16 * h + l) then None else Some (16 * h + l)
-
--- the byte at the front of an escaped text, and what is left
-unfoldable pub first_byte : List ℕ → Option (ℕ × List ℕ)
-first_byte bytes = if is_plain (slice_index bytes 0) then Some (slice_index bytes 0, drop 1 bytes)
-    else (if slice_index bytes 0 == 37 then option_map (λ byte. (byte, drop 3 bytes)) (hex_byte (slice_index bytes 1) (slice_index bytes 2)) else None)
-
--- the bytes of an escaped text
-unfoldable mutual
-  pub unescaped : List ℕ → Option (List ℕ)
-  unescaped [] = Some []
-  unescaped (first ∷ rest) = if is_plain first then option_map (λ others. first ∷ others) (unescaped rest) else (if first == 37 then unescaped_code rest else None)
-
-  pub unescaped_code : List ℕ → Option (List ℕ)
-  unescaped_code [] = None
-  unescaped_code (high ∷ []) = None
-  unescaped_code (high ∷ low ∷ rest) = hex_byte high low >>= λ byte. option_map (λ others. byte ∷ others) (unescaped rest)
-
--- the text whose escaped text this is
+-- the text whose escaped text this is: what its escapes stand for, where that is escaped so again
 unfoldable pub escaped_of : List ℕ → Option (List ℕ)
-escaped_of bytes = do
-  text ← unescaped bytes
-  if nat_le (length text) 1000 && is_utf8 text then Some text else None
+escaped_of bytes = let text = percent_decode bytes in if bytes_eq (escaped text) bytes then txt_in text else None
 
 -- the text that follows a `t`
 unfoldable pub txt_of : List ℕ → Option (List ℕ)
