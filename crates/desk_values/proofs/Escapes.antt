@@ -133,4 +133,3 @@ long_is_none bytes long = none_from (escaped_of bytes) (λ text e.
 pub txts : IsReader txt_of IsTxt txt_text
 unfolding txt_of
 txts = behind 116 (lit< tt) escapes
-

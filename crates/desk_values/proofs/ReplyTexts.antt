@@ -183,7 +183,7 @@ image_taken bytes image e =
 image_again : (image : Image) → IsGoodImage image → image_of (image_text image) ≡ Some image
 unfolding image_of
 image_again image good =
-    let table : image.table ≤ 31 = good.table in
+    let table : image.table < 32 = good.table in
     let small : image.table < 2 ^ 64 = omega arith in
     rw (
       cut_at-joined 58 (decimal image.row) (decimal image.table ++ 58 ∷ left_text image.left) (decimal-Lacks 58 image.row refl good.row),
@@ -202,7 +202,7 @@ left_listed (Some values) good = values_listed values good.1
 
 image_imaged : (image : Image) → IsGoodImage image → Consists is_imaged (image_text image)
 image_imaged image good =
-    let table : image.table ≤ 31 = good.table in
+    let table : image.table < 32 = good.table in
     let small : image.table < 2 ^ 64 = omega arith in
     let number = λ (n : ℕ) (lt : n < 2 ^ 64). Consists-weaker is_word is_imaged (λ byte e. or_left (is_listed byte) _ (or_left (is_item byte) _ (or_left (is_word byte) _ e))) (decimal n) (decimal_words n lt) in
     Consists-append is_imaged (decimal image.row) _ (number image.row good.row) (refl, Consists-append is_imaged (decimal image.table) _ (number image.table small) (refl, Consists-weaker is_listed is_imaged (λ byte e. or_left (is_listed byte) _ e) (left_text image.left) (left_listed image.left good.left)))

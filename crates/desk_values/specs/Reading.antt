@@ -7,6 +7,8 @@ use Rattle.std.specs.Str.Parse.{digits_value}
 use Rattle.percent_encoding.specs.Percent.{percent_decode}
 use Rattle.desk_values.specs.declared.read_err.ReadErr.{ReadErr}
 use Rattle.desk_values.specs.declared.read_err.ReadErr.TheVariants.{Bad, Memory}
+use Rattle.desk_values.specs.declared.text.TheConstants.{TEXT_LIMIT}
+use Rattle.desk_values.specs.declared.value.TheConstants.{BIND_LIMIT, TABLE_LIMIT}
 use Rattle.desk_values.specs.declared.value.Value.{Value}
 use Rattle.desk_values.specs.declared.value.Value.TheVariants.{Null, Int, Text, Row, Draw}
 use Rattle.desk_values.specs.declared.value.Image.{Image}
@@ -70,7 +72,7 @@ integer_of bytes = if slice_index bytes 0 == 45 then number_of (drop 1 bytes) >>
 
 -- these bytes, where they are a text
 unfoldable pub txt_in : List ℕ → Option (List ℕ)
-txt_in bytes = if nat_le (length bytes) 1000 && is_utf8 bytes then Some bytes else None
+txt_in bytes = if nat_le (length bytes) TEXT_LIMIT && is_utf8 bytes then Some bytes else None
 
 -- the text whose escaped text this is: what its escapes stand for, where that is escaped so again
 unfoldable pub escaped_of : List ℕ → Option (List ℕ)
@@ -154,7 +156,7 @@ image_of bytes = do
   parts ← cut_at 58 bytes
   row ← number_of parts.0
   others ← cut_at 58 parts.1
-  table ← number_below 32 others.0
+  table ← number_below TABLE_LIMIT others.0
   left ← left_of others.1
   Some (record { row = row; table = table; left = left })
 
@@ -244,7 +246,7 @@ sql_of bytes = do
   parts ← cut_at 32 bytes
   text ← txt_of parts.0
   binds ← values_of parts.1
-  if nat_le (length binds) 16 then Some (Sql text binds) else None
+  if nat_le (length binds) BIND_LIMIT then Some (Sql text binds) else None
 
 -- the call whose text this is
 unfoldable pub call_of : List ℕ → Option Call
