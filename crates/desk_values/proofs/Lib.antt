@@ -10,5 +10,4 @@ pub mod Words
 pub mod Faults
 pub mod ReplyTexts
 pub mod CallTexts
-pub mod Lines
 pub mod Keeping

@@ -18,8 +18,6 @@ mod read_err;
 mod reading;
 mod reserved;
 mod same;
-#[cfg(test)]
-mod tests;
 mod text;
 mod value;
 mod well_formed;

@@ -151,6 +151,3 @@ pub fn is_good_outcome(outcome: &Outcome) -> bool
         | Outcome::Refused(_) => true,
     }
 }
-
-#[cfg(test)]
-mod tests;

@@ -1,8 +1,4 @@
-use super::*;
-use crate::call::Reply;
-use crate::fault::Fault;
-use crate::list::List;
-use crate::reading::read_values;
+use desk_values::{Fault, Image, List, Outcome, Reply, read_values};
 use std::test::*;
 
 fn reply_of(rt: &HostRuntime, outcome: Outcome) -> Reply {
@@ -59,13 +55,4 @@ fn bad_replies_are_told(rt: HostRuntime) -> Result<(), Fail> {
     reply.draws = read_values(rt.alloc(), b"[d0.10,i5]")?;
     assert!(rt; !reply.good());
     Ok(())
-}
-
-#[test]
-fn faults_have_their_numbers(rt: HostRuntime) {
-    assert_eq!(rt; Fault::from_number(10), Some(Fault::Syntax));
-    assert_eq!(rt; Fault::from_number(20), Some(Fault::Locked));
-    assert_eq!(rt; Fault::from_number(33), Some(Fault::TooManyRows));
-    assert_eq!(rt; Fault::from_number(17), None);
-    assert_eq!(rt; Fault::from_number(30), None);
 }

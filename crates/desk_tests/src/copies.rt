@@ -1,4 +1,4 @@
-use crate::{
+use desk_values::{
     BindErr, Binds, Call, Captured, Copied, Event, Fault, Image, Images, List, Outcome, Reply,
     Reserved, RowList, Same, Txt, Value, Values, read_values,
 };

@@ -1,5 +1,7 @@
-use super::*;
-use crate::list::List;
+use desk_values::fields::{
+    append_i64, append_text, append_u64, cut, read_i64, read_text, read_u32, read_u64,
+};
+use desk_values::{List, ReadErr};
 use std::test::*;
 
 #[test]
@@ -16,16 +18,25 @@ fn cuts_at_the_first_separator(rt: HostRuntime) {
 
 #[test]
 fn numbers_have_one_spelling(rt: HostRuntime) {
-    assert_eq!(rt; read_u64(b"0"), Some(0));
-    assert_eq!(rt; read_u64(b"549755813888"), Some(549755813888));
-    assert_eq!(rt; read_u64(b"18446744073709551615"), Some(u64::MAX));
-    assert_eq!(rt; read_u64(b"18446744073709551616"), None);
-    assert_eq!(rt; read_u32(b"4294967295"), Some(u32::MAX));
-    assert_eq!(rt; read_u32(b"4294967296"), None);
-    assert_eq!(rt; read_i64(b"-9223372036854775808"), Some(i64::MIN));
-    assert_eq!(rt; read_i64(b"9223372036854775807"), Some(i64::MAX));
-    assert_eq!(rt; read_i64(b"9223372036854775808"), None);
-    assert_eq!(rt; read_i64(b"-9223372036854775809"), None);
+    for (text, number) in [
+        ("0", Some(0)),
+        ("549755813888", Some(549755813888)),
+        ("18446744073709551615", Some(u64::MAX)),
+        ("18446744073709551616", None),
+    ] {
+        assert_eq!(rt; read_u64(text.as_bytes()), number, "{text}");
+    }
+    for (text, number) in [("4294967295", Some(u32::MAX)), ("4294967296", None)] {
+        assert_eq!(rt; read_u32(text.as_bytes()), number, "{text}");
+    }
+    for (text, number) in [
+        ("-9223372036854775808", Some(i64::MIN)),
+        ("9223372036854775807", Some(i64::MAX)),
+        ("9223372036854775808", None),
+        ("-9223372036854775809", None),
+    ] {
+        assert_eq!(rt; read_i64(text.as_bytes()), number, "{text}");
+    }
 }
 
 #[test]

@@ -1,5 +1,4 @@
-use super::*;
-use crate::writing::{write_value, write_values};
+use desk_values::{List, ReadErr, Value, read_value, read_values, write_value, write_values};
 use std::test::*;
 
 #[test]
