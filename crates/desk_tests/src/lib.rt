@@ -1,6 +1,6 @@
-//! Tests over the public calls of the crates below: beside them, so that those are proved once.
+//! Tests over the public calls of the crates below, gathered so that those are proved once.
 //!
-//! Enters: nothing. Leaves: nothing.
+//! Enters and leaves: nothing. The tests touch memory, the standard output, and a folder of their own where they run.
 #![tactic(auto)]
 
 #[cfg(test)]
@@ -11,6 +11,8 @@ mod copies;
 mod errors;
 #[cfg(test)]
 mod fields;
+#[cfg(test)]
+mod files;
 #[cfg(test)]
 mod history;
 #[cfg(test)]
