@@ -10,3 +10,4 @@ pub mod Fitting
 pub mod Lasts
 pub mod Files
 pub mod Columns
+pub mod Drafting
