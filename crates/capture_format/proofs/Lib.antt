@@ -11,6 +11,5 @@ pub mod SimpleReader
 pub mod StartReader
 pub mod Failures
 pub mod StartLoop
-pub mod StartEnd
 pub mod StartTail
 pub mod Unique
