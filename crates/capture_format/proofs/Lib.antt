@@ -1,4 +1,6 @@
 pub mod Cuts
+pub mod ReplyTexts
+pub mod CallTexts
 pub mod Alphabet
 pub mod SessionLines
 pub mod SessionSteps

@@ -8,6 +8,4 @@ pub mod Bytes
 pub mod ValueTexts
 pub mod Words
 pub mod Faults
-pub mod ReplyTexts
-pub mod CallTexts
 pub mod Keeping

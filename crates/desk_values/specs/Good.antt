@@ -1,5 +1,5 @@
 -- Which values and replies can be written as text.
-use Rattle.std.specs.Prelude.{ℕ, ◌<◌, ◌≤◌, ◌^◌, List, [], ◌∷◌, length, IfSome, FitsSigned}
+use Rattle.std.specs.Prelude.{ℕ, ◌<◌, ◌≤◌, ◌^◌, Bool, true, false, ◌&&◌, nat_lt, List, [], ◌∷◌, length, IfSome, FitsSigned}
 use Rattle.std.specs.Int.{w64}
 use Rattle.std.specs.Str.{IsUtf8}
 use Rattle.std.specs.List.{AllByRecursion}
@@ -71,3 +71,24 @@ abbrev pub IsCall : Call → Type 0
 IsCall (Connect service) = IsTxt service
 IsCall (Sql text binds) = IsTxt text × (length binds ≤ BIND_LIMIT) × IsValues binds
 IsCall Disconnect = Unit {0}
+
+-- ---- the same as tests
+
+-- the rows ascend, from above this one on
+abbrev pub ascend_above : ℕ → List Image → Bool
+ascend_above row [] = true
+ascend_above row (first ∷ others) = nat_lt row first.row && ascend_above first.row others
+
+-- each row is below the next
+abbrev pub rows_ascend : List Image → Bool
+rows_ascend [] = true
+rows_ascend (first ∷ others) = ascend_above first.row others
+
+abbrev pub is_draw : Value → Bool
+is_draw (Draw sequence n) = true
+is_draw other = false
+
+-- only draws
+abbrev pub all_draws : List Value → Bool
+all_draws [] = true
+all_draws (first ∷ others) = is_draw first && all_draws others

@@ -11,14 +11,15 @@ use Rattle.desk_values.specs.declared.call.Call.TheVariants.{Connect, Sql, Disco
 use Rattle.desk_values.specs.Fields.{cut_at}
 use Rattle.desk_values.specs.Good.{IsTxt, IsValues, IsCall}
 use Rattle.desk_values.specs.Text.{escaped, txt_text, values_text, call_text}
-use Rattle.desk_values.specs.Reading.{txt_of, values_of, sql_of, call_of}
+use Rattle.desk_values.specs.Reading.{txt_of, values_of}
+use Rattle.capture_format.specs.CallReading.{sql_of, call_of}
 use Rattle.desk_values.proofs.Options.{bind_some, map_some, if_some, when_some, chosen}
 use Rattle.desk_values.proofs.Readers.{IsReader}
 use Rattle.desk_values.proofs.Cuts.{IsCut, cut_at-joined, cut_at_parts}
 use Rattle.desk_values.proofs.Escapes.{txts, IsUtf8-small}
 use Rattle.desk_values.proofs.ValueTexts.{values_reader}
-use Rattle.desk_values.proofs.ReplyTexts.{is_codes, is_word-field}
-use Rattle.desk_values.proofs.Bytes.{Consists, Consists-weaker, Lacks-from, is_word, is_field, escaped_words}
+use Rattle.capture_format.proofs.ReplyTexts.{is_codes, is_field, is_word-field}
+use Rattle.desk_values.proofs.Bytes.{Consists, Consists-weaker, Lacks-from, is_word, escaped_words}
 
 sql_spelled : (bytes front rest text : List ℕ) (binds : List Value) → IsCut 32 bytes front rest → IsTxt text × (front ≡ txt_text text) → IsValues binds × (rest ≡ values_text binds) → length binds ≤ 16 → IsCall (Sql text binds) × (codes "sql " ++ bytes ≡ call_text (Sql text binds))
 sql_spelled bytes front rest text binds cut first second few =

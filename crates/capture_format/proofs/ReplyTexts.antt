@@ -1,5 +1,5 @@
 -- Reading replies undoes writing them.
-use Rattle.std.proofs.Common.{◌≡◌, ℕ, ◌^◌, ◌<◌, ◌≤◌, true, false, eqb, List, [], ◌∷◌, ◌++◌, length, get_or, drop, map, Option, Some, None, Err, refl, sym, ap, subst, ◌∙◌, arith, inl, inr, lit<, lit≤, append_assoc, append-nil}
+use Rattle.std.proofs.Common.{◌≡◌, ℕ, Bool, ◌||◌, ◌^◌, ◌<◌, ◌≤◌, true, false, eqb, List, [], ◌∷◌, ◌++◌, length, get_or, drop, map, Option, Some, None, Err, refl, sym, ap, subst, ◌∙◌, arith, inl, inr, lit<, lit≤, append_assoc, append-nil}
 use Rattle.std.specs.Prelude.{codes, IfSome}
 use Rattle.std.specs.Option.{option_map}
 use Rattle.std.specs.List.{AllByRecursion, join_with_byte, flat_map}
@@ -21,23 +21,50 @@ use Rattle.desk_values.specs.Fault.{fault_number, fault_numbered}
 use Rattle.desk_values.specs.Fields.{Lacks, cut_at, pieces}
 use Rattle.desk_values.specs.Good.{IsValue, IsValues, IsGoodRow, IsGoodDraw, IsGoodImage, IsGoodOutcome, IsGoodReply, Ascend}
 use Rattle.desk_values.specs.Text.{values_text, rows_text, left_text, image_text, images_text, outcome_text, made_text, reply_text}
-use Rattle.desk_values.specs.Reading.{Reads, ◌>>=◌, number_of, number_below, each_of, values_of, filled_of, open_rows_of, rows_of, left_of, image_of, rows_ascend, images_of, fault_of, field_outcome_of, word_outcome_of, outcome_behind, outcome_of, all_draws, draws_of, made_of, reply_of}
+use Rattle.desk_values.specs.Reading.{Reads, ◌>>=◌, number_of, number_below, each_of, values_of}
+use Rattle.capture_format.specs.ReplyReading.{filled_of, open_rows_of, rows_of, left_of, image_of, images_of, fault_of, field_outcome_of, word_outcome_of, outcome_behind, outcome_of, draws_of, made_of, reply_of}
+use Rattle.desk_values.specs.Good.{rows_ascend, all_draws}
 use Rattle.desk_values.proofs.Options.{bind_some, map_some, if_some, unless_when, when_some, chosen, at_end_some}
 use Rattle.desk_values.proofs.Readers.{IsReader, first_of}
 use Rattle.desk_values.proofs.Cuts.{IsCut, cut_at-joined, cut_at_parts, cut_at_lacks, pieces-joined, pieces-none, pieces-cut, pieces_some, join-pieces, joined_reader, onto_items, onto_items-append}
 use Rattle.desk_values.proofs.Numbers.{numbers, numbers_below}
 use Rattle.desk_values.proofs.Faults.{numbered_taken, numbered_again, fault_number_small}
 use Rattle.desk_values.proofs.ImageTests.{rows_ascend_is, all_draws_is}
-use Rattle.desk_values.proofs.ValueTexts.{values_reader, filled_reader, values_listed, items_text, inside_lacks}
-use Rattle.desk_values.proofs.Bytes.{Consists, Consists-append, Consists-weaker, Lacks-from, is_word, is_item, is_listed, is_imaged, is_field, decimal-Lacks, decimal_words, join_consists}
+use Rattle.desk_values.proofs.ValueTexts.{values_reader, values_listed, items_text, inside_lacks}
+use Rattle.desk_values.proofs.Bytes.{Consists, Consists-append, Consists-weaker, Lacks-from, is_word, is_item, is_listed, decimal-Lacks, decimal_words, join_consists}
 
 pub is_codes : (bytes text : List ℕ) → bytes_eq bytes text ≡ true → bytes ≡ text
 is_codes bytes text e = (bytes_eq-Decides bytes text).0 e
 
--- ---- rows
+-- a byte of an image
+abbrev pub is_imaged : ℕ → Bool
+is_imaged byte = is_listed byte || eqb byte 58
 
-AreRows : List (List Value) → Type 0
-AreRows rows = AllByRecursion IsGoodRow rows
+-- a byte of a field of a line
+abbrev pub is_field : ℕ → Bool
+is_field byte = is_imaged byte || eqb byte 59
+
+-- ---- at least one value in brackets
+
+filled_taken : (bytes : List ℕ) (values : List Value) → filled_of bytes ≡ Some values → IsGoodRow values × (bytes ≡ values_text values)
+unfolding filled_of
+filled_taken bytes values e =
+    let found = bind_some (values_of bytes) _ values e in
+    let some = unless_some (eqb (length found.0) 0) found.0 values found.2 in
+    let taken = values_taken bytes found.0 found.1 in
+    subst (λ (vs : List Value). IsGoodRow vs × (bytes ≡ values_text vs)) some.1 ((positive _ (eqb-false _ 0 some.0), taken.0), taken.1)
+  where
+    positive : (n : ℕ) → (n ≡ 0 → ⊥) → 0 < n
+    positive n h = omega arith
+
+pub filled_reader : IsReader filled_of IsGoodRow values_text
+unfolding filled_of
+filled_reader = record {
+  takes = filled_taken;
+  again = λ values fits. rw (values_again values fits.1, ne_eqb (length values) 0 (omega (arith, fits.0))) refl;
+}
+
+-- ---- rows
 
 -- what pieces without their `]` spell
 record AreOpen (parts : List (List ℕ)) (rows : List (List Value)) : Type 0 where
@@ -390,9 +417,6 @@ draws_again draws good =
     let fits = draws_fit draws good in
     rw (values_reader.again draws fits, (all_draws_is draws fits).1 good) refl
 
-pub draws_reader : IsReader draws_of (AllByRecursion IsGoodDraw) values_text
-draws_reader = record { takes = draws_taken; again = draws_again }
-
 made_taken : (bytes : List ℕ) (made : Option ℕ) → made_of bytes ≡ Some made → IfSome made (λ row. row < 2 ^ 64) × (bytes ≡ made_text made)
 unfolding made_of
 made_taken bytes made e =
@@ -409,9 +433,6 @@ made_again : (made : Option ℕ) → IfSome made (λ row. row < 2 ^ 64) → made
 unfolding made_of
 made_again None good = refl
 made_again (Some row) good = rw (numbers.again row good) refl
-
-pub made_reader : IsReader made_of (λ made. IfSome made (λ row. row < 2 ^ 64)) made_text
-made_reader = record { takes = made_taken; again = made_again }
 
 -- ---- replies
 
