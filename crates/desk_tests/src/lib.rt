@@ -16,4 +16,6 @@ mod history;
 #[cfg(test)]
 mod replies;
 #[cfg(test)]
+mod schema;
+#[cfg(test)]
 mod value_texts;
