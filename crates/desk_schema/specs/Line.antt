@@ -9,13 +9,7 @@ use Rattle.desk_schema.specs.declared.line.ColumnKind.{ColumnKind}
 use Rattle.desk_schema.specs.declared.line.ColumnKind.TheVariants as written
 use Rattle.desk_schema.specs.declared.schema.Kind.{Kind}
 use Rattle.desk_schema.specs.declared.schema.Kind.TheVariants as numbered
-use Rattle.desk_schema.specs.declared.schema.Rights.{Rights}
-use Rattle.desk_schema.specs.declared.schema.Rights.TheVariants.{ReadWrite, ReadOnly}
-use Rattle.desk_schema.specs.Schema.{place_of}
-
-abbrev pub rights_text : Rights → List ℕ
-rights_text ReadWrite = codes "rw"
-rights_text ReadOnly = codes "ro"
+use Rattle.desk_schema.specs.Schema.{place_of, rights_word}
 
 abbrev pub nulls_text : Bool → List ℕ
 nulls_text true = codes "notnull"
@@ -31,7 +25,7 @@ abbrev pub line_text : StartLine → List ℕ
 line_text Head = codes "start 1"
 line_text (LevelLine level) = codes "level " ++ decimal level
 line_text (SeqLine name next) = codes "seq " ++ (name ++ 32 ∷ decimal next)
-line_text (ServiceLine name rights) = codes "svc " ++ (name ++ 32 ∷ rights_text rights)
+line_text (ServiceLine name rights) = codes "svc " ++ (name ++ 32 ∷ rights_word rights)
 line_text (TableLine name) = codes "table " ++ name
 line_text (ColumnLine name kind not_null) = codes "col " ++ (name ++ 32 ∷ (kind_text kind ++ 32 ∷ nulls_text not_null))
 line_text (RowLine row table values) = codes "row " ++ (decimal row ++ 32 ∷ (decimal table ++ 32 ∷ values_text values))

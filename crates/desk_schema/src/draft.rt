@@ -19,13 +19,16 @@ use crate::start::Start;
 use desk_values::{Copied, Image, List, Memory, Txt, Values};
 use std::alloc::{AllocFailed, Global};
 use std::marker::Model;
+use thiserror::Error;
 
 /// Why a line was not added to a [`Draft`].
-#[derive(Clone, Copy, Debug, PartialEq, Eq)]
+#[derive(Clone, Copy, Debug, PartialEq, Eq, Error)]
 pub enum DraftErr {
     /// It would break a rule of the lines of a start file. Each call of [`Draft`] says which.
+    #[error("a line that breaks a rule of start files")]
     Rule,
     /// Want of memory.
+    #[error("out of memory")]
     Memory,
 }
 

@@ -18,4 +18,6 @@ mod history;
 #[cfg(test)]
 mod replies;
 #[cfg(test)]
+mod schema;
+#[cfg(test)]
 mod value_texts;
