@@ -8,9 +8,9 @@ ghost use Rattle.desk_schema.specs.State.{added, nothing};
 ghost use Rattle.desk_schema.specs.Rules.{MayFollow};
 ghost use Rattle.desk_schema.specs.Draft.{IsReached, Judges, JudgesUnlessMemory};
 
+use crate::additions::{last_columns, push_column, push_row, push_sequence};
 use crate::keys::{KeySet, row_key};
-use crate::named::place_in;
-use crate::parts::{last_columns, push_column, push_row, push_sequence};
+use crate::lookup::place_in;
 use crate::rules::{
     Last, fits_row, may_add_column, may_add_sequence, may_add_service, may_add_table, may_finish,
 };

@@ -1,7 +1,7 @@
 use Rattle.std.proofs.Common.{◌≡◌, sym, arith, true, Some, None}
 use Rattle.std.specs.Str.{str_to_ascii_lowercase, str_eq_ignore_ascii_case}
 use Rattle.desk_schema.proofs.Places.{one_found, one_passed, all_passed, none_found, same_name, refuted}
-use Rattle.desk_schema.proofs.named.place_ignoring_case_in.Goals as goal
+use Rattle.desk_schema.proofs.lookup.place_ignoring_case_in.Goals as goal
 
 pub returns-then-eq_ignore_ascii_case-clause-value :
     goal.returns-then-eq_ignore_ascii_case-clause-value

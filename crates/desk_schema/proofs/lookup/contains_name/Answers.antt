@@ -3,7 +3,7 @@ use Rattle.std.specs.Str.{bytes_eq}
 use Rattle.std.proofs.lemmas.Bool.{false≢true}
 use Rattle.std.proofs.lemmas.Slice.Eq.{bytes_eq-Decides}
 use Rattle.desk_schema.proofs.Members.{named_here, one_passed, all_passed}
-use Rattle.desk_schema.proofs.named.contains_name.Goals as goal
+use Rattle.desk_schema.proofs.lookup.contains_name.Goals as goal
 
 pub returns-then-eq : goal.returns-then-eq
 returns-then-eq g c =

@@ -2,7 +2,7 @@ use Rattle.std.proofs.Common.{List, ◌≡◌, ◌-◌, get_or, set, length, ap,
 use Rattle.desk_schema.specs.declared.schema.Column.{Column}
 use Rattle.desk_schema.specs.declared.schema.Table.{Table}
 use Rattle.desk_schema.proofs.Lasts.{with_column-set}
-use Rattle.desk_schema.proofs.parts.push_column.Goals as goal
+use Rattle.desk_schema.proofs.additions.push_column.Goals as goal
 
 pub returns-clause-ok : goal.returns-clause-ok
 returns-clause-ok c =

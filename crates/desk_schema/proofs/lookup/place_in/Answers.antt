@@ -1,7 +1,7 @@
 use Rattle.std.proofs.Common.{◌≡◌, sym, arith, true, false}
 use Rattle.std.specs.Str.{bytes_eq}
 use Rattle.desk_schema.proofs.Places.{one_found, one_passed, all_passed}
-use Rattle.desk_schema.proofs.named.place_in.Goals as goal
+use Rattle.desk_schema.proofs.lookup.place_in.Goals as goal
 
 pub returns-then-eq : goal.returns-then-eq
 returns-then-eq g c =
