@@ -9,11 +9,11 @@ use Rattle.desk_values.specs.declared.value.Value.TheVariants.{Int}
 use Rattle.desk_values.specs.declared.fault.Fault.{Fault}
 use Rattle.desk_values.specs.declared.fault.Fault.TheVariants.{ZeroDivisor}
 use Rattle.sql_eval.specs.Logic.{negation, truth_of_test}
-use Rattle.sql_reader.specs.declared.tree.Op.{Op}
-use Rattle.sql_reader.specs.declared.tree.Op.TheVariants.{Add, Sub, Mul, Div}
+use Rattle.sql_tree.specs.declared.tree.Op.{Op}
+use Rattle.sql_tree.specs.declared.tree.Op.TheVariants.{Add, Sub, Mul, Div}
 use Rattle.sql_eval.specs.declared.logic.Truth.{Truth}
-use Rattle.sql_eval.specs.Plain.{Term}
-use Rattle.sql_eval.specs.Plain as term
+use Rattle.sql_tree.specs.Plain.{Term}
+use Rattle.sql_tree.specs.Plain as term
 use Rattle.sql_eval.specs.Value.{arithmetic, both, is_in_range, is_zero, is_null_value, is_connective, connected, comparison, minus, number, of_numbers, then_apply, truth_value, value_of, worse, quotient}
 use Rattle.sql_eval.specs.Faults.{fault_after, fault_among, is_overflow, is_zero_divisor, own_fault, parts, condition_parts, told}
 
@@ -92,13 +92,13 @@ told_both : {A B : Type 0} (x : Result A Fault) (y : Result B Fault) (z o u p : 
 told_both x y z o u p e f = worst-both x y ∙ ap (λ g. worst g (result_err y)) e ∙ ap (λ g. worst (told z o) g) f ∙ worst-told z o u p
 
 -- told by the parts of two
-among_append : (level row : ℕ) (values binds : List Value) (ps qs : List Term) → told
+among_append : (level row : ℕ) (values binds : List Value) (ps qs : List (Term ℕ)) → told
     (list_any (λ p. is_zero_divisor (own_fault level row values binds p)) ps || list_any (λ p. is_zero_divisor (own_fault level row values binds p)) qs)
     (list_any (λ p. is_overflow (own_fault level row values binds p)) ps || list_any (λ p. is_overflow (own_fault level row values binds p)) qs)
     ≡ fault_among level row values binds (ps ++ qs)
 among_append level row values binds ps qs = rw (list_any-append (λ p. is_zero_divisor (own_fault level row values binds p)) ps qs, list_any-append (λ p. is_overflow (own_fault level row values binds p)) ps qs) refl
 
-pub value_fault : (level row : ℕ) (values binds : List Value) (e : Term) → result_err (value_of level row values binds e) ≡ fault_among level row values binds (parts e)
+pub value_fault : (level row : ℕ) (values binds : List Value) (e : Term ℕ) → result_err (value_of level row values binds e) ≡ fault_among level row values binds (parts e)
 value_fault level row values binds term.null = refl
 value_fault level row values binds (term.int n) = refl
 value_fault level row values binds (term.text t) = refl
@@ -108,8 +108,8 @@ value_fault level row values binds term.rowid = refl
 value_fault level row values binds (term.neg e) = told_then minus minus_told (value_of level row values binds e) _ _ (value_fault level row values binds e)
 value_fault level row values binds (term.not e) = refl
 value_fault level row values binds (term.bin op a b) =
-    let zero : Term → Bool = λ p. is_zero_divisor (own_fault level row values binds p) in
-    let over : Term → Bool = λ p. is_overflow (own_fault level row values binds p) in
+    let zero : Term ℕ → Bool = λ p. is_zero_divisor (own_fault level row values binds p) in
+    let over : Term ℕ → Bool = λ p. is_overflow (own_fault level row values binds p) in
     let f : Value × Value → Result Value Fault = λ p. arithmetic level op p.0 p.1 in
     let x = both (value_of level row values binds a) (value_of level row values binds b) in
     rw (list_any-append zero (parts a) (parts b), list_any-append over (parts a) (parts b))
@@ -123,17 +123,17 @@ err_then : {A B : Type 0} (f : A → B) (x : Result A Fault) → result_err (the
 err_then f (Ok a) = refl
 err_then f (Err g) = refl
 
-joined_fault : (level row : ℕ) (values binds : List Value) {A B C : Type 0} (f : A × B → C) (x : Result A Fault) (y : Result B Fault) (ps qs : List Term) → result_err x ≡ fault_among level row values binds ps → result_err y ≡ fault_among level row values binds qs → result_err (then_apply (λ (p : A × B). Ok (f p)) (both x y)) ≡ fault_among level row values binds (ps ++ qs)
+joined_fault : (level row : ℕ) (values binds : List Value) {A B C : Type 0} (f : A × B → C) (x : Result A Fault) (y : Result B Fault) (ps qs : List (Term ℕ)) → result_err x ≡ fault_among level row values binds ps → result_err y ≡ fault_among level row values binds qs → result_err (then_apply (λ (p : A × B). Ok (f p)) (both x y)) ≡ fault_among level row values binds (ps ++ qs)
 joined_fault level row values binds f x y ps qs e g =
-    let zero : Term → Bool = λ p. is_zero_divisor (own_fault level row values binds p) in
-    let over : Term → Bool = λ p. is_overflow (own_fault level row values binds p) in
+    let zero : Term ℕ → Bool = λ p. is_zero_divisor (own_fault level row values binds p) in
+    let over : Term ℕ → Bool = λ p. is_overflow (own_fault level row values binds p) in
     err_then f (both x y) ∙ told_both x y (list_any zero ps) (list_any over ps) (list_any zero qs) (list_any over qs) e g ∙ among_append level row values binds ps qs
 
-chosen_fault : (level row : ℕ) (values binds : List Value) (b : Bool) (x y : Result Truth Fault) (ps qs : List Term) → result_err x ≡ fault_among level row values binds ps → result_err y ≡ fault_among level row values binds qs → result_err (if b then x else y) ≡ fault_among level row values binds (if b then ps else qs)
+chosen_fault : (level row : ℕ) (values binds : List Value) (b : Bool) (x y : Result Truth Fault) (ps qs : List (Term ℕ)) → result_err x ≡ fault_among level row values binds ps → result_err y ≡ fault_among level row values binds qs → result_err (if b then x else y) ≡ fault_among level row values binds (if b then ps else qs)
 chosen_fault level row values binds true x y ps qs e g = e
 chosen_fault level row values binds false x y ps qs e g = g
 
-pub truth_fault : (level row : ℕ) (values binds : List Value) (e : Term) → result_err (truth_value level row values binds e) ≡ fault_among level row values binds (condition_parts e)
+pub truth_fault : (level row : ℕ) (values binds : List Value) (e : Term ℕ) → result_err (truth_value level row values binds e) ≡ fault_among level row values binds (condition_parts e)
 truth_fault level row values binds term.null = refl
 truth_fault level row values binds (term.int n) = refl
 truth_fault level row values binds (term.text t) = refl

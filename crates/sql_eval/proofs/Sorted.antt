@@ -8,13 +8,13 @@ use Rattle.desk_values.specs.declared.value.Value.{Value}
 use Rattle.desk_values.specs.declared.value.Value.TheVariants as value
 use Rattle.desk_values.specs.declared.fault.Fault.{Fault}
 use Rattle.desk_values.specs.declared.fault.Fault.TheVariants.{ZeroDivisor, Overflow}
-use Rattle.sql_reader.specs.declared.tree.Op.{Op}
-use Rattle.sql_reader.specs.declared.tree.Op.TheVariants.{Add, Sub, Mul, Div, Eq, Ne, Lt, Le, Gt, Ge, And, Or}
+use Rattle.sql_tree.specs.declared.tree.Op.{Op}
+use Rattle.sql_tree.specs.declared.tree.Op.TheVariants.{Add, Sub, Mul, Div, Eq, Ne, Lt, Le, Gt, Ge, And, Or}
 use Rattle.sql_eval.specs.declared.kind.PartKind.{PartKind}
 use Rattle.sql_eval.specs.declared.kind.PartKind.TheVariants.{Null, Int, Text, Row, Seq, Truth as Condition}
 use Rattle.sql_eval.specs.declared.logic.Truth.{Truth}
-use Rattle.sql_eval.specs.Plain.{Term}
-use Rattle.sql_eval.specs.Plain as term
+use Rattle.sql_tree.specs.Plain.{Term}
+use Rattle.sql_tree.specs.Plain as term
 use Rattle.sql_eval.specs.declared.logic.Truth.TheVariants.{Unknown}
 use Rattle.sql_eval.specs.Logic.{truth_of_test}
 use Rattle.sql_eval.specs.Value.{arithmetic, bind_at, both, comparison, connected, equal, is_connective, is_in_range, is_null_value, is_zero, minus, number, of_numbers, order, quotient, then_apply, truth_value, value_of}
@@ -248,7 +248,7 @@ chosen : (b : Bool) (x y : Result Truth Fault) → b ≡ false → (if b then x 
 chosen true x y h u = absurd (cc)
 chosen false x y h u = u
 
-unknown_comparison : (level row : ℕ) (values binds : List Value) (op : Op) (a b : Term) (v w : Value) → IsComparison op → value_of level row values binds a ≡ Ok v → value_of level row values binds b ≡ Ok w → truth_value level row values binds (term.bin op a b) ≡ Ok Unknown → comparison level op v w ≡ None
+unknown_comparison : (level row : ℕ) (values binds : List Value) (op : Op) (a b : Term ℕ) (v w : Value) → IsComparison op → value_of level row values binds a ≡ Ok v → value_of level row values binds b ≡ Ok w → truth_value level row values binds (term.bin op a b) ≡ Ok Unknown → comparison level op v w ≡ None
 unknown_comparison level row values binds op a b v w c e f u =
     tested level op (value_of level row values binds a) (value_of level row values binds b) v w e f
     (chosen (is_connective op)

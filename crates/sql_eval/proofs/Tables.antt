@@ -6,8 +6,8 @@ use Rattle.std.specs.Ordering.{is_lt, is_le, is_gt, is_ge}
 use Rattle.desk_values.specs.declared.value.Value.{Value}
 use Rattle.desk_values.specs.declared.value.Value.TheVariants.{Null, Int, Text, Row, Draw}
 use Rattle.desk_values.specs.declared.fault.Fault.{Fault}
-use Rattle.sql_reader.specs.declared.tree.Op.{Op}
-use Rattle.sql_reader.specs.declared.tree.Op.TheVariants.{Add, Sub, Mul, Div, Eq, Ne, Lt, Le, Gt, Ge, And, Or}
+use Rattle.sql_tree.specs.declared.tree.Op.{Op}
+use Rattle.sql_tree.specs.declared.tree.Op.TheVariants.{Add, Sub, Mul, Div, Eq, Ne, Lt, Le, Gt, Ge, And, Or}
 use Rattle.sql_eval.specs.declared.logic.Truth.{Truth}
 use Rattle.sql_eval.specs.declared.logic.Truth.TheVariants.{Unknown}
 use Rattle.sql_eval.specs.Logic.{conjunction, disjunction, negation, truth_of_test}

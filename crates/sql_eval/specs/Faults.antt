@@ -5,18 +5,18 @@ use Rattle.std.specs.Result.{result_err}
 use Rattle.desk_values.specs.declared.value.Value.{Value}
 use Rattle.desk_values.specs.declared.fault.Fault.{Fault}
 use Rattle.desk_values.specs.declared.fault.Fault.TheVariants.{ZeroDivisor, Overflow}
-use Rattle.sql_eval.specs.Plain.{Term}
-use Rattle.sql_eval.specs.Plain as term
+use Rattle.sql_tree.specs.Plain.{Term}
+use Rattle.sql_tree.specs.Plain as term
 use Rattle.sql_eval.specs.Value.{arithmetic, both, is_connective, minus, value_of}
 
 -- the parts whose values are taken for the value of an expression: all of them, its own among them
-abbrev pub parts : Term → List Term
+abbrev pub parts : Term ℕ → List (Term ℕ)
 parts (term.neg e) = term.neg e ∷ parts e
 parts (term.bin op a b) = term.bin op a b ∷ (parts a ++ parts b)
 parts other = other ∷ []
 
 -- the parts whose values are taken for the truth of a condition: both sides of AND and OR
-abbrev pub condition_parts : Term → List Term
+abbrev pub condition_parts : Term ℕ → List (Term ℕ)
 condition_parts (term.not e) = condition_parts e
 condition_parts (term.bin op a b) = if is_connective op then condition_parts a ++ condition_parts b else parts a ++ parts b
 condition_parts (term.is_null e) = parts e
@@ -29,7 +29,7 @@ fault_after f (Ok a) = result_err (f a)
 fault_after f (Err fault) = None
 
 -- the fault that a part gives of its own
-abbrev pub own_fault : ℕ → ℕ → List Value → List Value → Term → Option Fault
+abbrev pub own_fault : ℕ → ℕ → List Value → List Value → Term ℕ → Option Fault
 own_fault level row values binds (term.neg e) = fault_after minus (value_of level row values binds e)
 own_fault level row values binds (term.bin op a b) = fault_after (λ (p : Value × Value). arithmetic level op p.0 p.1) (both (value_of level row values binds a) (value_of level row values binds b))
 own_fault level row values binds other = None
@@ -49,7 +49,7 @@ abbrev pub told : Bool → Bool → Option Fault
 told zero over = if zero then Some ZeroDivisor else if over then Some Overflow else None
 
 -- the fault that these parts make
-abbrev pub fault_among : ℕ → ℕ → List Value → List Value → List Term → Option Fault
+abbrev pub fault_among : ℕ → ℕ → List Value → List Value → List (Term ℕ) → Option Fault
 fault_among level row values binds ps = told
     (list_any (λ p. is_zero_divisor (own_fault level row values binds p)) ps)
     (list_any (λ p. is_overflow (own_fault level row values binds p)) ps)

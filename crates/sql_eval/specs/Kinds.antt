@@ -7,13 +7,13 @@ use Rattle.desk_values.specs.declared.value.Value.TheVariants as value
 use Rattle.desk_schema.specs.declared.schema.Column.{Column}
 use Rattle.desk_schema.specs.declared.schema.Kind.{Kind}
 use Rattle.desk_schema.specs.declared.schema.Kind.TheVariants as column
-use Rattle.sql_reader.specs.declared.tree.Op.{Op}
-use Rattle.sql_reader.specs.declared.tree.Op.TheVariants.{Add, Sub, Mul, Div, Eq, Ne, Lt, Le, Gt, Ge, And, Or}
+use Rattle.sql_tree.specs.declared.tree.Op.{Op}
+use Rattle.sql_tree.specs.declared.tree.Op.TheVariants.{Add, Sub, Mul, Div, Eq, Ne, Lt, Le, Gt, Ge, And, Or}
 use Rattle.sql_eval.specs.declared.kind.PartKind.{PartKind}
 use Rattle.sql_eval.specs.declared.kind.PartKind.TheVariants.{Null, Int, Text, Row, Seq, Truth}
-use Rattle.sql_eval.specs.declared.ready.ReadyKey.{ReadyKey}
-use Rattle.sql_eval.specs.Plain.{Term, Total, Entry, Change, Asked, Plan}
-use Rattle.sql_eval.specs.Plain as plain
+use Rattle.sql_tree.specs.declared.tree.Key.{Key}
+use Rattle.sql_tree.specs.Plain.{Term, Total, Entry, Change, Asked, Plan}
+use Rattle.sql_tree.specs.Plain as plain
 use Rattle.sql_eval.specs.Value.{bind_at}
 
 -- the kind of a value, which a bind has
@@ -107,7 +107,7 @@ of_two f (Some k) None = None
 of_two f (Some k) (Some l) = f k l
 
 -- the kind of a part; none where it breaks a rule, or names a column or a bind that is not there
-abbrev pub kind_of : List Column → List Value → Term → Option PartKind
+abbrev pub kind_of : List Column → List Value → Term ℕ → Option PartKind
 kind_of columns binds plain.null = Some Null
 kind_of columns binds (plain.int n) = Some Int
 kind_of columns binds (plain.text t) = Some Text
@@ -128,37 +128,37 @@ passes test None = false
 passes test (Some k) = test k
 
 -- behind WHERE stands a condition
-abbrev pub is_condition : List Column → List Value → Term → Bool
+abbrev pub is_condition : List Column → List Value → Term ℕ → Bool
 is_condition columns binds e = passes is_truth (kind_of columns binds e)
 
 -- there is no WHERE, or it has a condition
-abbrev pub is_where : List Column → List Value → Option Term → Bool
+abbrev pub is_where : List Column → List Value → Option (Term ℕ) → Bool
 is_where columns binds None = true
 is_where columns binds (Some e) = is_condition columns binds e
 
 -- an item is anything else
-abbrev pub is_item : List Column → List Value → Term → Bool
+abbrev pub is_item : List Column → List Value → Term ℕ → Bool
 is_item columns binds e = passes (λ k. not (is_truth k)) (kind_of columns binds e)
 
 -- SUM takes numbers, MIN and MAX what has an order; COUNT takes nothing
-abbrev pub is_total : List Column → List Value → Total → Bool
+abbrev pub is_total : List Column → List Value → Total ℕ → Bool
 is_total columns binds plain.count = true
 is_total columns binds (plain.total e) = passes is_number (kind_of columns binds e)
 is_total columns binds (plain.least e) = passes has_order (kind_of columns binds e)
 is_total columns binds (plain.greatest e) = passes has_order (kind_of columns binds e)
 
 -- each thing that a SELECT asks for may be asked for
-abbrev pub is_asked : List Column → List Value → Asked → Bool
+abbrev pub is_asked : List Column → List Value → Asked ℕ → Bool
 is_asked columns binds plain.columns = true
 is_asked columns binds (plain.values es) = list_all (is_item columns binds) es
 is_asked columns binds (plain.totals ts) = list_all (is_total columns binds) ts
 
 -- rows are ordered by numbers and texts
-abbrev pub is_key : List Column → ReadyKey → Bool
+abbrev pub is_key : List Column → Key ℕ → Bool
 is_key columns key = passes has_order (kind_at columns key.column)
 
 -- the kind of an input
-abbrev pub entry_kind : List Column → List Value → Entry → Option PartKind
+abbrev pub entry_kind : List Column → List Value → Entry ℕ → Option PartKind
 entry_kind columns binds (plain.value e) = kind_of columns binds e
 entry_kind columns binds (plain.drawn sequence) = Some (Seq sequence)
 
@@ -174,18 +174,18 @@ target_kinds columns None = map (λ (c : Column). Some (kind_of_column c.kind)) 
 target_kinds columns (Some places) = map (kind_at columns) places
 
 -- one input for each column, of a kind that it takes
-abbrev pub are_inputs : List Column → List Value → List (Option PartKind) → List Entry → Bool
+abbrev pub are_inputs : List Column → List Value → List (Option PartKind) → List (Entry ℕ) → Bool
 are_inputs columns binds [] [] = true
 are_inputs columns binds [] (entry ∷ entries) = false
 are_inputs columns binds (target ∷ targets) [] = false
 are_inputs columns binds (target ∷ targets) (entry ∷ entries) = fits_column target (entry_kind columns binds entry) && are_inputs columns binds targets entries
 
 -- the column takes the kind of its new value
-abbrev pub is_change : List Column → List Value → Change → Bool
+abbrev pub is_change : List Column → List Value → Change ℕ → Bool
 is_change columns binds change = fits_column (kind_at columns change.column) (kind_of columns binds change.to)
 
 -- no rule of kinds is broken in the statement, whose table has these columns
-abbrev pub kinds_agree : List Column → List Value → Plan → Bool
+abbrev pub kinds_agree : List Column → List Value → Plan ℕ → Bool
 kinds_agree columns binds (plain.select table asked condition keys held) = is_asked columns binds asked && is_where columns binds condition && list_all (is_key columns) keys
 kinds_agree columns binds (plain.next sequence) = true
 kinds_agree columns binds (plain.insert table named entries) = are_inputs columns binds (target_kinds columns named) entries

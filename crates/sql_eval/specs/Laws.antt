@@ -4,8 +4,8 @@ use Rattle.std.specs.Option.{unwrap_or}
 use Rattle.std.specs.Result.{result_err}
 use Rattle.desk_values.specs.declared.value.Value.{Value}
 use Rattle.desk_values.specs.declared.value.Value.TheVariants.{Null}
-use Rattle.sql_reader.specs.declared.tree.Op.{Op}
-use Rattle.sql_reader.specs.declared.tree.Op.TheVariants.{Add, Sub, Mul, Div, Eq, Ne, Lt, Le, Gt, Ge}
+use Rattle.sql_tree.specs.declared.tree.Op.{Op}
+use Rattle.sql_tree.specs.declared.tree.Op.TheVariants.{Add, Sub, Mul, Div, Eq, Ne, Lt, Le, Gt, Ge}
 use Rattle.sql_eval.specs.declared.logic.Truth.{Truth}
 use Rattle.sql_eval.specs.declared.logic.Truth.TheVariants.{True, False, Unknown}
 use Rattle.desk_schema.specs.declared.schema.Column.{Column}
@@ -13,8 +13,8 @@ use Rattle.sql_eval.specs.declared.kind.PartKind.{PartKind}
 use Rattle.sql_eval.specs.declared.kind.PartKind.TheVariants.{Truth as Condition}
 use Rattle.sql_eval.specs.Kinds.{is_taken, kind_at, kind_of, kind_of_value}
 use Rattle.sql_eval.specs.Logic.{negation, conjunction, disjunction}
-use Rattle.sql_eval.specs.Plain.{Term}
-use Rattle.sql_eval.specs.Plain as term
+use Rattle.sql_tree.specs.Plain.{Term}
+use Rattle.sql_tree.specs.Plain as term
 use Rattle.sql_eval.specs.Value.{is_null_value, truth_value, value_of}
 use Rattle.sql_eval.specs.Faults.{condition_parts, fault_among, parts}
 
@@ -38,11 +38,11 @@ pub record AreStandardTables : Type 0 where
 
 -- NOT of a condition with a truth goes by its table, for any row
 abbrev pub NotGoesByTable : Type 0
-NotGoesByTable = (level row : ℕ) (values binds : List Value) (a : Term) (s : Truth) → truth_value level row values binds a ≡ Ok s → truth_value level row values binds (term.not a) ≡ Ok (negation s)
+NotGoesByTable = (level row : ℕ) (values binds : List Value) (a : Term ℕ) (s : Truth) → truth_value level row values binds a ≡ Ok s → truth_value level row values binds (term.not a) ≡ Ok (negation s)
 
 -- an operator between two conditions with a truth goes by this table, for any row
 abbrev pub GoesByTable : Op → (Truth → Truth → Truth) → Type 0
-GoesByTable op table = (level row : ℕ) (values binds : List Value) (a b : Term) (s t : Truth) → truth_value level row values binds a ≡ Ok s → truth_value level row values binds b ≡ Ok t → truth_value level row values binds (term.bin op a b) ≡ Ok (table s t)
+GoesByTable op table = (level row : ℕ) (values binds : List Value) (a b : Term ℕ) (s t : Truth) → truth_value level row values binds a ≡ Ok s → truth_value level row values binds b ≡ Ok t → truth_value level row values binds (term.bin op a b) ≡ Ok (table s t)
 
 -- an operator that compares
 abbrev pub IsComparison : Op → Type 0
@@ -64,23 +64,23 @@ IsArithmetic other = ⊥
 
 -- a comparison with Null is unknown, on the left and on the right (ISO/IEC 9075-2, comparison predicate)
 abbrev pub NullIsUnknown : Type 0
-NullIsUnknown = (level row : ℕ) (values binds : List Value) (op : Op) (a b : Term) (v : Value) → IsComparison op
+NullIsUnknown = (level row : ℕ) (values binds : List Value) (op : Op) (a b : Term ℕ) (v : Value) → IsComparison op
     → value_of level row values binds a ≡ Ok Null → value_of level row values binds b ≡ Ok v
     → (truth_value level row values binds (term.bin op a b) ≡ Ok Unknown) × (truth_value level row values binds (term.bin op b a) ≡ Ok Unknown)
 
 -- arithmetic with Null is Null, also by zero (ISO/IEC 9075-2, numeric value expression)
 abbrev pub NullIsNull : Type 0
-NullIsNull = (level row : ℕ) (values binds : List Value) (op : Op) (a b : Term) (v : Value) → IsArithmetic op
+NullIsNull = (level row : ℕ) (values binds : List Value) (op : Op) (a b : Term ℕ) (v : Value) → IsArithmetic op
     → value_of level row values binds a ≡ Ok Null → value_of level row values binds b ≡ Ok v
     → (value_of level row values binds (term.bin op a b) ≡ Ok Null) × (value_of level row values binds (term.bin op b a) ≡ Ok Null)
 
 -- the fault of a value is that among its parts: the zero divisor of any part before the overflow of any
 abbrev pub ValueFaultIsAmongParts : Type 0
-ValueFaultIsAmongParts = (level row : ℕ) (values binds : List Value) (e : Term) → result_err (value_of level row values binds e) ≡ fault_among level row values binds (parts e)
+ValueFaultIsAmongParts = (level row : ℕ) (values binds : List Value) (e : Term ℕ) → result_err (value_of level row values binds e) ≡ fault_among level row values binds (parts e)
 
 -- the fault of a truth is that among its parts
 abbrev pub TruthFaultIsAmongParts : Type 0
-TruthFaultIsAmongParts = (level row : ℕ) (values binds : List Value) (e : Term) → result_err (truth_value level row values binds e) ≡ fault_among level row values binds (condition_parts e)
+TruthFaultIsAmongParts = (level row : ℕ) (values binds : List Value) (e : Term ℕ) → result_err (truth_value level row values binds e) ≡ fault_among level row values binds (condition_parts e)
 
 -- ---- expressions that keep the rules of kinds
 
@@ -90,11 +90,11 @@ FitColumns columns values = (n : ℕ) (target : PartKind) → kind_at columns n 
 
 -- an expression that keeps the rules has a value of its kind, or Null
 abbrev pub ValueHasItsKind : Type 0
-ValueHasItsKind = (level row : ℕ) (columns : List Column) (values binds : List Value) (e : Term) (kind : PartKind) (v : Value) → FitColumns columns values
+ValueHasItsKind = (level row : ℕ) (columns : List Column) (values binds : List Value) (e : Term ℕ) (kind : PartKind) (v : Value) → FitColumns columns values
     → kind_of columns binds e ≡ Some kind → value_of level row values binds e ≡ Ok v → is_taken kind (kind_of_value v) ≡ true
 
 -- a comparison that keeps the rules is unknown only where one side is Null
 abbrev pub UnknownMeansNull : Type 0
-UnknownMeansNull = (level row : ℕ) (columns : List Column) (values binds : List Value) (op : Op) (a b : Term) (v w : Value) → IsComparison op → FitColumns columns values
+UnknownMeansNull = (level row : ℕ) (columns : List Column) (values binds : List Value) (op : Op) (a b : Term ℕ) (v w : Value) → IsComparison op → FitColumns columns values
     → kind_of columns binds (term.bin op a b) ≡ Some Condition → value_of level row values binds a ≡ Ok v → value_of level row values binds b ≡ Ok w
     → truth_value level row values binds (term.bin op a b) ≡ Ok Unknown → (is_null_value v || is_null_value w) ≡ true

@@ -1,4 +1,3 @@
-pub mod Plain
 pub mod Logic
 pub mod Value
 pub mod ValueRef

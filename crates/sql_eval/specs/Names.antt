@@ -1,15 +1,15 @@
 -- Names of tables, columns and sequences in a statement, and the numbers for them.
-use Rattle.std.specs.Prelude.{ℕ, Bool, true, false, ◌||◌, nat_eq, List, [], ◌∷◌, map, Option, None, Some, is_none}
+use Rattle.std.specs.Prelude.{ℕ, Bool, true, false, ◌||◌, nat_eq, List, [], ◌∷◌, Option, None, Some, is_none}
 use Rattle.std.specs.Option.{unwrap_or}
 use Rattle.std.specs.List.{list_any}
 use Rattle.desk_schema.specs.declared.schema.Table.{Table}
 use Rattle.desk_schema.specs.Schema.{place_ignoring_case, table_names}
-use Rattle.sql_reader.specs.declared.tree.Key.{Key}
-use Rattle.sql_reader.specs.Plain.{Expression, Aggregate, Given, Assignment, Selection, Parsed}
-use Rattle.sql_reader.specs.Plain as source
-use Rattle.sql_eval.specs.declared.ready.ReadyKey.{ReadyKey}
-use Rattle.sql_eval.specs.Plain.{Term, Total, Entry, Change, Asked, Plan}
-use Rattle.sql_eval.specs.Plain as plain
+use Rattle.sql_tree.specs.declared.tree.Key.{Key}
+use Rattle.sql_tree.specs.Plain.{Name}
+use Rattle.sql_tree.specs.Plain.{Term, Total, Entry, Change, Asked, Plan, Name}
+use Rattle.sql_tree.specs.Plain as source
+use Rattle.sql_tree.specs.Naming.{Naming, map_plan}
+use Rattle.sql_tree.specs.Plain.{Change, Plan}
 
 -- no name of the list is this one
 abbrev pub is_unknown : List (List ℕ) → List ℕ → Bool
@@ -22,7 +22,7 @@ number_of names name = unwrap_or (place_ignoring_case names name) 0
 -- ---- tables
 
 -- the table of a statement
-abbrev pub table_of : Parsed → Option (List ℕ)
+abbrev pub table_of : Plan Name → Option (List ℕ)
 table_of (source.select table asked condition keys held) = Some table
 table_of (source.next sequence) = None
 table_of (source.insert table named inputs) = Some table
@@ -45,7 +45,7 @@ table_number tables (Some name) = number_of (table_names tables) name
 -- ---- columns
 
 -- the expression has a column that the table lacks
-abbrev pub has_unknown : List (List ℕ) → Expression → Bool
+abbrev pub has_unknown : List (List ℕ) → Term Name → Bool
 has_unknown names source.null = false
 has_unknown names (source.int n) = false
 has_unknown names (source.text t) = false
@@ -59,7 +59,7 @@ has_unknown names (source.is_null e) = has_unknown names e
 has_unknown names (source.not_null e) = has_unknown names e
 
 -- a column or ROWID stands in the expression
-abbrev pub names_row : Expression → Bool
+abbrev pub names_row : Term Name → Bool
 names_row source.null = false
 names_row (source.int n) = false
 names_row (source.text t) = false
@@ -73,25 +73,25 @@ names_row (source.is_null e) = names_row e
 names_row (source.not_null e) = names_row e
 
 -- a column of the condition is not in the table, if there is a condition
-abbrev pub where_has_unknown : List (List ℕ) → Option Expression → Bool
+abbrev pub where_has_unknown : List (List ℕ) → Option (Term Name) → Bool
 where_has_unknown names None = false
 where_has_unknown names (Some e) = has_unknown names e
 
 -- a column of an aggregate is not in the table
-abbrev pub total_has_unknown : List (List ℕ) → Aggregate → Bool
+abbrev pub total_has_unknown : List (List ℕ) → Total Name → Bool
 total_has_unknown names source.count = false
 total_has_unknown names (source.total e) = has_unknown names e
 total_has_unknown names (source.least e) = has_unknown names e
 total_has_unknown names (source.greatest e) = has_unknown names e
 
 -- a column of what a SELECT asks for is not in the table
-abbrev pub asked_has_unknown : List (List ℕ) → Selection → Bool
+abbrev pub asked_has_unknown : List (List ℕ) → Asked Name → Bool
 asked_has_unknown names source.columns = false
 asked_has_unknown names (source.values es) = list_any (has_unknown names) es
-asked_has_unknown names (source.aggregates as_) = list_any (total_has_unknown names) as_
+asked_has_unknown names (source.totals as_) = list_any (total_has_unknown names) as_
 
 -- an input may name nothing of a row
-abbrev pub input_names_row : Given → Bool
+abbrev pub input_names_row : Entry Name → Bool
 input_names_row (source.value e) = names_row e
 input_names_row (source.drawn name) = false
 
@@ -101,12 +101,12 @@ list_has_unknown names None = false
 list_has_unknown names (Some given) = list_any (is_unknown names) given
 
 -- a column of a setting, set or read, is not in the table
-abbrev pub setting_has_unknown : List (List ℕ) → Assignment → Bool
-setting_has_unknown names setting = is_unknown names setting.name || has_unknown names setting.to
+abbrev pub setting_has_unknown : List (List ℕ) → Change Name → Bool
+setting_has_unknown names setting = is_unknown names setting.column || has_unknown names setting.to
 
 -- a column that the table lacks, or any column in an input
-abbrev pub misnames_column : List (List ℕ) → Parsed → Bool
-misnames_column names (source.select table asked condition keys held) = asked_has_unknown names asked || where_has_unknown names condition || list_any (λ (key : Key). is_unknown names key.name) keys
+abbrev pub misnames_column : List (List ℕ) → Plan Name → Bool
+misnames_column names (source.select table asked condition keys held) = asked_has_unknown names asked || where_has_unknown names condition || list_any (λ (key : Key Name). is_unknown names key.column) keys
 misnames_column names (source.next sequence) = false
 misnames_column names (source.insert table named inputs) = list_has_unknown names named || list_any input_names_row inputs
 misnames_column names (source.update table settings condition) = list_any (setting_has_unknown names) settings || where_has_unknown names condition
@@ -118,12 +118,12 @@ misnames_column names source.set_read_only = false
 -- ---- sequences
 
 -- an input draws from a sequence that is not in the schema
-abbrev pub input_lacks_sequence : List (List ℕ) → Given → Bool
+abbrev pub input_lacks_sequence : List (List ℕ) → Entry Name → Bool
 input_lacks_sequence sequences (source.value e) = false
 input_lacks_sequence sequences (source.drawn name) = is_unknown sequences name
 
 -- a sequence that the schema lacks
-abbrev pub lacks_sequence : List (List ℕ) → Parsed → Bool
+abbrev pub lacks_sequence : List (List ℕ) → Plan Name → Bool
 lacks_sequence sequences (source.select table asked condition keys held) = false
 lacks_sequence sequences (source.next name) = is_unknown sequences name
 lacks_sequence sequences (source.insert table named inputs) = list_any (input_lacks_sequence sequences) inputs
@@ -133,68 +133,15 @@ lacks_sequence sequences source.commit = false
 lacks_sequence sequences source.rollback = false
 lacks_sequence sequences source.set_read_only = false
 
--- ---- numbers for names, part by part
+-- ---- numbers for names
 
--- an expression
-abbrev pub term_in : List (List ℕ) → Expression → Term
-term_in names source.null = plain.null
-term_in names (source.int n) = plain.int n
-term_in names (source.text t) = plain.text t
-term_in names (source.bind n) = plain.bind n
-term_in names (source.column name) = plain.column (number_of names name)
-term_in names source.rowid = plain.rowid
-term_in names (source.neg e) = plain.neg (term_in names e)
-term_in names (source.not e) = plain.not (term_in names e)
-term_in names (source.bin op a b) = plain.bin op (term_in names a) (term_in names b)
-term_in names (source.is_null e) = plain.is_null (term_in names e)
-term_in names (source.not_null e) = plain.not_null (term_in names e)
+-- the numbers that names stand for, where this is the number of the statement's table
+abbrev pub numbers : ℕ → List (List ℕ) → List (List ℕ) → Naming (List ℕ) ℕ
+numbers number names sequences = record { table = λ table. number; column = number_of names; sequence = number_of sequences }
 
--- a condition, if there is one
-abbrev pub where_in : List (List ℕ) → Option Expression → Option Term
-where_in names None = None
-where_in names (Some e) = Some (term_in names e)
-
--- an aggregate
-abbrev pub total_in : List (List ℕ) → Aggregate → Total
-total_in names source.count = plain.count
-total_in names (source.total e) = plain.total (term_in names e)
-total_in names (source.least e) = plain.least (term_in names e)
-total_in names (source.greatest e) = plain.greatest (term_in names e)
-
--- what a SELECT asks for
-abbrev pub asked_in : List (List ℕ) → Selection → Asked
-asked_in names source.columns = plain.columns
-asked_in names (source.values es) = plain.values (map (term_in names) es)
-asked_in names (source.aggregates as_) = plain.totals (map (total_in names) as_)
-
--- a column to order by
-abbrev pub key_in : List (List ℕ) → Key → ReadyKey
-key_in names key = record { column = number_of names key.name; desc = key.desc }
-
--- an input of an INSERT
-abbrev pub entry_in : List (List ℕ) → List (List ℕ) → Given → Entry
-entry_in names sequences (source.value e) = plain.value (term_in names e)
-entry_in names sequences (source.drawn name) = plain.drawn (number_of sequences name)
-
--- a new value of a column
-abbrev pub change_in : List (List ℕ) → Assignment → Change
-change_in names setting = record { column = number_of names setting.name; to = term_in names setting.to }
-
--- an INSERT's list of columns, if there is one
-abbrev pub places_in : List (List ℕ) → Option (List (List ℕ)) → Option (List ℕ)
-places_in names None = None
-places_in names (Some given) = Some (map (number_of names) given)
-
--- the statement, where this is the number of its table
-abbrev pub plan_in : ℕ → List (List ℕ) → List (List ℕ) → Parsed → Plan
-plan_in number names sequences (source.select table asked condition keys held) = plain.select number (asked_in names asked) (where_in names condition) (map (key_in names) keys) held
-plan_in number names sequences (source.next name) = plain.next (number_of sequences name)
-plan_in number names sequences (source.insert table named inputs) = plain.insert number (places_in names named) (map (entry_in names sequences) inputs)
-plan_in number names sequences (source.update table settings condition) = plain.update number (map (change_in names) settings) (where_in names condition)
-plan_in number names sequences (source.delete table condition) = plain.delete number (where_in names condition)
-plan_in number names sequences source.commit = plain.commit
-plan_in number names sequences source.rollback = plain.rollback
-plan_in number names sequences source.set_read_only = plain.set_read_only
+-- the statement with numbers for names
+abbrev pub plan_in : ℕ → List (List ℕ) → List (List ℕ) → Plan Name → Plan ℕ
+plan_in number names sequences statement = map_plan (numbers number names sequences) statement
 
 -- ---- a column that is named twice
 
@@ -209,12 +156,12 @@ list_has_twice None = false
 list_has_twice (Some places) = has_twice (λ place. place) places
 
 -- of the columns that get a value none may come up again; columns to order by may
-abbrev pub repeats_column : Plan → Bool
-repeats_column (plain.select table asked condition keys held) = false
-repeats_column (plain.next sequence) = false
-repeats_column (plain.insert table named entries) = list_has_twice named
-repeats_column (plain.update table changes condition) = has_twice (λ (c : Change). c.column) changes
-repeats_column (plain.delete table condition) = false
-repeats_column plain.commit = false
-repeats_column plain.rollback = false
-repeats_column plain.set_read_only = false
+abbrev pub repeats_column : Plan ℕ → Bool
+repeats_column (source.select table asked condition keys held) = false
+repeats_column (source.next sequence) = false
+repeats_column (source.insert table named entries) = list_has_twice named
+repeats_column (source.update table changes condition) = has_twice (λ (c : Change ℕ). c.column) changes
+repeats_column (source.delete table condition) = false
+repeats_column source.commit = false
+repeats_column source.rollback = false
+repeats_column source.set_read_only = false

@@ -1,11 +1,11 @@
--- What the aggregates of a SELECT give for the values that their part has in the rows that match. It depends on which
+-- What the totals of a SELECT give for the values that their part has in the rows that match. It depends on which
 -- values there are, and not on their order. No call computes it yet.
-use Rattle.std.specs.Prelude.{◌≡◌, ℕ, ℤ, pos, ◌+ℤ◌, ◌⊎◌, List, [], ◌∷◌, length, Option, None, Some, Result, Ok, Err, Contains, IfSome, IsTrue}
+use Rattle.std.specs.Prelude.{◌≡◌, ℕ, ℤ, pos, ◌+ℤ◌, List, [], ◌∷◌, length, Option, None, Some, Result, Ok, Contains, IfSome, IsTrue}
 use Rattle.std.specs.Ordering.{is_le}
 use Rattle.std.specs.List.{filter_map}
 use Rattle.std.specs.declared.cmp.Ordering.{Ordering}
 use Rattle.desk_values.specs.declared.value.Value.{Value}
-use Rattle.desk_values.specs.declared.value.Value.TheVariants.{Null, Int, Text, Row, Draw}
+use Rattle.desk_values.specs.declared.value.Value.TheVariants.{Null, Int}
 use Rattle.desk_values.specs.declared.fault.Fault.{Fault}
 use Rattle.sql_eval.specs.Value.{number, order}
 

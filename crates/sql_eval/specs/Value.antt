@@ -8,13 +8,13 @@ use Rattle.desk_values.specs.declared.value.Value.{Value}
 use Rattle.desk_values.specs.declared.value.Value.TheVariants.{Null, Int, Text, Row, Draw}
 use Rattle.desk_values.specs.declared.fault.Fault.{Fault}
 use Rattle.desk_values.specs.declared.fault.Fault.TheVariants.{ZeroDivisor, Overflow}
-use Rattle.sql_reader.specs.declared.tree.Op.{Op}
-use Rattle.sql_reader.specs.declared.tree.Op.TheVariants.{Add, Sub, Mul, Div, Eq, Ne, Lt, Le, Gt, Ge, And, Or}
+use Rattle.sql_tree.specs.declared.tree.Op.{Op}
+use Rattle.sql_tree.specs.declared.tree.Op.TheVariants.{Add, Sub, Mul, Div, Eq, Ne, Lt, Le, Gt, Ge, And, Or}
 use Rattle.sql_eval.specs.declared.logic.Truth.{Truth}
 use Rattle.sql_eval.specs.declared.logic.Truth.TheVariants.{Unknown}
 use Rattle.sql_eval.specs.Logic.{negation, conjunction, disjunction, truth_of_test}
-use Rattle.sql_eval.specs.Plain.{Term}
-use Rattle.sql_eval.specs.Plain as term
+use Rattle.sql_tree.specs.Plain.{Term}
+use Rattle.sql_tree.specs.Plain as term
 
 -- ---- faults: every part is evaluated, and of two faults the zero divisor is told
 
@@ -113,7 +113,7 @@ abbrev pub bind_at : List Value → ℕ → Option Value
 bind_at binds number = if nat_eq number 0 then None else slice_get binds (number - 1)
 
 -- the value of an expression; a condition has none
-abbrev pub value_of : ℕ → ℕ → List Value → List Value → Term → Result Value Fault
+abbrev pub value_of : ℕ → ℕ → List Value → List Value → Term ℕ → Result Value Fault
 value_of level row values binds term.null = Ok Null
 value_of level row values binds (term.int n) = Ok (Int n)
 value_of level row values binds (term.text t) = Ok (Text t)
@@ -138,7 +138,7 @@ connected And s t = conjunction s t
 connected other s t = disjunction s t
 
 -- the truth of a condition
-abbrev pub truth_value : ℕ → ℕ → List Value → List Value → Term → Result Truth Fault
+abbrev pub truth_value : ℕ → ℕ → List Value → List Value → Term ℕ → Result Truth Fault
 truth_value level row values binds (term.not e) = then_apply (λ (t : Truth). Ok (negation t)) (truth_value level row values binds e)
 truth_value level row values binds (term.bin op a b) = if is_connective op
     then then_apply (λ (p : Truth × Truth). Ok (connected op p.0 p.1)) (both (truth_value level row values binds a) (truth_value level row values binds b))

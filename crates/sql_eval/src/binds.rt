@@ -3,7 +3,7 @@
 ghost use Rattle.std.specs.Prelude.{◌≡◌};
 ghost use Rattle.std.specs.List.{list_any};
 ghost use Rattle.sql_eval.specs.Check.{asked_misses_bind, entry_misses_bind, misses_bind, plan_misses_bind, total_misses_bind, where_misses_bind};
-ghost use Rattle.sql_eval.specs.Plain.{asked_of, entry_of, optional_term, plan_of, term_of, total_of};
+ghost use Rattle.sql_tree.specs.Plain.{asked_of, entry_of, condition_of, plan_of, term_of, total_of};
 
 use crate::ready::{Checked, Ready, ReadyAgg, ReadyInput, ReadyItems, ReadySetting};
 
@@ -23,7 +23,7 @@ fn expr_misses(count: usize, expr: &Checked) -> bool
 }
 
 fn condition_misses(count: usize, condition: &Option<Checked>) -> bool
-    ensures { result ≡ where_misses_bind count (optional_term condition.now) }
+    ensures { result ≡ where_misses_bind count (condition_of condition.now) }
 {
     match condition {
         Some(expr) => expr_misses(count, expr),

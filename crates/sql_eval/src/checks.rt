@@ -1,7 +1,7 @@
 ghost use Rattle.std.specs.Prelude.{◌≡◌, IfOk, IsErrOf};
-ghost use Rattle.sql_reader.specs.Plain.{parsed_of};
-ghost use Rattle.sql_eval.specs.Check.{check_of};
-ghost use Rattle.sql_eval.specs.Plain.{plan_of};
+ghost use Rattle.sql_eval.specs.Check.{check_of, fault_in};
+ghost use Rattle.sql_eval.specs.Scope.{scope_column_names, scope_columns, scope_sequences};
+ghost use Rattle.sql_tree.specs.Plain.{plan_of};
 
 use crate::binds::misses_some_bind;
 use crate::error::CheckErr;
@@ -9,7 +9,6 @@ use crate::names::{
     names_column_twice, names_unknown_column, names_unknown_sequence, names_unknown_table,
     statement_table,
 };
-use crate::numbers::numbered_statement;
 use crate::ready::Ready;
 use crate::rules::keeps_kinds;
 use crate::scope::Scope;
@@ -38,26 +37,37 @@ pub fn check(
     st: &Statement,
     binds: &Binds,
 ) -> Result<Ready, CheckErr>
-    ensures ok { IfOk result (λ ready. check_of schema.now binds.now (parsed_of st.now) ≡ Ok (plan_of ready)) }
-    ensures refused { (fault : Fault) → IsErrOf result (CheckErr.Refused fault) → check_of schema.now binds.now (parsed_of st.now) ≡ Err fault }
+    ensures ok { IfOk result (λ ready. check_of schema.now binds.now (plan_of st.now) ≡ Ok (plan_of ready)) }
+    ensures refused { (fault : Fault) → IsErrOf result (CheckErr.Refused fault) → check_of schema.now binds.now (plan_of st.now) ≡ Err fault }
 {
     if names_unknown_table(schema, st) {
         return Err(CheckErr::Refused(Fault::UnknownTable));
     }
     let table = statement_table(schema, st);
     let scope = Scope { schema, table };
-    let ready = numbered_statement(alloc, scope, st)?;
-    if names_unknown_column(scope, st) || names_column_twice(&ready) {
-        return Err(CheckErr::Refused(Fault::UnknownColumn));
+    let ready = st.renamed(alloc, &scope)?;
+    match fault_of(scope, st, binds, &ready) {
+        Some(fault) => Err(CheckErr::Refused(fault)),
+        None => Ok(ready),
+    }
+}
+
+/// The first fault that is not of the table.
+#[tactic(auto, unfolding(crate::specs::Check::fault_in))]
+fn fault_of(scope: Scope<'_>, st: &Statement, binds: &Binds, ready: &Ready) -> Option<Fault>
+    ensures { result ≡ fault_in (scope_columns scope.entry) (scope_column_names scope.entry) (scope_sequences scope.entry) binds.now (plan_of st.now) (plan_of ready.now) }
+{
+    if names_unknown_column(scope, st) || names_column_twice(ready) {
+        return Some(Fault::UnknownColumn);
     }
     if names_unknown_sequence(scope, st) {
-        return Err(CheckErr::Refused(Fault::UnknownSequence));
+        return Some(Fault::UnknownSequence);
     }
-    if misses_some_bind(binds.len(), &ready) {
-        return Err(CheckErr::Refused(Fault::BindMissing));
+    if misses_some_bind(binds.len(), ready) {
+        return Some(Fault::BindMissing);
     }
-    if !keeps_kinds(scope, binds, &ready) {
-        return Err(CheckErr::Refused(Fault::Kinds));
+    if !keeps_kinds(scope, binds, ready) {
+        return Some(Fault::Kinds);
     }
-    Ok(ready)
+    None
 }

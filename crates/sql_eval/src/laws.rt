@@ -1,7 +1,7 @@
 //! Laws of [`truth_of`](crate::truth_of) and [`eval`](crate::eval) that callers may rest on. The functions do nothing:
 //! their contracts are the laws.
 
-ghost use Rattle.sql_reader.specs.declared.tree.Op.TheVariants.{And, Or};
+ghost use Rattle.sql_tree.specs.declared.tree.Op.TheVariants.{And, Or};
 ghost use Rattle.sql_eval.specs.Laws.{AreStandardTables, GoesByTable, NotGoesByTable, NullIsNull, NullIsUnknown, TruthFaultIsAmongParts, UnknownMeansNull, ValueFaultIsAmongParts, ValueHasItsKind};
 ghost use Rattle.sql_eval.specs.Logic.{conjunction, disjunction};
 

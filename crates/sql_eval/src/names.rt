@@ -3,9 +3,8 @@
 ghost use Rattle.std.specs.Prelude.{◌≡◌, map, nat_eq};
 ghost use Rattle.std.specs.Option.{option_copied};
 ghost use Rattle.std.specs.List.{list_any};
-ghost use Rattle.sql_reader.specs.Plain.{aggregate_of, assignment_of, given_of, optional_tree, parsed_of, selection_of, tree_of};
+ghost use Rattle.sql_tree.specs.Plain.{total_of, change_of, entry_of, condition_of, plan_of, asked_of, term_of};
 ghost use Rattle.sql_eval.specs.Names.{asked_has_unknown, has_twice, has_unknown, input_lacks_sequence, input_names_row, is_unknown, is_unknown_table, lacks_sequence, list_has_unknown, misnames_column, names_row, number_of, repeats_column, setting_has_unknown, table_number, table_of, total_has_unknown, where_has_unknown};
-ghost use Rattle.sql_eval.specs.Plain.{plan_of};
 ghost use Rattle.sql_eval.specs.Scope.{scope_column_names, scope_sequences};
 
 use crate::ready::{Ready, ReadySetting};
@@ -16,7 +15,7 @@ use sql_reader::{Agg, Expr, Input, Items, Key, Names, Setting, Statement};
 
 /// The name of the statement's table.
 fn table_name(statement: &Statement) -> Option<&Txt>
-    ensures { option_copied result ≡ table_of (parsed_of statement.now) }
+    ensures { option_copied result ≡ table_of (plan_of statement.now) }
 {
     match statement {
         Statement::Select(table, _, _, _, _) => Some(table),
@@ -32,7 +31,7 @@ fn table_name(statement: &Statement) -> Option<&Txt>
 
 /// Whether the statement's table is not in the schema.
 pub(crate) fn names_unknown_table(schema: &Schema, statement: &Statement) -> bool
-    ensures { result ≡ is_unknown_table schema.now.tables (table_of (parsed_of statement.now)) }
+    ensures { result ≡ is_unknown_table schema.now.tables (table_of (plan_of statement.now)) }
 {
     match table_name(statement) {
         Some(name) => schema.table_named(name).is_none(),
@@ -42,7 +41,7 @@ pub(crate) fn names_unknown_table(schema: &Schema, statement: &Statement) -> boo
 
 /// The number of the statement's table, 0 where it has none.
 pub(crate) fn statement_table(schema: &Schema, statement: &Statement) -> u32
-    ensures { result ≡ table_number schema.now.tables (table_of (parsed_of statement.now)) }
+    ensures { result ≡ table_number schema.now.tables (table_of (plan_of statement.now)) }
 {
     match table_name(statement) {
         Some(name) => schema.table_named(name).unwrap_or(0),
@@ -52,7 +51,7 @@ pub(crate) fn statement_table(schema: &Schema, statement: &Statement) -> u32
 
 /// Whether a column of the expression is not in the table.
 fn expr_names_unknown(scope: Scope<'_>, expr: &Expr) -> bool
-    ensures { result ≡ has_unknown (scope_column_names scope.entry) (tree_of expr.now) }
+    ensures { result ≡ has_unknown (scope_column_names scope.entry) (term_of expr.now) }
 {
     match expr {
         Expr::Null | Expr::Int(_) | Expr::Text(_) | Expr::Bind(_) | Expr::RowId => false,
@@ -68,7 +67,7 @@ fn expr_names_unknown(scope: Scope<'_>, expr: &Expr) -> bool
 }
 
 fn condition_names_unknown(scope: Scope<'_>, condition: &Option<Expr>) -> bool
-    ensures { result ≡ where_has_unknown (scope_column_names scope.entry) (optional_tree condition.now) }
+    ensures { result ≡ where_has_unknown (scope_column_names scope.entry) (condition_of condition.now) }
 {
     match condition {
         Some(expr) => expr_names_unknown(scope, expr),
@@ -77,7 +76,7 @@ fn condition_names_unknown(scope: Scope<'_>, condition: &Option<Expr>) -> bool
 }
 
 fn agg_names_unknown(scope: Scope<'_>, agg: &Agg) -> bool
-    ensures { result ≡ total_has_unknown (scope_column_names scope.entry) (aggregate_of agg.now) }
+    ensures { result ≡ total_has_unknown (scope_column_names scope.entry) (total_of agg.now) }
 {
     match agg {
         Agg::Count => false,
@@ -88,20 +87,20 @@ fn agg_names_unknown(scope: Scope<'_>, agg: &Agg) -> bool
 }
 
 fn some_expr_names_unknown(scope: Scope<'_>, exprs: &[Expr]) -> bool
-    ensures { result ≡ list_any (λ expr. has_unknown (scope_column_names scope.entry) (tree_of expr)) exprs.now }
+    ensures { result ≡ list_any (λ expr. has_unknown (scope_column_names scope.entry) (term_of expr)) exprs.now }
 {
     exprs.iter().any(|expr| expr_names_unknown(scope, expr))
 }
 
 fn some_agg_names_unknown(scope: Scope<'_>, aggs: &[Agg]) -> bool
-    ensures { result ≡ list_any (λ agg. total_has_unknown (scope_column_names scope.entry) (aggregate_of agg)) aggs.now }
+    ensures { result ≡ list_any (λ agg. total_has_unknown (scope_column_names scope.entry) (total_of agg)) aggs.now }
 {
     aggs.iter().any(|agg| agg_names_unknown(scope, agg))
 }
 
 #[tactic(auto, using(crate::proofs::Mapped::any_mapped))]
 fn items_name_unknown(scope: Scope<'_>, items: &Items) -> bool
-    ensures { result ≡ asked_has_unknown (scope_column_names scope.entry) (selection_of items.now) }
+    ensures { result ≡ asked_has_unknown (scope_column_names scope.entry) (asked_of items.now) }
 {
     match items {
         Items::All => false,
@@ -111,10 +110,10 @@ fn items_name_unknown(scope: Scope<'_>, items: &Items) -> bool
 }
 
 fn some_key_is_unknown(scope: Scope<'_>, keys: &[Key]) -> bool
-    ensures { result ≡ list_any (λ key. is_unknown (scope_column_names scope.entry) key.name) keys.now }
+    ensures { result ≡ list_any (λ key. is_unknown (scope_column_names scope.entry) key.column) keys.now }
 {
     keys.iter()
-        .any(|key| scope.column_named(&key.name).is_none())
+        .any(|key| scope.column_named(&key.column).is_none())
 }
 
 fn some_name_is_unknown(scope: Scope<'_>, names: &[Txt]) -> bool
@@ -133,13 +132,13 @@ fn list_names_unknown(scope: Scope<'_>, named: &Option<Names>) -> bool
 }
 
 fn setting_names_unknown(scope: Scope<'_>, setting: &Setting) -> bool
-    ensures { result ≡ setting_has_unknown (scope_column_names scope.entry) (assignment_of setting.now) }
+    ensures { result ≡ setting_has_unknown (scope_column_names scope.entry) (change_of setting.now) }
 {
-    scope.column_named(&setting.name).is_none() || expr_names_unknown(scope, &setting.to)
+    scope.column_named(&setting.column).is_none() || expr_names_unknown(scope, &setting.to)
 }
 
 fn some_setting_names_unknown(scope: Scope<'_>, settings: &[Setting]) -> bool
-    ensures { result ≡ list_any (λ setting. setting_has_unknown (scope_column_names scope.entry) (assignment_of setting)) settings.now }
+    ensures { result ≡ list_any (λ setting. setting_has_unknown (scope_column_names scope.entry) (change_of setting)) settings.now }
 {
     settings
         .iter()
@@ -148,7 +147,7 @@ fn some_setting_names_unknown(scope: Scope<'_>, settings: &[Setting]) -> bool
 
 /// Whether a column or ROWID stands in the expression.
 fn expr_names_row(expr: &Expr) -> bool
-    ensures { result ≡ names_row (tree_of expr.now) }
+    ensures { result ≡ names_row (term_of expr.now) }
 {
     match expr {
         Expr::Null | Expr::Int(_) | Expr::Text(_) | Expr::Bind(_) => false,
@@ -162,7 +161,7 @@ fn expr_names_row(expr: &Expr) -> bool
 }
 
 fn input_names_some_row(input: &Input) -> bool
-    ensures { result ≡ input_names_row (given_of input.now) }
+    ensures { result ≡ input_names_row (entry_of input.now) }
 {
     match input {
         Input::Expr(expr) => expr_names_row(expr),
@@ -171,7 +170,7 @@ fn input_names_some_row(input: &Input) -> bool
 }
 
 fn some_input_names_row(inputs: &[Input]) -> bool
-    ensures { result ≡ list_any (λ input. input_names_row (given_of input)) inputs.now }
+    ensures { result ≡ list_any (λ input. input_names_row (entry_of input)) inputs.now }
 {
     inputs.iter().any(|input| input_names_some_row(input))
 }
@@ -179,7 +178,7 @@ fn some_input_names_row(inputs: &[Input]) -> bool
 /// Whether a column is not in the table, or stands in an input.
 #[tactic(auto, using(crate::proofs::Mapped::any_mapped))]
 pub(crate) fn names_unknown_column(scope: Scope<'_>, statement: &Statement) -> bool
-    ensures { result ≡ misnames_column (scope_column_names scope.entry) (parsed_of statement.now) }
+    ensures { result ≡ misnames_column (scope_column_names scope.entry) (plan_of statement.now) }
 {
     match statement {
         Statement::Select(_, items, condition, keys, _) => {
@@ -203,7 +202,7 @@ pub(crate) fn names_unknown_column(scope: Scope<'_>, statement: &Statement) -> b
 }
 
 fn input_names_unknown(scope: Scope<'_>, input: &Input) -> bool
-    ensures { result ≡ input_lacks_sequence (scope_sequences scope.entry) (given_of input.now) }
+    ensures { result ≡ input_lacks_sequence (scope_sequences scope.entry) (entry_of input.now) }
 {
     match input {
         Input::Expr(_) => false,
@@ -212,7 +211,7 @@ fn input_names_unknown(scope: Scope<'_>, input: &Input) -> bool
 }
 
 fn some_input_names_unknown(scope: Scope<'_>, inputs: &[Input]) -> bool
-    ensures { result ≡ list_any (λ input. input_lacks_sequence (scope_sequences scope.entry) (given_of input)) inputs.now }
+    ensures { result ≡ list_any (λ input. input_lacks_sequence (scope_sequences scope.entry) (entry_of input)) inputs.now }
 {
     inputs.iter().any(|input| input_names_unknown(scope, input))
 }
@@ -220,7 +219,7 @@ fn some_input_names_unknown(scope: Scope<'_>, inputs: &[Input]) -> bool
 /// Whether a sequence is not in the schema.
 #[tactic(auto, using(crate::proofs::Mapped::any_mapped))]
 pub(crate) fn names_unknown_sequence(scope: Scope<'_>, statement: &Statement) -> bool
-    ensures { result ≡ lacks_sequence (scope_sequences scope.entry) (parsed_of statement.now) }
+    ensures { result ≡ lacks_sequence (scope_sequences scope.entry) (plan_of statement.now) }
 {
     match statement {
         Statement::Next(sequence) => scope.sequence_named(sequence).is_none(),

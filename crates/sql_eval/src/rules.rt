@@ -6,7 +6,7 @@ ghost use Rattle.std.specs.Option.{option_copied};
 ghost use Rattle.sql_eval.specs.declared.kind.PartKind.{PartKind as Kind};
 ghost use Rattle.sql_eval.specs.declared.scope.Scope.{Scope as AnyScope};
 ghost use Rattle.sql_eval.specs.Kinds.{are_inputs, entry_kind, fits_column, has_order, is_asked, is_change, is_item, is_key, is_number, is_total, is_where, kind_at, kind_of, kind_of_column, kinds_agree, passes, target_kinds};
-ghost use Rattle.sql_eval.specs.Plain.{asked_of, change_of, entry_of, optional_term, plan_of, term_of, total_of};
+ghost use Rattle.sql_tree.specs.Plain.{asked_of, change_of, entry_of, condition_of, plan_of, term_of, total_of};
 ghost use Rattle.sql_eval.specs.Scope.{scope_columns};
 
 use crate::kind::{PartKind, declared_kind, expr_kind};
@@ -18,7 +18,7 @@ use desk_schema::Column;
 use desk_values::Binds;
 
 fn is_good_condition(scope: Scope<'_>, binds: &Binds, condition: &Option<Checked>) -> bool
-    ensures { result ≡ is_where (scope_columns scope.entry) binds.now (optional_term condition.now) }
+    ensures { result ≡ is_where (scope_columns scope.entry) binds.now (condition_of condition.now) }
 {
     match condition {
         Some(expr) => expr_kind(scope, binds, expr).is_some_and(|kind| kind.is_condition()),

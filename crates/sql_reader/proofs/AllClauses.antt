@@ -2,15 +2,16 @@
 use Rattle.std.proofs.Common.{◌≡◌, ℕ, zero, suc, ◌<◌, ◌≤◌, Bool, true, false, List, [], ◌∷◌, ◌++◌, length, Option, Some, None, refl, ap, subst, ◌∙◌, arith, append_assoc, lit<}
 use Rattle.std.specs.List.{list_all}
 use Rattle.std.proofs.lemmas.Bool.{and_from, and_parts}
-use Rattle.sql_reader.specs.declared.tree.Op.{Op}
-use Rattle.sql_reader.specs.declared.tree.Op.TheVariants as op
-use Rattle.sql_reader.specs.declared.tree.Key.{Key}
+use Rattle.sql_tree.specs.declared.tree.Op.{Op}
+use Rattle.sql_tree.specs.declared.tree.Op.TheVariants as op
+use Rattle.sql_tree.specs.declared.tree.Key.{Key}
+use Rattle.sql_tree.specs.Plain.{Name}
 use Rattle.sql_reader.specs.declared.part.Part.{Part}
 use Rattle.desk_values.specs.declared.keyword.Keyword.TheVariants as word
 use Rattle.sql_reader.specs.declared.token.Sign.TheVariants as sign
 use Rattle.sql_reader.specs.declared.token.Token.{Token}
 use Rattle.sql_reader.specs.declared.token.Token.TheVariants as token
-use Rattle.sql_reader.specs.Plain.{Expression, Aggregate, Given, Assignment}
+use Rattle.sql_tree.specs.Plain.{Term, Total, Entry, Change, Name}
 use Rattle.sql_reader.specs.Grammar as g
 use Rattle.sql_reader.specs.Grammar.{operator_token, Reads, IsExpression, Joined, IsList, IsName, IsKey, IsAggregate, IsInput, IsSetting, IsWhere, IsOrder, IsForUpdate, IsSelection, IsColumns, IsBody, IsStatementOf}
 use Rattle.sql_reader.specs.Descent.{after_word, after_sign, expression_at}
@@ -105,11 +106,11 @@ name_one (g.name {n = n}) rest = name_at_name n rest
 pub name_again : CompleteOf name_at IsName
 name_again ts n rest r h = name_one r rest
 
-ascending_key : {n : List ℕ} (rest : List Token) → key_at (token.Name n ∷ token.Word word.Asc ∷ rest) ≡ Some (record { name = n; desc = false }, rest)
+ascending_key : {n : List ℕ} (rest : List Token) → key_at (token.Name n ∷ token.Word word.Asc ∷ rest) ≡ Some (record { column = n; desc = false }, rest)
 unfolding key_at name_at after_word
 ascending_key rest = refl
 
-key_one : {ts : List Token} {k : Key} → IsKey ts k → (rest : List Token) → Stops rest → key_at (ts ++ rest) ≡ Some (k, rest)
+key_one : {ts : List Token} {k : Key Name} → IsKey ts k → (rest : List Token) → Stops rest → key_at (ts ++ rest) ≡ Some (k, rest)
 unfolding key_at name_at
 key_one g.plain rest h = rw (h.no_desc, h.no_asc) refl
 key_one g.ascending rest h = ascending_key rest
@@ -118,13 +119,13 @@ key_one g.descending rest h = rw (after_word_self word.Desc rest) refl
 key_again : CompleteOf key_at IsKey
 key_again ts k rest r h = key_one r rest h
 
-enclosed_again : (ts : List Token) (e : Expression) (rest : List Token) → IsExpression ts e → enclosed_at (token.Sign sign.Open ∷ ((ts ++ token.Sign sign.Close ∷ []) ++ rest)) ≡ Some (e, rest)
+enclosed_again : (ts : List Token) (e : Term Name) (rest : List Token) → IsExpression ts e → enclosed_at (token.Sign sign.Open ∷ ((ts ++ token.Sign sign.Close ∷ []) ++ rest)) ≡ Some (e, rest)
 unfolding enclosed_at
 enclosed_again ts e rest r =
     let inside : (ts ++ token.Sign sign.Close ∷ []) ++ rest ≡ ts ++ token.Sign sign.Close ∷ rest = append_assoc ts (token.Sign sign.Close ∷ []) rest in
     rw (after_sign_self sign.Open ((ts ++ token.Sign sign.Close ∷ []) ++ rest), inside, expression_complete ts e (token.Sign sign.Close ∷ rest) r (lit< tt), after_sign_self sign.Close rest) refl
 
-aggregate_one : {ts : List Token} {a : Aggregate} → IsAggregate ts a → (rest : List Token) → aggregate_at (ts ++ rest) ≡ Some (a, rest)
+aggregate_one : {ts : List Token} {a : Total Name} → IsAggregate ts a → (rest : List Token) → aggregate_at (ts ++ rest) ≡ Some (a, rest)
 unfolding aggregate_at counted_at after_sign
 aggregate_one g.count_ rest = refl
 aggregate_one (g.sum_ {ts = ts} {e = e} r) rest = rw (enclosed_again ts e rest r) refl
@@ -161,7 +162,7 @@ operator_no_dot op.Div = refl
 around : (ts us : List Token) (o : Op) → list_all not_dot ts ≡ true → list_all not_dot us ≡ true → list_all not_dot (ts ++ operator_token o ∷ us) ≡ true
 around ts us o a b = both ts (operator_token o ∷ us) a (and_from _ _ (operator_no_dot o) b)
 
-no_dots : {part : Part} {d : ℕ} {ts : List Token} {e : Expression} → Reads part d ts e → list_all not_dot ts ≡ true
+no_dots : {part : Part} {d : ℕ} {ts : List Token} {e : Term Name} → Reads part d ts e → list_all not_dot ts ≡ true
 no_dots (g.conjunction r) = no_dots r
 no_dots (g.or_ {ts = ts} {us = us} {o = o} l p q) = around ts us o (no_dots p) (no_dots q)
 no_dots (g.negation r) = no_dots r
@@ -202,7 +203,7 @@ unfolding draw_at name_at
 no_draw_at (token.Name n) us rest h e = rw (dot_none us rest h e) refl
 no_draw_at other us rest h e = refl
 
-pub no_draw : (ts : List Token) (e : Expression) (rest : List Token) → IsExpression ts e → after_sign sign.Dot rest ≡ None → draw_at (ts ++ rest) ≡ None
+pub no_draw : (ts : List Token) (e : Term Name) (rest : List Token) → IsExpression ts e → after_sign sign.Dot rest ≡ None → draw_at (ts ++ rest) ≡ None
 no_draw ts e rest r h =
     let b = begins r in
     let dots : list_all not_dot (b.first ∷ b.others) ≡ true = subst (λ (z : List Token). list_all not_dot z ≡ true) b.is (no_dots r) in
@@ -212,7 +213,7 @@ pub draw_one : (n : List ℕ) (rest : List Token) → draw_at (token.Name n ∷ 
 unfolding draw_at name_at after_sign after_word
 draw_one n rest = refl
 
-input_one : {ts : List Token} {i : Given} → IsInput ts i → (rest : List Token) → Stops rest → input_at (ts ++ rest) ≡ Some (i, rest)
+input_one : {ts : List Token} {i : Entry Name} → IsInput ts i → (rest : List Token) → Stops rest → input_at (ts ++ rest) ≡ Some (i, rest)
 unfolding input_at
 input_one (g.value_ {ts = ts} {e = e} r) rest h = rw (no_draw ts e rest r h.no_dot, expression_again ts e rest r h) refl
 input_one (g.next_ {n = n}) rest h = rw (draw_one n rest) refl
@@ -220,7 +221,7 @@ input_one (g.next_ {n = n}) rest h = rw (draw_one n rest) refl
 pub input_again : CompleteOf input_at IsInput
 input_again ts i rest r h = input_one r rest h
 
-setting_one : {ts : List Token} {s : Assignment} → IsSetting ts s → (rest : List Token) → Stops rest → setting_at (ts ++ rest) ≡ Some (s, rest)
+setting_one : {ts : List Token} {s : Change Name} → IsSetting ts s → (rest : List Token) → Stops rest → setting_at (ts ++ rest) ≡ Some (s, rest)
 unfolding setting_at name_at
 setting_one (g.set_ {n = n} {ts = ts} {e = e} r) rest h = rw (after_sign_self sign.Equal (ts ++ rest), expression_again ts e rest r h) refl
 
@@ -250,12 +251,12 @@ module _ {A : Type 0} (read : List Token → Option (A × List Token)) (Is : Lis
 
 -- ---- clauses
 
-pub where_one : {ws : List Token} {c : Option Expression} → IsWhere ws c → (rest : List Token) → Ends rest → after_word word.Where rest ≡ None → where_at (ws ++ rest) ≡ Some (c, rest)
+pub where_one : {ws : List Token} {c : Option (Term Name)} → IsWhere ws c → (rest : List Token) → Ends rest → after_word word.Where rest ≡ None → where_at (ws ++ rest) ≡ Some (c, rest)
 unfolding where_at
 where_one g.all_ rest h none = rw none refl
 where_one (g.where_ {ts = ts} {e = e} r) rest h none = rw (after_word_self word.Where (ts ++ rest), expression_again ts e rest r (stops rest h)) refl
 
-pub order_one : {os : List Token} {keys : List Key} → IsOrder os keys → (rest : List Token) → Ends rest → after_word word.Order rest ≡ None → order_at (os ++ rest) ≡ Some (keys, rest)
+pub order_one : {os : List Token} {keys : List (Key Name)} → IsOrder os keys → (rest : List Token) → Ends rest → after_word word.Order rest ≡ None → order_at (os ++ rest) ≡ Some (keys, rest)
 unfolding order_at
 order_one g.by_row rest h none = rw none refl
 order_one (g.by_keys {ts = ts} {keys = keys} l) rest h none = rw (after_word_self word.Order (token.Word word.By ∷ (ts ++ rest)), after_word_self word.By (ts ++ rest)) (list_again key_at IsKey key_again ts keys rest l h)
@@ -280,11 +281,11 @@ unfolding after_word
 held_no_where g.free f = no_where_final f
 held_no_where g.held f = refl
 
-pub order_ends : {os : List Token} {keys : List Key} → IsOrder os keys → (rest : List Token) → Ends rest → Ends (os ++ rest)
+pub order_ends : {os : List Token} {keys : List (Key Name)} → IsOrder os keys → (rest : List Token) → Ends rest → Ends (os ++ rest)
 order_ends g.by_row rest h = h
 order_ends (g.by_keys {ts = ts} l) rest h = ends_order (token.Word word.By ∷ (ts ++ rest))
 
-pub order_no_where : {os : List Token} {keys : List Key} → IsOrder os keys → (rest : List Token) → after_word word.Where rest ≡ None → after_word word.Where (os ++ rest) ≡ None
+pub order_no_where : {os : List Token} {keys : List (Key Name)} → IsOrder os keys → (rest : List Token) → after_word word.Where rest ≡ None → after_word word.Where (os ++ rest) ≡ None
 unfolding after_word
 order_no_where g.by_row rest h = h
 order_no_where (g.by_keys l) rest h = refl

@@ -1,12 +1,13 @@
 -- What is read as a statement is one.
 use Rattle.std.proofs.Common.{◌≡◌, ℕ, zero, suc, ◌≤◌, true, false, List, [], ◌∷◌, ◌++◌, length, Option, Some, None, refl, sym, ap, subst, ◌∙◌, arith, inl, inr, append_assoc}
-use Rattle.sql_reader.specs.declared.tree.Key.{Key}
+use Rattle.sql_tree.specs.declared.tree.Key.{Key}
+use Rattle.sql_tree.specs.Plain.{Name}
 use Rattle.desk_values.specs.declared.keyword.Keyword.{Keyword}
 use Rattle.desk_values.specs.declared.keyword.Keyword.TheVariants as word
 use Rattle.sql_reader.specs.declared.token.Sign.TheVariants as sign
 use Rattle.sql_reader.specs.declared.token.Token.{Token}
 use Rattle.sql_reader.specs.declared.token.Token.TheVariants as token
-use Rattle.sql_reader.specs.Plain.{Expression, Aggregate, count, total, least, greatest, value, drawn, Assignment}
+use Rattle.sql_tree.specs.Plain.{Term, Total, count, total, least, greatest, value, drawn, Change, Name}
 use Rattle.sql_reader.specs.Grammar as g
 use Rattle.sql_reader.specs.Grammar.{operator_token, Reads, IsExpression, Joined, IsList, IsName, IsKey, IsAggregate, IsInput, IsSetting, IsWhere, IsOrder, IsForUpdate, IsSelection, IsColumns, IsBody, IsStatementOf}
 use Rattle.sql_reader.specs.Scan.{◌>>=◌}
@@ -92,18 +93,18 @@ module _ {A : Type 0} (read : List Token → Option (A × List Token)) (Is : Lis
 pub key_sound : SoundOf key_at IsKey
 unfolding key_at
 key_sound ts k rest h =
-    bind_then (name_at ts) (λ x. cases (after_word word.Desc x.1) (cases (after_word word.Asc x.1) (Some (record { name = x.0; desc = false }, x.1)) (λ more. Some (record { name = x.0; desc = false }, more))) (λ more. Some (record { name = x.0; desc = true }, more))) (k, rest) h (λ x ex e1.
+    bind_then (name_at ts) (λ x. cases (after_word word.Desc x.1) (cases (after_word word.Asc x.1) (Some (record { column = x.0; desc = false }, x.1)) (λ more. Some (record { column = x.0; desc = false }, more))) (λ more. Some (record { column = x.0; desc = true }, more))) (k, rest) h (λ x ex e1.
     let n = name_is ts x.0 x.1 ex in
-    elim (cases_are (after_word word.Desc x.1) (cases (after_word word.Asc x.1) (Some (record { name = x.0; desc = false }, x.1)) (λ more. Some (record { name = x.0; desc = false }, more))) (λ more. Some (record { name = x.0; desc = true }, more)) (Some (k, rest)) e1) [
-      | inl a ↦ elim (cases_are (after_word word.Asc x.1) (Some (record { name = x.0; desc = false }, x.1)) (λ more. Some (record { name = x.0; desc = false }, more)) (Some (k, rest)) a.1) [
-        | inl b ↦ got {A = Key} (record { name = x.0; desc = false }) x.1 k rest b.1 (record { taken = token.Name x.0 ∷ []; parts = n; reads = g.plain })
-        | inr b ↦ got {A = Key} (record { name = x.0; desc = false }) b.0 k rest b.2 (record { taken = token.Name x.0 ∷ token.Word word.Asc ∷ []; parts = n ∙ ap (λ (z : List Token). token.Name x.0 ∷ z) (after_word_is word.Asc x.1 b.0 b.1); reads = g.ascending })
+    elim (cases_are (after_word word.Desc x.1) (cases (after_word word.Asc x.1) (Some (record { column = x.0; desc = false }, x.1)) (λ more. Some (record { column = x.0; desc = false }, more))) (λ more. Some (record { column = x.0; desc = true }, more)) (Some (k, rest)) e1) [
+      | inl a ↦ elim (cases_are (after_word word.Asc x.1) (Some (record { column = x.0; desc = false }, x.1)) (λ more. Some (record { column = x.0; desc = false }, more)) (Some (k, rest)) a.1) [
+        | inl b ↦ got {A = Key Name} (record { column = x.0; desc = false }) x.1 k rest b.1 (record { taken = token.Name x.0 ∷ []; parts = n; reads = g.plain })
+        | inr b ↦ got {A = Key Name} (record { column = x.0; desc = false }) b.0 k rest b.2 (record { taken = token.Name x.0 ∷ token.Word word.Asc ∷ []; parts = n ∙ ap (λ (z : List Token). token.Name x.0 ∷ z) (after_word_is word.Asc x.1 b.0 b.1); reads = g.ascending })
       ]
-      | inr a ↦ got {A = Key} (record { name = x.0; desc = true }) a.0 k rest a.2 (record { taken = token.Name x.0 ∷ token.Word word.Desc ∷ []; parts = n ∙ ap (λ (z : List Token). token.Name x.0 ∷ z) (after_word_is word.Desc x.1 a.0 a.1); reads = g.descending })
+      | inr a ↦ got {A = Key Name} (record { column = x.0; desc = true }) a.0 k rest a.2 (record { taken = token.Name x.0 ∷ token.Word word.Desc ∷ []; parts = n ∙ ap (λ (z : List Token). token.Name x.0 ∷ z) (after_word_is word.Desc x.1 a.0 a.1); reads = g.descending })
     ])
 
 -- an expression in parentheses
-abbrev IsEnclosed : List Token → Expression → Type 0
+abbrev IsEnclosed : List Token → Term Name → Type 0
 IsEnclosed ts e = (us : List Token) × (ts ≡ token.Sign sign.Open ∷ (us ++ token.Sign sign.Close ∷ [])) × IsExpression us e
 
 enclosed_sound : SoundOf enclosed_at IsEnclosed
@@ -128,7 +129,7 @@ counted_is ts rest h =
     bind_then (after_sign sign.Star a) (λ b. after_sign sign.Close b) rest e1 (λ b eb e2.
     after_sign_is sign.Open ts a ea ∙ ap (λ (z : List Token). token.Sign sign.Open ∷ z) (after_sign_is sign.Star a b eb ∙ ap (λ (z : List Token). token.Sign sign.Star ∷ z) (after_sign_is sign.Close b rest e2))))
 
-made_sound : (k : Keyword) (make : Expression → Aggregate) → ((us : List Token) (e : Expression) → IsExpression us e → IsAggregate (token.Word k ∷ token.Sign sign.Open ∷ (us ++ token.Sign sign.Close ∷ [])) (make e)) → (more : List Token) (a : Aggregate) (rest : List Token) → made_of make more ≡ Some (a, rest) → FrontOf IsAggregate (token.Word k ∷ more) a rest
+made_sound : (k : Keyword) (make : Term Name → Total Name) → ((us : List Token) (e : Term Name) → IsExpression us e → IsAggregate (token.Word k ∷ token.Sign sign.Open ∷ (us ++ token.Sign sign.Close ∷ [])) (make e)) → (more : List Token) (a : Total Name) (rest : List Token) → made_of make more ≡ Some (a, rest) → FrontOf IsAggregate (token.Word k ∷ more) a rest
 made_sound k make rule more a rest h =
     bind_then (enclosed_at more) (λ x. Some (make x.0, x.1)) (a, rest) h (λ x ex e1.
     let f = enclosed_sound more x.0 x.1 ex in
@@ -165,11 +166,11 @@ input_sound ts i rest h =
 pub setting_sound : SoundOf setting_at IsSetting
 unfolding setting_at
 setting_sound ts s rest h =
-    bind_then (name_at ts) (λ x. after_sign sign.Equal x.1 >>= λ a. expression_at a >>= λ to. Some (record { name = x.0; to = to.0 }, to.1)) (s, rest) h (λ x ex e1.
-    bind_then (after_sign sign.Equal x.1) (λ a. expression_at a >>= λ to. Some (record { name = x.0; to = to.0 }, to.1)) (s, rest) e1 (λ a ea e2.
-    bind_then (expression_at a) (λ to. Some (record { name = x.0; to = to.0 }, to.1)) (s, rest) e2 (λ to et e3.
+    bind_then (name_at ts) (λ x. after_sign sign.Equal x.1 >>= λ a. expression_at a >>= λ to. Some (record { column = x.0; to = to.0 }, to.1)) (s, rest) h (λ x ex e1.
+    bind_then (after_sign sign.Equal x.1) (λ a. expression_at a >>= λ to. Some (record { column = x.0; to = to.0 }, to.1)) (s, rest) e1 (λ a ea e2.
+    bind_then (expression_at a) (λ to. Some (record { column = x.0; to = to.0 }, to.1)) (s, rest) e2 (λ to et e3.
     let f = whole_sound a to.0 to.1 et in
-    got {A = Assignment} (record { name = x.0; to = to.0 }) to.1 s rest e3 (record {
+    got {A = Change Name} (record { column = x.0; to = to.0 }) to.1 s rest e3 (record {
       taken = token.Name x.0 ∷ token.Sign sign.Equal ∷ f.taken;
       parts = name_is ts x.0 x.1 ex ∙ ap (λ (z : List Token). token.Name x.0 ∷ z) (after_sign_is sign.Equal x.1 a ea ∙ ap (λ (z : List Token). token.Sign sign.Equal ∷ z) f.parts);
       reads = g.set_ f.reads;
@@ -181,7 +182,7 @@ pub where_sound : SoundOf where_at IsWhere
 unfolding where_at
 where_sound ts c rest h =
     elim (cases_are (after_word word.Where ts) (Some (None, ts)) (λ a. expression_at a >>= λ x. Some (Some x.0, x.1)) (Some (c, rest)) h) [
-      | inl k ↦ got {A = Option Expression} None ts c rest k.1 (record { taken = []; parts = refl; reads = g.all_ })
+      | inl k ↦ got {A = Option (Term Name)} None ts c rest k.1 (record { taken = []; parts = refl; reads = g.all_ })
       | inr k ↦ bind_then (expression_at k.0) (λ x. Some (Some x.0, x.1)) (c, rest) k.2 (λ x ex e1.
           let f = whole_sound k.0 x.0 x.1 ex in
           got (Some x.0) x.1 c rest e1 (record { taken = token.Word word.Where ∷ f.taken; parts = after_word_is word.Where ts k.0 k.1 ∙ ap (λ (z : List Token). token.Word word.Where ∷ z) f.parts; reads = g.where_ f.reads }))
@@ -191,7 +192,7 @@ pub order_sound : SoundOf order_at IsOrder
 unfolding order_at
 order_sound ts keys rest h =
     elim (cases_are (after_word word.Order ts) (Some ([], ts)) (λ a. after_word word.By a >>= λ b. list_at key_at 16 b) (Some (keys, rest)) h) [
-      | inl k ↦ got {A = List Key} [] ts keys rest k.1 (record { taken = []; parts = refl; reads = g.by_row })
+      | inl k ↦ got {A = List (Key Name)} [] ts keys rest k.1 (record { taken = []; parts = refl; reads = g.by_row })
       | inr k ↦ bind_then (after_word word.By k.0) (λ b. list_at key_at 16 b) (keys, rest) k.2 (λ b eb e1.
           let f = list_sound key_at IsKey key_sound b keys rest e1 in
           record { taken = token.Word word.Order ∷ token.Word word.By ∷ f.taken; parts = after_word_is word.Order ts k.0 k.1 ∙ ap (λ (z : List Token). token.Word word.Order ∷ z) (after_word_is word.By k.0 b eb ∙ ap (λ (z : List Token). token.Word word.By ∷ z) f.parts); reads = g.by_keys f.reads })

@@ -1,16 +1,16 @@
 -- Steps of the descent, as a loop takes them.
 use Rattle.std.proofs.Common.{◌≡◌, ℕ, suc, ◌-◌, ◌+◌, ◌<◌, ◌≢◌, List, length, Option, Some, None, refl, sym, ap, ◌∙◌, arith}
-use Rattle.sql_reader.specs.declared.tree.Op.{Op}
+use Rattle.sql_tree.specs.declared.tree.Op.{Op}
 use Rattle.sql_reader.specs.declared.part.Part.{Part}
 use Rattle.sql_reader.specs.declared.token.Token.{Token}
 use Rattle.sql_reader.specs.declared.error.SqlErr.{SqlErr}
 use Rattle.sql_reader.specs.declared.error.SqlErr.TheVariants as error
-use Rattle.sql_reader.specs.Plain.{Expression, bin}
+use Rattle.sql_tree.specs.Plain.{Term, bin, Name}
 use Rattle.sql_reader.specs.Spelling.{Fails}
 use Rattle.sql_reader.specs.Descent.{operator_at, more_at, chain_at, inner_at, part_at}
 
-module _ (operand : List Token → Option (Expression × List Token)) (part : Part) where
-  pub chain_begins : (ts : List Token) (left : Expression) (after : List Token) → operand ts ≡ Some (left, after) → more_at operand part (length ts - 0) left after ≡ chain_at operand part ts
+module _ (operand : List Token → Option (Term Name × List Token)) (part : Part) where
+  pub chain_begins : (ts : List Token) (left : Term Name) (after : List Token) → operand ts ≡ Some (left, after) → more_at operand part (length ts - 0) left after ≡ chain_at operand part ts
   unfolding chain_at
   chain_begins ts left after e =
       let k : length ts - 0 ≡ length ts = omega arith in
@@ -21,7 +21,7 @@ module _ (operand : List Token → Option (Expression × List Token)) (part : Pa
   chain_fails error.Memory ts h = tt
   chain_fails error.Syntax ts h = rw h refl
 
-  pub chain_goes_on : (count i : ℕ) (left : Expression) (ts : List Token) (o : Op) (behind : List Token) (right : Expression) (after : List Token) (total : Option (Expression × List Token)) → i < count → operator_at part ts ≡ Some (o, behind) → operand behind ≡ Some (right, after) → more_at operand part (count - i) left ts ≡ total → more_at operand part (count - (i + 1)) (bin o left right) after ≡ total
+  pub chain_goes_on : (count i : ℕ) (left : Term Name) (ts : List Token) (o : Op) (behind : List Token) (right : Term Name) (after : List Token) (total : Option (Term Name × List Token)) → i < count → operator_at part ts ≡ Some (o, behind) → operand behind ≡ Some (right, after) → more_at operand part (count - i) left ts ≡ total → more_at operand part (count - (i + 1)) (bin o left right) after ≡ total
   chain_goes_on count i left ts o behind right after total lt e f so_far =
       let k : count - i ≡ suc (count - (i + 1)) = omega arith in
       let one : more_at operand part (count - i) left ts ≡ more_at operand part (count - (i + 1)) (bin o left right) after = rw (k, e, f) refl in

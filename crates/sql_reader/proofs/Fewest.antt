@@ -1,6 +1,6 @@
 -- No tokens of a statement have fewer parentheses than those that are written.
 use Rattle.std.proofs.Common.{◌≡◌, ℕ, ◌+◌, ◌≤◌, Bool, true, false, List, [], ◌∷◌, ◌++◌, Option, refl, ap, ◌∙◌, arith, lit≤}
-use Rattle.sql_reader.specs.declared.tree.Op.{Op}
+use Rattle.sql_tree.specs.declared.tree.Op.{Op}
 use Rattle.sql_reader.specs.declared.part.Part.{Part}
 use Rattle.sql_reader.specs.declared.part.Part.TheVariants.{Disjunction, Conjunction, Negation, Comparison, Sum, Product, Factor, Primary}
 use Rattle.desk_values.specs.declared.keyword.Keyword.{Keyword}
@@ -8,14 +8,15 @@ use Rattle.desk_values.specs.declared.keyword.Keyword.TheVariants as word
 use Rattle.sql_reader.specs.declared.token.Sign.TheVariants as sign
 use Rattle.sql_reader.specs.declared.token.Token.{Token}
 use Rattle.sql_reader.specs.declared.token.Token.TheVariants as token
-use Rattle.sql_reader.specs.Plain.{Expression, null, int, text, bind, column, rowid, neg, not, bin, is_null, not_null}
+use Rattle.sql_tree.specs.Plain.{Term, null, int, text, bind, column, rowid, neg, not, bin, is_null, not_null, Name}
 use Rattle.sql_reader.specs.Grammar.{looseness, right_of, line_of, operator_token, Reads, conjunction, or_, negation, and_, comparison, not_, sum_, compare_, is_null_, not_null_, product, add_, factor, multiply_, primary, minus_, number, string, null_, bind_, name, rowid_, parentheses, IsExpression}
 use Rattle.std.specs.Prelude.{nat_lt, if◌then◌else◌}
 use Rattle.std.specs.List.{flat_map}
 use Rattle.std.proofs.lemmas.Bool.{ltb-false, le-ltb}
-use Rattle.sql_reader.specs.declared.tree.Op.TheVariants as op
-use Rattle.sql_reader.specs.declared.tree.Key.{Key}
-use Rattle.sql_reader.specs.Plain.{Aggregate, Given, Assignment, Selection, Parsed}
+use Rattle.sql_tree.specs.declared.tree.Op.TheVariants as op
+use Rattle.sql_tree.specs.declared.tree.Key.{Key}
+use Rattle.sql_tree.specs.Plain.{Name}
+use Rattle.sql_tree.specs.Plain.{Total, Entry, Change, Asked, Plan, Name}
 use Rattle.sql_reader.specs.Grammar as g
 use Rattle.sql_reader.specs.Grammar.{left_of, Joined, IsList, IsName, IsKey, IsAggregate, IsInput, IsSetting, IsWhere, IsOrder, IsForUpdate, IsSelection, IsColumns, IsBody, IsStatementOf}
 use Rattle.sql_reader.specs.Written.{part_of, bare_tokens, expression_tokens, whole, joined, called, aggregate_tokens, given_tokens, assignment_tokens, key_tokens, name_tokens, selection_tokens, where_tokens, order_tokens, for_update_tokens, columns_tokens, inputs_tokens, statement_tokens, opening, opened}
@@ -29,14 +30,14 @@ abbrev extra : Bool → ℕ
 extra true = 1
 extra false = 0
 
-abbrev needs : Part → Expression → Bool
+abbrev needs : Part → Term Name → Bool
 needs part e = nat_lt (looseness part) (looseness (part_of e))
 
 opened_enclosed : (b : Bool) (ts : List Token) → opened (if b then token.Sign sign.Open ∷ (ts ++ token.Sign sign.Close ∷ []) else ts) ≡ opened ts + extra b
 opened_enclosed true ts = omega (arith, opened_both ts (token.Sign sign.Close ∷ []))
 opened_enclosed false ts = omega arith
 
-opened_written : (part : Part) (e : Expression) → opened (expression_tokens part e) ≡ opened (bare_tokens e) + extra (needs part e)
+opened_written : (part : Part) (e : Term Name) → opened (expression_tokens part e) ≡ opened (bare_tokens e) + extra (needs part e)
 opened_written part e = opened_enclosed (needs part e) (bare_tokens e)
 
 extra_less : (a b : Bool) → (b ≡ false → a ≡ false) → extra a ≤ extra b
@@ -48,10 +49,10 @@ extra_one : (b : Bool) → extra b ≤ 1
 extra_one true = omega arith
 extra_one false = omega arith
 
-looser_needs : (p q : Part) (e : Expression) → looseness p ≤ looseness q → needs p e ≡ false → needs q e ≡ false
+looser_needs : (p q : Part) (e : Term Name) → looseness p ≤ looseness q → needs p e ≡ false → needs q e ≡ false
 looser_needs p q e le h = le-ltb _ _ (omega (arith, ltb-false _ _ h))
 
-up : (p q : Part) (e : Expression) (ts : List Token) → looseness p ≤ looseness q → opened (expression_tokens p e) ≤ opened ts → opened (expression_tokens q e) ≤ opened ts
+up : (p q : Part) (e : Term Name) (ts : List Token) → looseness p ≤ looseness q → opened (expression_tokens p e) ≤ opened ts → opened (expression_tokens q e) ≤ opened ts
 up p q e ts le h = omega (arith, opened_written p e, opened_written q e, extra_less (needs q e) (needs p e) (looser_needs p q e le))
 
 operator_opens : (o : Op) → opening (operator_token o) ≡ 0
@@ -68,13 +69,13 @@ operator_opens op.Sub = refl
 operator_opens op.Mul = refl
 operator_opens op.Div = refl
 
-at_home : (part : Part) (e : Expression) → looseness (part_of e) ≤ looseness part → needs part e ≡ false
+at_home : (part : Part) (e : Term Name) → looseness (part_of e) ≤ looseness part → needs part e ≡ false
 at_home part e le = le-ltb _ _ le
 
-bare_is : (part : Part) (e : Expression) → looseness (part_of e) ≤ looseness part → opened (expression_tokens part e) ≡ opened (bare_tokens e)
+bare_is : (part : Part) (e : Term Name) → looseness (part_of e) ≤ looseness part → opened (expression_tokens part e) ≡ opened (bare_tokens e)
 bare_is part e le = omega (arith, opened_written part e, ap extra (at_home part e le))
 
-operated : (line p q : Part) (o : Op) (a b : Expression) (ts us : List Token) → line_of o ≡ line → left_of line ≡ p → right_of line ≡ q → opened (expression_tokens p a) ≤ opened ts → opened (expression_tokens q b) ≤ opened us → opened (expression_tokens line (bin o a b)) ≤ opened (ts ++ operator_token o ∷ us)
+operated : (line p q : Part) (o : Op) (a b : Term Name) (ts us : List Token) → line_of o ≡ line → left_of line ≡ p → right_of line ≡ q → opened (expression_tokens p a) ≤ opened ts → opened (expression_tokens q b) ≤ opened us → opened (expression_tokens line (bin o a b)) ≤ opened (ts ++ operator_token o ∷ us)
 operated line p q o a b ts us l lp lq f h =
     let left : left_of (line_of o) ≡ p = ap left_of l ∙ lp in
     let right : right_of (line_of o) ≡ q = ap right_of l ∙ lq in
@@ -94,19 +95,19 @@ at_most Negation = omega arith
 at_most Conjunction = omega arith
 at_most Disjunction = omega arith
 
-in_parentheses : (e : Expression) (ts : List Token) → opened (expression_tokens Disjunction e) ≤ opened ts → opened (expression_tokens Primary e) ≤ opened (token.Sign sign.Open ∷ (ts ++ token.Sign sign.Close ∷ []))
+in_parentheses : (e : Term Name) (ts : List Token) → opened (expression_tokens Disjunction e) ≤ opened ts → opened (expression_tokens Primary e) ≤ opened (token.Sign sign.Open ∷ (ts ++ token.Sign sign.Close ∷ []))
 in_parentheses e ts h = omega (arith, opened_written Primary e, extra_one (needs Primary e), bare_is Disjunction e (at_most (part_of e)), opened_both ts (token.Sign sign.Close ∷ []))
 
-prefixed : (part : Part) (e made : Expression) (t : Token) (ts : List Token) → bare_tokens made ≡ t ∷ expression_tokens part e → part_of made ≡ part → opened (expression_tokens part e) ≤ opened ts → opened (expression_tokens part made) ≤ opened (t ∷ ts)
+prefixed : (part : Part) (e made : Term Name) (t : Token) (ts : List Token) → bare_tokens made ≡ t ∷ expression_tokens part e → part_of made ≡ part → opened (expression_tokens part e) ≤ opened ts → opened (expression_tokens part made) ≤ opened (t ∷ ts)
 prefixed part e made t ts b p h = omega (arith, bare_is part made (omega (arith, ap looseness p)), ap opened b)
 
-tested : (e made : Expression) (ts word : List Token) → bare_tokens made ≡ expression_tokens Sum e ++ word → part_of made ≡ Comparison → opened (expression_tokens Sum e) ≤ opened ts → opened (expression_tokens Comparison made) ≤ opened (ts ++ word)
+tested : (e made : Term Name) (ts word : List Token) → bare_tokens made ≡ expression_tokens Sum e ++ word → part_of made ≡ Comparison → opened (expression_tokens Sum e) ≤ opened ts → opened (expression_tokens Comparison made) ≤ opened (ts ++ word)
 tested e made ts word b p h = omega (arith, bare_is Comparison made (omega (arith, ap looseness p)), ap opened b, opened_both ts word, opened_both (expression_tokens Sum e) word)
 
-single : (e : Expression) (t : Token) → bare_tokens e ≡ t ∷ [] → part_of e ≡ Primary → opened (expression_tokens Primary e) ≤ opened (t ∷ [])
+single : (e : Term Name) (t : Token) → bare_tokens e ≡ t ∷ [] → part_of e ≡ Primary → opened (expression_tokens Primary e) ≤ opened (t ∷ [])
 single e t b p = omega (arith, bare_is Primary e (omega (arith, ap looseness p)), ap opened b)
 
-fewest : {part : Part} {d : ℕ} {ts : List Token} {e : Expression} → Reads part d ts e → opened (expression_tokens part e) ≤ opened ts
+fewest : {part : Part} {d : ℕ} {ts : List Token} {e : Term Name} → Reads part d ts e → opened (expression_tokens part e) ≤ opened ts
 fewest (conjunction {ts = ts} {e = e} r) = up Conjunction Disjunction e ts (lit≤ tt) (fewest r)
 fewest (or_ {ts = ts} {us = us} {o = o} {a = a} {b = b} l p q) = operated Disjunction Disjunction Conjunction o a b ts us l refl refl (fewest p) (fewest q)
 fewest (negation {ts = ts} {e = e} r) = up Negation Conjunction e ts (lit≤ tt) (fewest r)
@@ -151,36 +152,36 @@ whole_few ts e r = fewest r
 name_few : {ts : List Token} {n : List ℕ} → IsName ts n → opened (name_tokens n) ≤ opened ts
 name_few g.name = omega arith
 
-key_few : {ts : List Token} {k : Key} → IsKey ts k → opened (key_tokens k) ≤ opened ts
+key_few : {ts : List Token} {k : Key Name} → IsKey ts k → opened (key_tokens k) ≤ opened ts
 key_few g.plain = omega arith
 key_few g.ascending = omega arith
 key_few g.descending = omega arith
 
-call_few : (k : Keyword) (ts : List Token) (e : Expression) → IsExpression ts e → opened (called (token.Word k) e) ≤ opened (token.Word k ∷ token.Sign sign.Open ∷ (ts ++ token.Sign sign.Close ∷ []))
+call_few : (k : Keyword) (ts : List Token) (e : Term Name) → IsExpression ts e → opened (called (token.Word k) e) ≤ opened (token.Word k ∷ token.Sign sign.Open ∷ (ts ++ token.Sign sign.Close ∷ []))
 call_few k ts e r = omega (arith, fewest r, opened_both ts (token.Sign sign.Close ∷ []), opened_both (whole e) (token.Sign sign.Close ∷ []))
 
-aggregate_few : {ts : List Token} {x : Aggregate} → IsAggregate ts x → opened (aggregate_tokens x) ≤ opened ts
+aggregate_few : {ts : List Token} {x : Total Name} → IsAggregate ts x → opened (aggregate_tokens x) ≤ opened ts
 aggregate_few g.count_ = omega arith
 aggregate_few (g.sum_ {ts = ts} {e = e} r) = call_few word.Sum ts e r
 aggregate_few (g.min_ {ts = ts} {e = e} r) = call_few word.Min ts e r
 aggregate_few (g.max_ {ts = ts} {e = e} r) = call_few word.Max ts e r
 
-input_few : {ts : List Token} {x : Given} → IsInput ts x → opened (given_tokens x) ≤ opened ts
+input_few : {ts : List Token} {x : Entry Name} → IsInput ts x → opened (given_tokens x) ≤ opened ts
 input_few (g.value_ r) = fewest r
 input_few g.next_ = omega arith
 
-setting_few : {ts : List Token} {x : Assignment} → IsSetting ts x → opened (assignment_tokens x) ≤ opened ts
+setting_few : {ts : List Token} {x : Change Name} → IsSetting ts x → opened (assignment_tokens x) ≤ opened ts
 setting_few (g.set_ r) = omega (arith, fewest r)
 
-where_few : {ts : List Token} {x : Option Expression} → IsWhere ts x → opened (where_tokens x) ≤ opened ts
+where_few : {ts : List Token} {x : Option (Term Name)} → IsWhere ts x → opened (where_tokens x) ≤ opened ts
 where_few g.all_ = omega arith
 where_few (g.where_ r) = omega (arith, fewest r)
 
-keys_few : {ts : List Token} {keys : List Key} → Joined IsKey ts keys → opened (order_tokens keys) ≤ opened (joined key_tokens keys)
+keys_few : {ts : List Token} {keys : List (Key Name)} → Joined IsKey ts keys → opened (order_tokens keys) ≤ opened (joined key_tokens keys)
 keys_few (g.last r) = omega arith
 keys_few (g.more r j) = omega arith
 
-order_few : {ts : List Token} {x : List Key} → IsOrder ts x → opened (order_tokens x) ≤ opened ts
+order_few : {ts : List Token} {x : List (Key Name)} → IsOrder ts x → opened (order_tokens x) ≤ opened ts
 order_few g.by_row = omega arith
 order_few (g.by_keys l) = omega (arith, keys_few l.0, list_few IsKey key_tokens (λ us x h. key_few h) l.0)
 
@@ -188,7 +189,7 @@ for_update_few : {ts : List Token} {x : Bool} → IsForUpdate ts x → opened (f
 for_update_few g.free = omega arith
 for_update_few g.held = omega arith
 
-selection_few : {ts : List Token} {x : Selection} → IsSelection ts x → opened (selection_tokens x) ≤ opened ts
+selection_few : {ts : List Token} {x : Asked Name} → IsSelection ts x → opened (selection_tokens x) ≤ opened ts
 selection_few g.star = omega arith
 selection_few (g.list l) = list_few IsExpression whole whole_few l.0
 
@@ -196,7 +197,7 @@ columns_few : {ts : List Token} {x : Option (List (List ℕ))} → IsColumns ts 
 columns_few g.all_ = omega arith
 columns_few (g.some_ {ts = ts} {names = names} l) = omega (arith, list_few IsName name_tokens (λ us x h. name_few h) l.0, opened_both ts (token.Sign sign.Close ∷ []), opened_both (joined name_tokens names) (token.Sign sign.Close ∷ []))
 
-body_few : {ts : List Token} {s : Parsed} → IsBody ts s → opened (statement_tokens s) ≤ opened ts
+body_few : {ts : List Token} {s : Plan Name} → IsBody ts s → opened (statement_tokens s) ≤ opened ts
 body_few (g.select_ {ts = ts} {ws = ws} {os = os} {fs = fs} {items = items} {table = table} {condition = condition} {keys = keys} {for_update = held} i w o f) =
     omega (
       arith,
@@ -238,6 +239,6 @@ body_few g.commit_ = omega arith
 body_few g.rollback_ = omega arith
 body_few g.set_read_only_ = omega arith
 
-pub statement_few : {ts : List Token} {s : Parsed} → IsStatementOf ts s → opened (statement_tokens s) ≤ opened ts
+pub statement_few : {ts : List Token} {s : Plan Name} → IsStatementOf ts s → opened (statement_tokens s) ≤ opened ts
 statement_few (g.bare b) = body_few b
 statement_few (g.ended {ts = ts} b) = omega (arith, body_few b, opened_both ts (token.Sign sign.Semicolon ∷ []))

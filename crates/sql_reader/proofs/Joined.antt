@@ -7,7 +7,7 @@ use Rattle.std.proofs.lemmas.List.Folds.{flat_map-map}
 use Rattle.sql_reader.specs.declared.token.Sign.TheVariants as sign
 use Rattle.sql_reader.specs.declared.token.Token.{Token}
 use Rattle.sql_reader.specs.declared.token.Token.TheVariants as token
-use Rattle.sql_reader.specs.Plain.{Parsed}
+use Rattle.sql_tree.specs.Plain.{Plan, Name}
 use Rattle.desk_values.specs.Keyword.{keyword_word}
 use Rattle.sql_reader.specs.Written.{joined, token_text, spaced, spaced_all, first_word, further_tokens, written}
 
@@ -21,6 +21,6 @@ unfolding spaced
 spaced_join t [] = sym (append-nil (token_text t))
 spaced_join t (u ∷ ts) = ap (λ (bs : List ℕ). token_text t ++ 32 ∷ bs) (spaced_join u ts)
 
-pub written_is : (s : Parsed) → written s ≡ map to_ascii_uppercase (keyword_word (first_word s)) ++ spaced_all (further_tokens s)
+pub written_is : (s : Plan Name) → written s ≡ map to_ascii_uppercase (keyword_word (first_word s)) ++ spaced_all (further_tokens s)
 unfolding written
 written_is s = spaced_join (token.Word (first_word s)) (further_tokens s)

@@ -1,13 +1,13 @@
 -- What is written for an expression is the expression.
 use Rattle.std.proofs.Common.{◌≡◌, ℕ, zero, suc, ◌+◌, ◌≤◌, Bool, true, false, List, [], ◌∷◌, ◌++◌, refl, sym, ap, subst, arith, lit≤, ◌-◌}
-use Rattle.sql_reader.specs.declared.tree.Op.{Op}
+use Rattle.sql_tree.specs.declared.tree.Op.{Op}
 use Rattle.sql_reader.specs.declared.part.Part.{Part}
 use Rattle.sql_reader.specs.declared.part.Part.TheVariants.{Disjunction, Conjunction, Negation, Comparison, Sum, Product, Factor, Primary}
 use Rattle.desk_values.specs.declared.keyword.Keyword.TheVariants as word
 use Rattle.sql_reader.specs.declared.token.Sign.TheVariants as sign
 use Rattle.sql_reader.specs.declared.token.Token.{Token}
 use Rattle.sql_reader.specs.declared.token.Token.TheVariants as token
-use Rattle.sql_reader.specs.Plain.{Expression, bin}
+use Rattle.sql_tree.specs.Plain.{Term, bin, Name}
 use Rattle.sql_reader.specs.Grammar.{looseness, left_of, right_of, line_of, operator_token, Reads, conjunction, or_, negation, and_, comparison, not_, sum_, compare_, is_null_, not_null_, product, add_, factor, multiply_, primary, minus_, number, string, null_, bind_, name, rowid_, parentheses, IsExpression}
 use Rattle.std.specs.Prelude.{nat_lt, if◌then◌else◌}
 use Rattle.sql_reader.specs.Words.{sign_text}
@@ -18,7 +18,7 @@ use Rattle.sql_reader.proofs.Firsts.{same_part}
 use Rattle.sql_reader.proofs.Texts.{IsToken, AreTokens, are_both, are_left, are_right}
 
 -- more may nest
-weaken : {part : Part} {d : ℕ} {ts : List Token} {e : Expression} → Reads part d ts e → Reads part (suc d) ts e
+weaken : {part : Part} {d : ℕ} {ts : List Token} {e : Term Name} → Reads part d ts e → Reads part (suc d) ts e
 weaken (conjunction r) = conjunction (weaken r)
 weaken (or_ l p q) = or_ l (weaken p) (weaken q)
 weaken (negation r) = negation (weaken r)
@@ -54,7 +54,7 @@ at_most Conjunction = omega arith
 at_most Disjunction = omega arith
 
 -- a tighter part is also a looser one
-raise : (n : ℕ) (p q : Part) {d : ℕ} {ts : List Token} {e : Expression} → looseness p + n ≡ looseness q → Reads p d ts e → Reads q d ts e
+raise : (n : ℕ) (p q : Part) {d : ℕ} {ts : List Token} {e : Term Name} → looseness p + n ≡ looseness q → Reads p d ts e → Reads q d ts e
 raise zero p q {d} {ts} {e} h r = subst (λ (x : Part). Reads x d ts e) (same_part p q (omega arith)) r
 raise (suc n) Primary q h r = raise n Factor q (omega arith) (primary r)
 raise (suc n) Factor q h r = raise n Product q (omega arith) (factor r)
@@ -65,42 +65,42 @@ raise (suc n) Negation q h r = raise n Conjunction q (omega arith) (negation r)
 raise (suc n) Conjunction q h r = raise n Disjunction q (omega arith) (conjunction r)
 raise (suc n) Disjunction q h r = absurd (omega (arith, at_most q))
 
-lift : (p q : Part) {d : ℕ} {ts : List Token} {e : Expression} → looseness p ≤ looseness q → Reads p d ts e → Reads q d ts e
+lift : (p q : Part) {d : ℕ} {ts : List Token} {e : Term Name} → looseness p ≤ looseness q → Reads p d ts e → Reads q d ts e
 lift p q h r = raise (looseness q - looseness p) p q (omega arith) r
 
 -- the expression is read without parentheses, where the part is loose enough, or one level less deep
-data Rewritten (part : Part) (d : ℕ) (e : Expression) : Type 0 where
+data Rewritten (part : Part) (d : ℕ) (e : Term Name) : Type 0 where
   direct : looseness (part_of e) ≤ looseness part → Reads (part_of e) d (bare_tokens e) e → Rewritten part d e
   nested : {inner : ℕ} → d ≡ suc inner → Reads (part_of e) inner (bare_tokens e) e → Rewritten part d e
 
-enclose : (part : Part) (d : ℕ) (e : Expression) → Reads (part_of e) d (bare_tokens e) e → Reads part (suc d) (token.Sign sign.Open ∷ (bare_tokens e ++ token.Sign sign.Close ∷ [])) e
+enclose : (part : Part) (d : ℕ) (e : Term Name) → Reads (part_of e) d (bare_tokens e) e → Reads part (suc d) (token.Sign sign.Open ∷ (bare_tokens e ++ token.Sign sign.Close ∷ [])) e
 enclose part d e r = lift Primary part (omega arith) (parentheses (lift (part_of e) Disjunction (at_most (part_of e)) r))
 
-enclosed_reads : (part : Part) (d : ℕ) (e : Expression) (b : Bool) → nat_lt (looseness part) (looseness (part_of e)) ≡ b → Rewritten part d e → Reads part d (if b then token.Sign sign.Open ∷ (bare_tokens e ++ token.Sign sign.Close ∷ []) else bare_tokens e) e
+enclosed_reads : (part : Part) (d : ℕ) (e : Term Name) (b : Bool) → nat_lt (looseness part) (looseness (part_of e)) ≡ b → Rewritten part d e → Reads part d (if b then token.Sign sign.Open ∷ (bare_tokens e ++ token.Sign sign.Close ∷ []) else bare_tokens e) e
 enclosed_reads part d e true h (direct le r) = absurd (omega (arith, ltb-true _ _ h))
 enclosed_reads part d e false h (direct le r) = lift (part_of e) part le r
 enclosed_reads part d e true h (nested deeper r) = subst (λ (x : ℕ). Reads part x (token.Sign sign.Open ∷ (bare_tokens e ++ token.Sign sign.Close ∷ [])) e) (sym deeper) (enclose part _ e r)
 enclosed_reads part d e false h (nested deeper r) = subst (λ (x : ℕ). Reads part x (bare_tokens e) e) (sym deeper) (lift (part_of e) part (ltb-false _ _ h) (weaken r))
 
-reads_again : (part : Part) (d : ℕ) (e : Expression) → Rewritten part d e → Reads part d (expression_tokens part e) e
+reads_again : (part : Part) (d : ℕ) (e : Term Name) → Rewritten part d e → Reads part d (expression_tokens part e) e
 reads_again part d e w = enclosed_reads part d e (nat_lt (looseness part) (looseness (part_of e))) refl w
 
-looser : (p q : Part) (d : ℕ) (e : Expression) → looseness p ≤ looseness q → Rewritten p d e → Rewritten q d e
+looser : (p q : Part) (d : ℕ) (e : Term Name) → looseness p ≤ looseness q → Rewritten p d e → Rewritten q d e
 looser p q d e h (direct le r) = direct (omega arith) r
 looser p q d e h (nested deeper r) = nested deeper r
 
 -- an operator between its operands
-abbrev Around : Op → ℕ → Expression → Expression → Part → Type 0
+abbrev Around : Op → ℕ → Term Name → Term Name → Part → Type 0
 Around o d a b line = Reads line d (expression_tokens (left_of line) a ++ operator_token o ∷ expression_tokens (right_of line) b) (bin o a b)
 
-operated : (o : Op) (d : ℕ) (a b : Expression) (line : Part) → line_of o ≡ line → Around o d a b line → Rewritten line d (bin o a b)
+operated : (o : Op) (d : ℕ) (a b : Term Name) (line : Part) → line_of o ≡ line → Around o d a b line → Rewritten line d (bin o a b)
 operated o d a b line l r = direct (omega (arith, ap looseness l)) (subst (Around o d a b) (sym l) r)
 
-unwrapped : (d : ℕ) (e : Expression) → Rewritten Disjunction d e → Rewritten Primary (suc d) e
+unwrapped : (d : ℕ) (e : Term Name) → Rewritten Disjunction d e → Rewritten Primary (suc d) e
 unwrapped d e (direct le r) = nested refl r
 unwrapped d e (nested deeper r) = nested refl (subst (λ (x : ℕ). Reads (part_of e) x (bare_tokens e) e) (sym deeper) (weaken r))
 
-rewritten : {part : Part} {d : ℕ} {ts : List Token} {e : Expression} → Reads part d ts e → Rewritten part d e
+rewritten : {part : Part} {d : ℕ} {ts : List Token} {e : Term Name} → Reads part d ts e → Rewritten part d e
 rewritten (conjunction {d = d} {e = e} r) = looser Conjunction Disjunction d e (lit≤ tt) (rewritten r)
 rewritten (or_ {d = d} {o = o} {a = a} {b = b} l p q) = operated o d a b Disjunction l (or_ l (reads_again Disjunction d a (rewritten p)) (reads_again Conjunction d b (rewritten q)))
 rewritten (negation {d = d} {e = e} r) = looser Negation Conjunction d e (lit≤ tt) (rewritten r)
@@ -125,7 +125,7 @@ rewritten name = direct (lit≤ tt) name
 rewritten rowid_ = direct (lit≤ tt) rowid_
 rewritten (parentheses {d = d} {e = e} r) = unwrapped d e (rewritten r)
 
-pub whole_again : {ts : List Token} {e : Expression} → IsExpression ts e → IsExpression (whole e) e
+pub whole_again : {ts : List Token} {e : Term Name} → IsExpression ts e → IsExpression (whole e) e
 whole_again {ts} {e} r = reads_again Disjunction 32 e (rewritten r)
 
 -- ---- the tokens that are written have texts
@@ -140,15 +140,15 @@ enclosed_if : (b : Bool) (ts : List Token) → AreTokens ts → AreTokens (if b 
 enclosed_if true ts a = (open_is, are_both ts (token.Sign sign.Close ∷ []) a (close_is, tt))
 enclosed_if false ts a = a
 
-enclosed_are : (part : Part) (e : Expression) → AreTokens (bare_tokens e) → AreTokens (expression_tokens part e)
+enclosed_are : (part : Part) (e : Term Name) → AreTokens (bare_tokens e) → AreTokens (expression_tokens part e)
 enclosed_are part e a = enclosed_if (nat_lt (looseness part) (looseness (part_of e))) (bare_tokens e) a
 
-around_are : (ts us : List Token) (o : Op) (p q : Part) (a b : Expression) → AreTokens (ts ++ operator_token o ∷ us) → (AreTokens ts → AreTokens (bare_tokens a)) → (AreTokens us → AreTokens (bare_tokens b)) → AreTokens (expression_tokens p a ++ operator_token o ∷ expression_tokens q b)
+around_are : (ts us : List Token) (o : Op) (p q : Part) (a b : Term Name) → AreTokens (ts ++ operator_token o ∷ us) → (AreTokens ts → AreTokens (bare_tokens a)) → (AreTokens us → AreTokens (bare_tokens b)) → AreTokens (expression_tokens p a ++ operator_token o ∷ expression_tokens q b)
 around_are ts us o p q a b all f g =
     let right = are_right ts (operator_token o ∷ us) all in
     are_both (expression_tokens p a) (operator_token o ∷ expression_tokens q b) (enclosed_are p a (f (are_left ts (operator_token o ∷ us) all))) (right.0, enclosed_are q b (g right.1))
 
-bare_are : {part : Part} {d : ℕ} {ts : List Token} {e : Expression} → Reads part d ts e → AreTokens ts → AreTokens (bare_tokens e)
+bare_are : {part : Part} {d : ℕ} {ts : List Token} {e : Term Name} → Reads part d ts e → AreTokens ts → AreTokens (bare_tokens e)
 bare_are (conjunction r) a = bare_are r a
 bare_are (or_ {ts = ts} {us = us} {o = o} {a = x} {b = y} l p q) a = around_are ts us o (left_of (line_of o)) (right_of (line_of o)) x y a (bare_are p) (bare_are q)
 bare_are (negation r) a = bare_are r a
@@ -173,5 +173,5 @@ bare_are name a = a
 bare_are rowid_ a = a
 bare_are (parentheses {ts = ts} r) a = bare_are r (are_left ts (token.Sign sign.Close ∷ []) a.1)
 
-pub whole_are : {ts : List Token} {e : Expression} → IsExpression ts e → AreTokens ts → AreTokens (whole e)
+pub whole_are : {ts : List Token} {e : Term Name} → IsExpression ts e → AreTokens ts → AreTokens (whole e)
 whole_are {ts} {e} r a = enclosed_are Disjunction e (bare_are r a)

@@ -5,7 +5,7 @@ use Rattle.desk_values.specs.declared.keyword.Keyword.TheVariants as word
 use Rattle.sql_reader.specs.declared.token.Sign.TheVariants as sign
 use Rattle.sql_reader.specs.declared.token.Token.{Token}
 use Rattle.sql_reader.specs.declared.token.Token.TheVariants as token
-use Rattle.sql_reader.specs.Plain.{Given, Selection, columns, values, aggregates, Parsed, select, next, insert, update, delete, commit, rollback, set_read_only}
+use Rattle.sql_tree.specs.Plain.{Entry, Asked, columns, values, totals, Plan, select, next, insert, update, delete, commit, rollback, set_read_only, Name}
 use Rattle.sql_reader.specs.Grammar as g
 use Rattle.sql_reader.specs.Grammar.{operator_token, Reads, IsExpression, Joined, IsList, IsName, IsKey, IsAggregate, IsInput, IsSetting, IsWhere, IsOrder, IsForUpdate, IsSelection, IsColumns, IsBody, IsStatementOf}
 use Rattle.sql_reader.specs.Scan.{◌>>=◌}
@@ -16,7 +16,7 @@ use Rattle.sql_reader.proofs.Firsts.{after_word_is, after_sign_is}
 use Rattle.sql_reader.proofs.Clauses.{FrontOf, SoundOf, got, whole_sound, name_is, name_sound, list_sound, aggregate_sound, draw_is, input_sound, setting_sound, where_sound, order_sound, for_update_sound, from_is}
 
 -- behind SELECT and the items
-rows_sound : (items : Selection) (before us ts : List Token) (s : Parsed) (rest : List Token) → IsSelection before items → us ≡ before ++ ts → rows_at items ts ≡ Some (s, rest) → FrontOf IsBody (token.Word word.Select ∷ us) s rest
+rows_sound : (items : Asked Name) (before us ts : List Token) (s : Plan Name) (rest : List Token) → IsSelection before items → us ≡ before ++ ts → rows_at items ts ≡ Some (s, rest) → FrontOf IsBody (token.Word word.Select ∷ us) s rest
 unfolding rows_at
 rows_sound items before us ts s rest is all h =
     bind_then (from_at ts) (λ table. where_at table.1 >>= λ condition. order_at condition.1 >>= λ keys. for_update_at keys.1 >>= λ held. Some (select table.0 items condition.0 keys.0 held.0, held.1)) (s, rest) h (λ table et e1.
@@ -34,29 +34,29 @@ rows_sound items before us ts s rest is all h =
       reads = g.select_ is w.reads o.reads f.reads;
     })))))
 
-aggregates_sound : (ts : List Token) (s : Parsed) (rest : List Token) → aggregates_at ts ≡ Some (s, rest) → FrontOf IsBody (token.Word word.Select ∷ ts) s rest
+aggregates_sound : (ts : List Token) (s : Plan Name) (rest : List Token) → aggregates_at ts ≡ Some (s, rest) → FrontOf IsBody (token.Word word.Select ∷ ts) s rest
 unfolding aggregates_at
 aggregates_sound ts s rest h =
-    bind_then (list_at aggregate_at 16 ts) (λ items. from_at items.1 >>= λ table. where_at table.1 >>= λ condition. Some (select table.0 (aggregates items.0) condition.0 [] false, condition.1)) (s, rest) h (λ items ei e1.
-    bind_then (from_at items.1) (λ table. where_at table.1 >>= λ condition. Some (select table.0 (aggregates items.0) condition.0 [] false, condition.1)) (s, rest) e1 (λ table et e2.
-    bind_then (where_at table.1) (λ condition. Some (select table.0 (aggregates items.0) condition.0 [] false, condition.1)) (s, rest) e2 (λ condition ec e3.
+    bind_then (list_at aggregate_at 16 ts) (λ items. from_at items.1 >>= λ table. where_at table.1 >>= λ condition. Some (select table.0 (totals items.0) condition.0 [] false, condition.1)) (s, rest) h (λ items ei e1.
+    bind_then (from_at items.1) (λ table. where_at table.1 >>= λ condition. Some (select table.0 (totals items.0) condition.0 [] false, condition.1)) (s, rest) e1 (λ table et e2.
+    bind_then (where_at table.1) (λ condition. Some (select table.0 (totals items.0) condition.0 [] false, condition.1)) (s, rest) e2 (λ condition ec e3.
     let l = list_sound aggregate_at IsAggregate aggregate_sound ts items.0 items.1 ei in
     let w = where_sound table.1 condition.0 condition.1 ec in
     let chain : ts ≡ l.taken ++ token.Word word.From ∷ token.Name table.0 ∷ (w.taken ++ condition.1) = l.parts ∙ ap (λ (z : List Token). l.taken ++ z) (from_is items.1 table.0 table.1 et ∙ ap (λ (z : List Token). token.Word word.From ∷ token.Name table.0 ∷ z) w.parts) in
     let regroup : (l.taken ++ token.Word word.From ∷ token.Name table.0 ∷ w.taken) ++ condition.1 ≡ l.taken ++ token.Word word.From ∷ token.Name table.0 ∷ (w.taken ++ condition.1) = simp append_assoc in
-    got (select table.0 (aggregates items.0) condition.0 [] false) condition.1 s rest e3 (record {
+    got (select table.0 (totals items.0) condition.0 [] false) condition.1 s rest e3 (record {
       taken = token.Word word.Select ∷ (l.taken ++ token.Word word.From ∷ token.Name table.0 ∷ w.taken);
       parts = ap (λ (z : List Token). token.Word word.Select ∷ z) (chain ∙ sym regroup);
       reads = g.aggregate_ l.reads w.reads;
     }))))
 
-listed_sound : (ts : List Token) (s : Parsed) (rest : List Token) → listed_at ts ≡ Some (s, rest) → FrontOf IsBody (token.Word word.Select ∷ ts) s rest
+listed_sound : (ts : List Token) (s : Plan Name) (rest : List Token) → listed_at ts ≡ Some (s, rest) → FrontOf IsBody (token.Word word.Select ∷ ts) s rest
 listed_sound ts s rest h =
     bind_then (list_at expression_at 16 ts) (λ items. rows_at (values items.0) items.1) (s, rest) h (λ items ei e1.
     let l = list_sound expression_at IsExpression whole_sound ts items.0 items.1 ei in
     rows_sound (values items.0) l.taken ts items.1 s rest (g.list l.reads) l.parts e1)
 
-items_sound : (ts : List Token) (s : Parsed) (rest : List Token) → items_at ts ≡ Some (s, rest) → FrontOf IsBody (token.Word word.Select ∷ ts) s rest
+items_sound : (ts : List Token) (s : Plan Name) (rest : List Token) → items_at ts ≡ Some (s, rest) → FrontOf IsBody (token.Word word.Select ∷ ts) s rest
 items_sound ts s rest h =
     elim (cases_are (after_sign sign.Star ts) (cond (begins_aggregate ts) (aggregates_at ts) (listed_at ts)) (λ a. rows_at columns a) (Some (s, rest)) h) [
       | inl k ↦ elim (chosen (begins_aggregate ts) (aggregates_at ts) (listed_at ts) (Some (s, rest)) k.1) [
@@ -70,7 +70,7 @@ dual_is : (ts rest : List Token) → dual_at ts ≡ Some rest → ts ≡ token.W
 unfolding dual_at
 dual_is ts rest h = bind_then (after_word word.From ts) (λ a. after_word word.Dual a) rest h (λ a ea e1. after_word_is word.From ts a ea ∙ ap (λ (z : List Token). token.Word word.From ∷ z) (after_word_is word.Dual a rest e1))
 
-select_sound : (ts : List Token) (s : Parsed) (rest : List Token) → select_at ts ≡ Some (s, rest) → FrontOf IsBody (token.Word word.Select ∷ ts) s rest
+select_sound : (ts : List Token) (s : Plan Name) (rest : List Token) → select_at ts ≡ Some (s, rest) → FrontOf IsBody (token.Word word.Select ∷ ts) s rest
 unfolding select_at
 select_sound ts s rest h =
     elim (cases_are (draw_at ts) (items_at ts) (λ x. dual_at x.1 >>= λ q. Some (next x.0, q)) (Some (s, rest)) h) [
@@ -99,7 +99,7 @@ columns_sound ts names rest h =
     ]
 
 -- VALUES and the inputs in parentheses
-abbrev IsInputs : List Token → List Given → Type 0
+abbrev IsInputs : List Token → List (Entry Name) → Type 0
 IsInputs ts inputs = (us : List Token) × (ts ≡ token.Word word.Values ∷ token.Sign sign.Open ∷ (us ++ token.Sign sign.Close ∷ [])) × IsList IsInput us inputs
 
 inputs_sound : SoundOf inputs_at IsInputs
@@ -116,7 +116,7 @@ inputs_sound ts inputs rest h =
       reads = (l.taken, refl, l.reads);
     })))))
 
-insert_sound : (ts : List Token) (s : Parsed) (rest : List Token) → insert_at ts ≡ Some (s, rest) → FrontOf IsBody (token.Word word.Insert ∷ ts) s rest
+insert_sound : (ts : List Token) (s : Plan Name) (rest : List Token) → insert_at ts ≡ Some (s, rest) → FrontOf IsBody (token.Word word.Insert ∷ ts) s rest
 unfolding insert_at
 insert_sound ts s rest h =
     bind_then (after_word word.Into ts) (λ a. name_at a >>= λ table. columns_at table.1 >>= λ names. inputs_at names.1 >>= λ inputs. Some (insert table.0 names.0 inputs.0, inputs.1)) (s, rest) h (λ a ea e1.
@@ -133,7 +133,7 @@ insert_sound ts s rest h =
       reads = subst (λ (z : List Token). IsBody (token.Word word.Insert ∷ token.Word word.Into ∷ token.Name table.0 ∷ (c.taken ++ z)) (insert table.0 names.0 inputs.0)) (sym i.reads.1) (g.insert_ c.reads i.reads.2);
     })))))
 
-update_sound : (ts : List Token) (s : Parsed) (rest : List Token) → update_at ts ≡ Some (s, rest) → FrontOf IsBody (token.Word word.Update ∷ ts) s rest
+update_sound : (ts : List Token) (s : Plan Name) (rest : List Token) → update_at ts ≡ Some (s, rest) → FrontOf IsBody (token.Word word.Update ∷ ts) s rest
 unfolding update_at
 update_sound ts s rest h =
     bind_then (name_at ts) (λ table. after_word word.Set table.1 >>= λ a. list_at setting_at 16 a >>= λ settings. where_at settings.1 >>= λ condition. Some (update table.0 settings.0 condition.0, condition.1)) (s, rest) h (λ table et e1.
@@ -150,7 +150,7 @@ update_sound ts s rest h =
       reads = g.update_ l.reads w.reads;
     })))))
 
-delete_sound : (ts : List Token) (s : Parsed) (rest : List Token) → delete_at ts ≡ Some (s, rest) → FrontOf IsBody (token.Word word.Delete ∷ ts) s rest
+delete_sound : (ts : List Token) (s : Plan Name) (rest : List Token) → delete_at ts ≡ Some (s, rest) → FrontOf IsBody (token.Word word.Delete ∷ ts) s rest
 unfolding delete_at
 delete_sound ts s rest h =
     bind_then (from_at ts) (λ table. where_at table.1 >>= λ condition. Some (delete table.0 condition.0, condition.1)) (s, rest) h (λ table et e1.
@@ -162,7 +162,7 @@ delete_sound ts s rest h =
       reads = g.delete_ w.reads;
     })))
 
-set_sound : (ts : List Token) (s : Parsed) (rest : List Token) → set_at ts ≡ Some (s, rest) → FrontOf IsBody (token.Word word.Set ∷ ts) s rest
+set_sound : (ts : List Token) (s : Plan Name) (rest : List Token) → set_at ts ≡ Some (s, rest) → FrontOf IsBody (token.Word word.Set ∷ ts) s rest
 unfolding set_at
 set_sound ts s rest h =
     bind_then (after_word word.Transaction ts) (λ a. after_word word.Read a >>= λ b. after_word word.Only b >>= λ q. Some (set_read_only, q)) (s, rest) h (λ a ea e1.
@@ -185,11 +185,11 @@ body_sound (token.Word word.Rollback ∷ ts) s rest h = got rollback ts s rest h
 body_sound (token.Word word.Set ∷ ts) s rest h = set_sound ts s rest h
 body_sound other s rest h = nothing_is (s, rest) h
 
-only_empty : (a : Parsed) (ts : List Token) (s : Parsed) → only_if_empty a ts ≡ Some s → (ts ≡ []) × (a ≡ s)
+only_empty : (a : Plan Name) (ts : List Token) (s : Plan Name) → only_if_empty a ts ≡ Some s → (ts ≡ []) × (a ≡ s)
 only_empty a [] s e = (refl, some_is a s e)
 only_empty a (t ∷ ts) s e = nothing_is s e
 
-finished : (ts : List Token) (a : Parsed) (rest : List Token) (s : Parsed) (o : Option (List Token)) → FrontOf IsBody ts a rest → after_sign sign.Semicolon rest ≡ o → only_if_empty a (cases o rest (λ q. q)) ≡ Some s → IsStatementOf ts s
+finished : (ts : List Token) (a : Plan Name) (rest : List Token) (s : Plan Name) (o : Option (List Token)) → FrontOf IsBody ts a rest → after_sign sign.Semicolon rest ≡ o → only_if_empty a (cases o rest (λ q. q)) ≡ Some s → IsStatementOf ts s
 finished ts a rest s None f e h =
     let k = only_empty a rest s h in
     let all : ts ≡ f.taken = f.parts ∙ ap (λ (z : List Token). f.taken ++ z) k.0 ∙ append-nil f.taken in
@@ -199,7 +199,7 @@ finished ts a rest s (Some q) f e h =
     let all : ts ≡ f.taken ++ token.Sign sign.Semicolon ∷ [] = f.parts ∙ ap (λ (z : List Token). f.taken ++ z) (after_sign_is sign.Semicolon rest q e ∙ ap (λ (z : List Token). token.Sign sign.Semicolon ∷ z) k.0) in
     subst (IsStatementOf ts) k.1 (subst (λ (z : List Token). IsStatementOf z a) (sym all) (g.ended f.reads))
 
-pub statement_sound : (ts : List Token) (s : Parsed) → statement_at ts ≡ Some s → IsStatementOf ts s
+pub statement_sound : (ts : List Token) (s : Plan Name) → statement_at ts ≡ Some s → IsStatementOf ts s
 unfolding statement_at
 statement_sound ts s h =
     bind_then (body_at ts) (λ x. only_if_empty x.0 (without_semicolon x.1)) s h (λ x ex e1. finished ts x.0 x.1 s (after_sign sign.Semicolon x.1) (body_sound ts x.0 x.1 ex) refl e1)

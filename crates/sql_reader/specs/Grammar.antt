@@ -1,15 +1,16 @@
 -- The statement that tokens spell, with one case for each rule of the grammar.
 use Rattle.std.specs.Prelude.{◌≡◌, ℕ, suc, ◌≤◌, ℤ, Bool, true, false, List, [], ◌∷◌, ◌++◌, length, Option, None, Some}
-use Rattle.sql_reader.specs.declared.tree.Op.{Op}
-use Rattle.sql_reader.specs.declared.tree.Op.TheVariants as op
-use Rattle.sql_reader.specs.declared.tree.Key.{Key}
+use Rattle.sql_tree.specs.declared.tree.Op.{Op}
+use Rattle.sql_tree.specs.declared.tree.Op.TheVariants as op
+use Rattle.sql_tree.specs.declared.tree.Key.{Key}
+use Rattle.sql_tree.specs.Plain.{Name}
 use Rattle.sql_reader.specs.declared.part.Part.{Part}
 use Rattle.sql_reader.specs.declared.part.Part.TheVariants.{Disjunction, Conjunction, Negation, Comparison, Sum, Product, Factor, Primary}
 use Rattle.desk_values.specs.declared.keyword.Keyword.TheVariants as word
 use Rattle.sql_reader.specs.declared.token.Sign.TheVariants as sign
 use Rattle.sql_reader.specs.declared.token.Token.{Token}
 use Rattle.sql_reader.specs.declared.token.Token.TheVariants as token
-use Rattle.sql_reader.specs.Plain.{Expression, null, int, text, bind, column, rowid, neg, not, bin, is_null, not_null, Aggregate, count, total, least, greatest, Given, value, drawn, Assignment, Selection, columns, values, aggregates, Parsed, select, next, insert, update, delete, commit, rollback, set_read_only}
+use Rattle.sql_tree.specs.Plain.{Term, null, int, text, bind, column, rowid, neg, not, bin, is_null, not_null, Total, count, total, least, greatest, Entry, value, drawn, Change, Asked, columns, values, totals, Plan, select, next, insert, update, delete, commit, rollback, set_read_only, Name}
 
 -- the part of an expression in which the operator stands
 abbrev pub line_of : Op → Part
@@ -67,33 +68,33 @@ operator_token op.Div = token.Sign sign.Slash
 
 -- Reads part depth tokens e: the tokens are the expression e as that part, where parentheses, NOT and unary minus
 -- nest at most depth deep. a - b - c is (a - b) - c, and so on every line.
-pub data Reads : Part → ℕ → List Token → Expression → Type 0 where
-  conjunction : {d : ℕ} {ts : List Token} {e : Expression} → Reads Conjunction d ts e → Reads Disjunction d ts e
-  or_ : {d : ℕ} {ts us : List Token} {o : Op} {a b : Expression} → line_of o ≡ Disjunction → Reads Disjunction d ts a → Reads Conjunction d us b → Reads Disjunction d (ts ++ operator_token o ∷ us) (bin o a b)
-  negation : {d : ℕ} {ts : List Token} {e : Expression} → Reads Negation d ts e → Reads Conjunction d ts e
-  and_ : {d : ℕ} {ts us : List Token} {o : Op} {a b : Expression} → line_of o ≡ Conjunction → Reads Conjunction d ts a → Reads Negation d us b → Reads Conjunction d (ts ++ operator_token o ∷ us) (bin o a b)
-  comparison : {d : ℕ} {ts : List Token} {e : Expression} → Reads Comparison d ts e → Reads Negation d ts e
-  not_ : {d : ℕ} {ts : List Token} {e : Expression} → Reads Negation d ts e → Reads Negation (suc d) (token.Word word.Not ∷ ts) (not e)
-  sum_ : {d : ℕ} {ts : List Token} {e : Expression} → Reads Sum d ts e → Reads Comparison d ts e
-  compare_ : {d : ℕ} {ts us : List Token} {o : Op} {a b : Expression} → line_of o ≡ Comparison → Reads Sum d ts a → Reads Sum d us b → Reads Comparison d (ts ++ operator_token o ∷ us) (bin o a b)
-  is_null_ : {d : ℕ} {ts : List Token} {e : Expression} → Reads Sum d ts e → Reads Comparison d (ts ++ token.Word word.Is ∷ token.Word word.Null ∷ []) (is_null e)
-  not_null_ : {d : ℕ} {ts : List Token} {e : Expression} → Reads Sum d ts e → Reads Comparison d (ts ++ token.Word word.Is ∷ token.Word word.Not ∷ token.Word word.Null ∷ []) (not_null e)
-  product : {d : ℕ} {ts : List Token} {e : Expression} → Reads Product d ts e → Reads Sum d ts e
-  add_ : {d : ℕ} {ts us : List Token} {o : Op} {a b : Expression} → line_of o ≡ Sum → Reads Sum d ts a → Reads Product d us b → Reads Sum d (ts ++ operator_token o ∷ us) (bin o a b)
-  factor : {d : ℕ} {ts : List Token} {e : Expression} → Reads Factor d ts e → Reads Product d ts e
-  multiply_ : {d : ℕ} {ts us : List Token} {o : Op} {a b : Expression} → line_of o ≡ Product → Reads Product d ts a → Reads Factor d us b → Reads Product d (ts ++ operator_token o ∷ us) (bin o a b)
-  primary : {d : ℕ} {ts : List Token} {e : Expression} → Reads Primary d ts e → Reads Factor d ts e
-  minus_ : {d : ℕ} {ts : List Token} {e : Expression} → Reads Factor d ts e → Reads Factor (suc d) (token.Sign sign.Minus ∷ ts) (neg e)
+pub data Reads : Part → ℕ → List Token → Term Name → Type 0 where
+  conjunction : {d : ℕ} {ts : List Token} {e : Term Name} → Reads Conjunction d ts e → Reads Disjunction d ts e
+  or_ : {d : ℕ} {ts us : List Token} {o : Op} {a b : Term Name} → line_of o ≡ Disjunction → Reads Disjunction d ts a → Reads Conjunction d us b → Reads Disjunction d (ts ++ operator_token o ∷ us) (bin o a b)
+  negation : {d : ℕ} {ts : List Token} {e : Term Name} → Reads Negation d ts e → Reads Conjunction d ts e
+  and_ : {d : ℕ} {ts us : List Token} {o : Op} {a b : Term Name} → line_of o ≡ Conjunction → Reads Conjunction d ts a → Reads Negation d us b → Reads Conjunction d (ts ++ operator_token o ∷ us) (bin o a b)
+  comparison : {d : ℕ} {ts : List Token} {e : Term Name} → Reads Comparison d ts e → Reads Negation d ts e
+  not_ : {d : ℕ} {ts : List Token} {e : Term Name} → Reads Negation d ts e → Reads Negation (suc d) (token.Word word.Not ∷ ts) (not e)
+  sum_ : {d : ℕ} {ts : List Token} {e : Term Name} → Reads Sum d ts e → Reads Comparison d ts e
+  compare_ : {d : ℕ} {ts us : List Token} {o : Op} {a b : Term Name} → line_of o ≡ Comparison → Reads Sum d ts a → Reads Sum d us b → Reads Comparison d (ts ++ operator_token o ∷ us) (bin o a b)
+  is_null_ : {d : ℕ} {ts : List Token} {e : Term Name} → Reads Sum d ts e → Reads Comparison d (ts ++ token.Word word.Is ∷ token.Word word.Null ∷ []) (is_null e)
+  not_null_ : {d : ℕ} {ts : List Token} {e : Term Name} → Reads Sum d ts e → Reads Comparison d (ts ++ token.Word word.Is ∷ token.Word word.Not ∷ token.Word word.Null ∷ []) (not_null e)
+  product : {d : ℕ} {ts : List Token} {e : Term Name} → Reads Product d ts e → Reads Sum d ts e
+  add_ : {d : ℕ} {ts us : List Token} {o : Op} {a b : Term Name} → line_of o ≡ Sum → Reads Sum d ts a → Reads Product d us b → Reads Sum d (ts ++ operator_token o ∷ us) (bin o a b)
+  factor : {d : ℕ} {ts : List Token} {e : Term Name} → Reads Factor d ts e → Reads Product d ts e
+  multiply_ : {d : ℕ} {ts us : List Token} {o : Op} {a b : Term Name} → line_of o ≡ Product → Reads Product d ts a → Reads Factor d us b → Reads Product d (ts ++ operator_token o ∷ us) (bin o a b)
+  primary : {d : ℕ} {ts : List Token} {e : Term Name} → Reads Primary d ts e → Reads Factor d ts e
+  minus_ : {d : ℕ} {ts : List Token} {e : Term Name} → Reads Factor d ts e → Reads Factor (suc d) (token.Sign sign.Minus ∷ ts) (neg e)
   number : {d : ℕ} {n : ℤ} → Reads Primary d (token.Number n ∷ []) (int n)
   string : {d : ℕ} {t : List ℕ} → Reads Primary d (token.Text t ∷ []) (text t)
   null_ : {d : ℕ} → Reads Primary d (token.Word word.Null ∷ []) null
   bind_ : {d : ℕ} {n : ℕ} → Reads Primary d (token.Bind n ∷ []) (bind n)
   name : {d : ℕ} {n : List ℕ} → Reads Primary d (token.Name n ∷ []) (column n)
   rowid_ : {d : ℕ} → Reads Primary d (token.Word word.Rowid ∷ []) rowid
-  parentheses : {d : ℕ} {ts : List Token} {e : Expression} → Reads Disjunction d ts e → Reads Primary (suc d) (token.Sign sign.Open ∷ (ts ++ token.Sign sign.Close ∷ [])) e
+  parentheses : {d : ℕ} {ts : List Token} {e : Term Name} → Reads Disjunction d ts e → Reads Primary (suc d) (token.Sign sign.Open ∷ (ts ++ token.Sign sign.Close ∷ [])) e
 
 -- an expression, nested at most 32 deep
-abbrev pub IsExpression : List Token → Expression → Type 0
+abbrev pub IsExpression : List Token → Term Name → Type 0
 IsExpression ts e = Reads Disjunction 32 ts e
 
 -- members with commas between them
@@ -110,36 +111,36 @@ pub data IsName : List Token → List ℕ → Type 0 where
   name : {n : List ℕ} → IsName (token.Name n ∷ []) n
 
 -- a column to order by: ascending where nothing is said
-pub data IsKey : List Token → Key → Type 0 where
-  plain : {n : List ℕ} → IsKey (token.Name n ∷ []) (record { name = n; desc = false })
-  ascending : {n : List ℕ} → IsKey (token.Name n ∷ token.Word word.Asc ∷ []) (record { name = n; desc = false })
-  descending : {n : List ℕ} → IsKey (token.Name n ∷ token.Word word.Desc ∷ []) (record { name = n; desc = true })
+pub data IsKey : List Token → Key Name → Type 0 where
+  plain : {n : List ℕ} → IsKey (token.Name n ∷ []) (record { column = n; desc = false })
+  ascending : {n : List ℕ} → IsKey (token.Name n ∷ token.Word word.Asc ∷ []) (record { column = n; desc = false })
+  descending : {n : List ℕ} → IsKey (token.Name n ∷ token.Word word.Desc ∷ []) (record { column = n; desc = true })
 
 -- COUNT of a star, or SUM, MIN or MAX of an expression in parentheses
-pub data IsAggregate : List Token → Aggregate → Type 0 where
+pub data IsAggregate : List Token → Total Name → Type 0 where
   count_ : IsAggregate (token.Word word.Count ∷ token.Sign sign.Open ∷ token.Sign sign.Star ∷ token.Sign sign.Close ∷ []) count
-  sum_ : {ts : List Token} {e : Expression} → IsExpression ts e → IsAggregate (token.Word word.Sum ∷ token.Sign sign.Open ∷ (ts ++ token.Sign sign.Close ∷ [])) (total e)
-  min_ : {ts : List Token} {e : Expression} → IsExpression ts e → IsAggregate (token.Word word.Min ∷ token.Sign sign.Open ∷ (ts ++ token.Sign sign.Close ∷ [])) (least e)
-  max_ : {ts : List Token} {e : Expression} → IsExpression ts e → IsAggregate (token.Word word.Max ∷ token.Sign sign.Open ∷ (ts ++ token.Sign sign.Close ∷ [])) (greatest e)
+  sum_ : {ts : List Token} {e : Term Name} → IsExpression ts e → IsAggregate (token.Word word.Sum ∷ token.Sign sign.Open ∷ (ts ++ token.Sign sign.Close ∷ [])) (total e)
+  min_ : {ts : List Token} {e : Term Name} → IsExpression ts e → IsAggregate (token.Word word.Min ∷ token.Sign sign.Open ∷ (ts ++ token.Sign sign.Close ∷ [])) (least e)
+  max_ : {ts : List Token} {e : Term Name} → IsExpression ts e → IsAggregate (token.Word word.Max ∷ token.Sign sign.Open ∷ (ts ++ token.Sign sign.Close ∷ [])) (greatest e)
 
 -- a value of an INSERT: an expression, or the next value of a sequence
-pub data IsInput : List Token → Given → Type 0 where
-  value_ : {ts : List Token} {e : Expression} → IsExpression ts e → IsInput ts (value e)
+pub data IsInput : List Token → Entry Name → Type 0 where
+  value_ : {ts : List Token} {e : Term Name} → IsExpression ts e → IsInput ts (value e)
   next_ : {n : List ℕ} → IsInput (token.Name n ∷ token.Sign sign.Dot ∷ token.Word word.Nextval ∷ []) (drawn n)
 
 -- a column, an equals sign and its new value
-pub data IsSetting : List Token → Assignment → Type 0 where
-  set_ : {n : List ℕ} {ts : List Token} {e : Expression} → IsExpression ts e → IsSetting (token.Name n ∷ token.Sign sign.Equal ∷ ts) (record { name = n; to = e })
+pub data IsSetting : List Token → Change Name → Type 0 where
+  set_ : {n : List ℕ} {ts : List Token} {e : Term Name} → IsExpression ts e → IsSetting (token.Name n ∷ token.Sign sign.Equal ∷ ts) (record { column = n; to = e })
 
 -- which rows: all of them where nothing stands
-pub data IsWhere : List Token → Option Expression → Type 0 where
+pub data IsWhere : List Token → Option (Term Name) → Type 0 where
   all_ : IsWhere [] None
-  where_ : {ts : List Token} {e : Expression} → IsExpression ts e → IsWhere (token.Word word.Where ∷ ts) (Some e)
+  where_ : {ts : List Token} {e : Term Name} → IsExpression ts e → IsWhere (token.Word word.Where ∷ ts) (Some e)
 
 -- the order of the rows: by row where nothing stands
-pub data IsOrder : List Token → List Key → Type 0 where
+pub data IsOrder : List Token → List (Key Name) → Type 0 where
   by_row : IsOrder [] []
-  by_keys : {ts : List Token} {keys : List Key} → IsList IsKey ts keys → IsOrder (token.Word word.Order ∷ token.Word word.By ∷ ts) keys
+  by_keys : {ts : List Token} {keys : List (Key Name)} → IsList IsKey ts keys → IsOrder (token.Word word.Order ∷ token.Word word.By ∷ ts) keys
 
 -- whether the rows are held
 pub data IsForUpdate : List Token → Bool → Type 0 where
@@ -147,9 +148,9 @@ pub data IsForUpdate : List Token → Bool → Type 0 where
   held : IsForUpdate (token.Word word.For ∷ token.Word word.Update ∷ []) true
 
 -- what a SELECT of rows asks for
-pub data IsSelection : List Token → Selection → Type 0 where
+pub data IsSelection : List Token → Asked Name → Type 0 where
   star : IsSelection (token.Sign sign.Star ∷ []) columns
-  list : {ts : List Token} {es : List Expression} → IsList IsExpression ts es → IsSelection ts (values es)
+  list : {ts : List Token} {es : List (Term Name)} → IsList IsExpression ts es → IsSelection ts (values es)
 
 -- the columns that an INSERT gives: all of them where none is named
 pub data IsColumns : List Token → Option (List (List ℕ)) → Type 0 where
@@ -157,18 +158,18 @@ pub data IsColumns : List Token → Option (List (List ℕ)) → Type 0 where
   some_ : {ts : List Token} {names : List (List ℕ)} → IsList IsName ts names → IsColumns (token.Sign sign.Open ∷ (ts ++ token.Sign sign.Close ∷ [])) (Some names)
 
 -- a statement without the semicolon at its end
-pub data IsBody : List Token → Parsed → Type 0 where
-  select_ : {ts ws os fs : List Token} {items : Selection} {table : List ℕ} {condition : Option Expression} {keys : List Key} {for_update : Bool} → IsSelection ts items → IsWhere ws condition → IsOrder os keys → IsForUpdate fs for_update → IsBody (token.Word word.Select ∷ (ts ++ token.Word word.From ∷ token.Name table ∷ (ws ++ (os ++ fs)))) (select table items condition keys for_update)
-  aggregate_ : {ts ws : List Token} {items : List Aggregate} {table : List ℕ} {condition : Option Expression} → IsList IsAggregate ts items → IsWhere ws condition → IsBody (token.Word word.Select ∷ (ts ++ token.Word word.From ∷ token.Name table ∷ ws)) (select table (aggregates items) condition [] false)
+pub data IsBody : List Token → Plan Name → Type 0 where
+  select_ : {ts ws os fs : List Token} {items : Asked Name} {table : List ℕ} {condition : Option (Term Name)} {keys : List (Key Name)} {for_update : Bool} → IsSelection ts items → IsWhere ws condition → IsOrder os keys → IsForUpdate fs for_update → IsBody (token.Word word.Select ∷ (ts ++ token.Word word.From ∷ token.Name table ∷ (ws ++ (os ++ fs)))) (select table items condition keys for_update)
+  aggregate_ : {ts ws : List Token} {items : List (Total Name)} {table : List ℕ} {condition : Option (Term Name)} → IsList IsAggregate ts items → IsWhere ws condition → IsBody (token.Word word.Select ∷ (ts ++ token.Word word.From ∷ token.Name table ∷ ws)) (select table (totals items) condition [] false)
   draw_ : {n : List ℕ} → IsBody (token.Word word.Select ∷ token.Name n ∷ token.Sign sign.Dot ∷ token.Word word.Nextval ∷ token.Word word.From ∷ token.Word word.Dual ∷ []) (next n)
-  insert_ : {cs is : List Token} {table : List ℕ} {names : Option (List (List ℕ))} {inputs : List Given} → IsColumns cs names → IsList IsInput is inputs → IsBody (token.Word word.Insert ∷ token.Word word.Into ∷ token.Name table ∷ (cs ++ token.Word word.Values ∷ token.Sign sign.Open ∷ (is ++ token.Sign sign.Close ∷ []))) (insert table names inputs)
-  update_ : {ss ws : List Token} {table : List ℕ} {settings : List Assignment} {condition : Option Expression} → IsList IsSetting ss settings → IsWhere ws condition → IsBody (token.Word word.Update ∷ token.Name table ∷ token.Word word.Set ∷ (ss ++ ws)) (update table settings condition)
-  delete_ : {ws : List Token} {table : List ℕ} {condition : Option Expression} → IsWhere ws condition → IsBody (token.Word word.Delete ∷ token.Word word.From ∷ token.Name table ∷ ws) (delete table condition)
+  insert_ : {cs is : List Token} {table : List ℕ} {names : Option (List (List ℕ))} {inputs : List (Entry Name)} → IsColumns cs names → IsList IsInput is inputs → IsBody (token.Word word.Insert ∷ token.Word word.Into ∷ token.Name table ∷ (cs ++ token.Word word.Values ∷ token.Sign sign.Open ∷ (is ++ token.Sign sign.Close ∷ []))) (insert table names inputs)
+  update_ : {ss ws : List Token} {table : List ℕ} {settings : List (Change Name)} {condition : Option (Term Name)} → IsList IsSetting ss settings → IsWhere ws condition → IsBody (token.Word word.Update ∷ token.Name table ∷ token.Word word.Set ∷ (ss ++ ws)) (update table settings condition)
+  delete_ : {ws : List Token} {table : List ℕ} {condition : Option (Term Name)} → IsWhere ws condition → IsBody (token.Word word.Delete ∷ token.Word word.From ∷ token.Name table ∷ ws) (delete table condition)
   commit_ : IsBody (token.Word word.Commit ∷ []) commit
   rollback_ : IsBody (token.Word word.Rollback ∷ []) rollback
   set_read_only_ : IsBody (token.Word word.Set ∷ token.Word word.Transaction ∷ token.Word word.Read ∷ token.Word word.Only ∷ []) set_read_only
 
 -- a statement, with or without a semicolon at its end
-pub data IsStatementOf : List Token → Parsed → Type 0 where
-  bare : {ts : List Token} {s : Parsed} → IsBody ts s → IsStatementOf ts s
-  ended : {ts : List Token} {s : Parsed} → IsBody ts s → IsStatementOf (ts ++ token.Sign sign.Semicolon ∷ []) s
+pub data IsStatementOf : List Token → Plan Name → Type 0 where
+  bare : {ts : List Token} {s : Plan Name} → IsBody ts s → IsStatementOf ts s
+  ended : {ts : List Token} {s : Plan Name} → IsBody ts s → IsStatementOf (ts ++ token.Sign sign.Semicolon ∷ []) s

@@ -1,4 +1,3 @@
-pub mod Plain
 pub mod Words
 pub mod Lexical
 pub mod Grammar

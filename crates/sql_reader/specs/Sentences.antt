@@ -1,12 +1,13 @@
 -- What reading gives of the tokens of a statement.
 use Rattle.std.specs.Prelude.{ℕ, zero, suc, Bool, true, false, if◌then◌else◌, List, [], ◌∷◌, Option, None, Some}
-use Rattle.sql_reader.specs.declared.tree.Key.{Key}
+use Rattle.sql_tree.specs.declared.tree.Key.{Key}
+use Rattle.sql_tree.specs.Plain.{Name}
 use Rattle.desk_values.specs.declared.keyword.Keyword.{Keyword}
 use Rattle.desk_values.specs.declared.keyword.Keyword.TheVariants as word
 use Rattle.sql_reader.specs.declared.token.Sign.TheVariants as sign
 use Rattle.sql_reader.specs.declared.token.Token.{Token}
 use Rattle.sql_reader.specs.declared.token.Token.TheVariants as token
-use Rattle.sql_reader.specs.Plain.{Expression, Aggregate, count, total, least, greatest, Given, value, drawn, Assignment, Selection, columns, values, aggregates, Parsed, select, next, insert, update, delete, commit, rollback, set_read_only}
+use Rattle.sql_tree.specs.Plain.{Term, Total, count, total, least, greatest, Entry, value, drawn, Change, Asked, columns, values, totals, Plan, select, next, insert, update, delete, commit, rollback, set_read_only, Name}
 use Rattle.sql_reader.specs.Scan.{◌>>=◌, scanned}
 use Rattle.sql_reader.specs.Descent.{cases, after_word, after_sign, expression_at}
 
@@ -20,11 +21,11 @@ name_at (token.Name n ∷ rest) = Some (n, rest)
 name_at other = None
 
 -- a name, ASC or DESC behind it
-unfoldable pub key_at : List Token → Option (Key × List Token)
-key_at ts = name_at ts >>= λ x. cases (after_word word.Desc x.1) (cases (after_word word.Asc x.1) (Some (record { name = x.0; desc = false }, x.1)) (λ rest. Some (record { name = x.0; desc = false }, rest))) (λ rest. Some (record { name = x.0; desc = true }, rest))
+unfoldable pub key_at : List Token → Option (Key Name × List Token)
+key_at ts = name_at ts >>= λ x. cases (after_word word.Desc x.1) (cases (after_word word.Asc x.1) (Some (record { column = x.0; desc = false }, x.1)) (λ rest. Some (record { column = x.0; desc = false }, rest))) (λ rest. Some (record { column = x.0; desc = true }, rest))
 
 -- an expression in parentheses
-unfoldable pub enclosed_at : List Token → Option (Expression × List Token)
+unfoldable pub enclosed_at : List Token → Option (Term Name × List Token)
 enclosed_at ts = do
   inside ← after_sign sign.Open ts
   x ← expression_at inside
@@ -37,10 +38,10 @@ counted_at ts = do
   b ← after_sign sign.Star a
   after_sign sign.Close b
 
-abbrev pub made_of : (Expression → Aggregate) → List Token → Option (Aggregate × List Token)
+abbrev pub made_of : (Term Name → Total Name) → List Token → Option (Total Name × List Token)
 made_of make ts = enclosed_at ts >>= λ x. Some (make x.0, x.1)
 
-unfoldable pub aggregate_at : List Token → Option (Aggregate × List Token)
+unfoldable pub aggregate_at : List Token → Option (Total Name × List Token)
 aggregate_at (token.Word word.Count ∷ rest) = counted_at rest >>= λ after. Some (count, after)
 aggregate_at (token.Word word.Sum ∷ rest) = made_of total rest
 aggregate_at (token.Word word.Min ∷ rest) = made_of least rest
@@ -55,20 +56,20 @@ draw_at ts = do
   rest ← after_word word.Nextval after
   Some (x.0, rest)
 
-unfoldable pub input_at : List Token → Option (Given × List Token)
+unfoldable pub input_at : List Token → Option (Entry Name × List Token)
 input_at ts = cases (draw_at ts) (expression_at ts >>= λ x. Some (value x.0, x.1)) (λ x. Some (drawn x.0, x.1))
 
-unfoldable pub setting_at : List Token → Option (Assignment × List Token)
+unfoldable pub setting_at : List Token → Option (Change Name × List Token)
 setting_at ts = do
   x ← name_at ts
   after ← after_sign sign.Equal x.1
   to ← expression_at after
-  Some (record { name = x.0; to = to.0 }, to.1)
+  Some (record { column = x.0; to = to.0 }, to.1)
 
-unfoldable pub where_at : List Token → Option (Option Expression × List Token)
+unfoldable pub where_at : List Token → Option (Option (Term Name) × List Token)
 where_at ts = cases (after_word word.Where ts) (Some (None, ts)) (λ after. expression_at after >>= λ x. Some (Some x.0, x.1))
 
-unfoldable pub order_at : List Token → Option (List Key × List Token)
+unfoldable pub order_at : List Token → Option (List (Key Name) × List Token)
 order_at ts = cases (after_word word.Order ts) (Some ([], ts)) (λ after. after_word word.By after >>= λ keys. list_at key_at 16 keys)
 
 unfoldable pub for_update_at : List Token → Option (Bool × List Token)
@@ -89,15 +90,15 @@ abbrev pub begins_aggregate : List Token → Bool
 begins_aggregate (token.Word keyword ∷ rest) = is_aggregate_word keyword
 begins_aggregate other = false
 
-unfoldable pub aggregates_at : List Token → Option (Parsed × List Token)
+unfoldable pub aggregates_at : List Token → Option (Plan Name × List Token)
 aggregates_at ts = do
   items ← list_at aggregate_at 16 ts
   table ← from_at items.1
   condition ← where_at table.1
-  Some (select table.0 (aggregates items.0) condition.0 [] false, condition.1)
+  Some (select table.0 (totals items.0) condition.0 [] false, condition.1)
 
 -- what comes after the items of a SELECT of rows
-unfoldable pub rows_at : Selection → List Token → Option (Parsed × List Token)
+unfoldable pub rows_at : Asked Name → List Token → Option (Plan Name × List Token)
 rows_at items ts = do
   table ← from_at ts
   condition ← where_at table.1
@@ -105,23 +106,23 @@ rows_at items ts = do
   held ← for_update_at keys.1
   Some (select table.0 items condition.0 keys.0 held.0, held.1)
 
-abbrev pub listed_at : List Token → Option (Parsed × List Token)
+abbrev pub listed_at : List Token → Option (Plan Name × List Token)
 listed_at ts = list_at expression_at 16 ts >>= λ items. rows_at (values items.0) items.1
 
 -- FROM DUAL
 unfoldable pub dual_at : List Token → Option (List Token)
 dual_at ts = after_word word.From ts >>= λ rest. after_word word.Dual rest
 
-abbrev pub items_at : List Token → Option (Parsed × List Token)
+abbrev pub items_at : List Token → Option (Plan Name × List Token)
 items_at ts = cases (after_sign sign.Star ts) (if begins_aggregate ts then aggregates_at ts else listed_at ts) (λ rest. rows_at columns rest)
 
-unfoldable pub select_at : List Token → Option (Parsed × List Token)
+unfoldable pub select_at : List Token → Option (Plan Name × List Token)
 select_at ts = cases (draw_at ts) (items_at ts) (λ x. dual_at x.1 >>= λ rest. Some (next x.0, rest))
 
 unfoldable pub columns_at : List Token → Option (Option (List (List ℕ)) × List Token)
 columns_at ts = cases (after_sign sign.Open ts) (Some (None, ts)) (λ inside. list_at name_at 16 inside >>= λ names. after_sign sign.Close names.1 >>= λ rest. Some (Some names.0, rest))
 
-unfoldable pub inputs_at : List Token → Option (List Given × List Token)
+unfoldable pub inputs_at : List Token → Option (List (Entry Name) × List Token)
 inputs_at ts = do
   after ← after_word word.Values ts
   inside ← after_sign sign.Open after
@@ -129,7 +130,7 @@ inputs_at ts = do
   rest ← after_sign sign.Close inputs.1
   Some (inputs.0, rest)
 
-unfoldable pub insert_at : List Token → Option (Parsed × List Token)
+unfoldable pub insert_at : List Token → Option (Plan Name × List Token)
 insert_at ts = do
   after ← after_word word.Into ts
   table ← name_at after
@@ -137,7 +138,7 @@ insert_at ts = do
   inputs ← inputs_at names.1
   Some (insert table.0 names.0 inputs.0, inputs.1)
 
-unfoldable pub update_at : List Token → Option (Parsed × List Token)
+unfoldable pub update_at : List Token → Option (Plan Name × List Token)
 update_at ts = do
   table ← name_at ts
   after ← after_word word.Set table.1
@@ -145,20 +146,20 @@ update_at ts = do
   condition ← where_at settings.1
   Some (update table.0 settings.0 condition.0, condition.1)
 
-unfoldable pub delete_at : List Token → Option (Parsed × List Token)
+unfoldable pub delete_at : List Token → Option (Plan Name × List Token)
 delete_at ts = do
   table ← from_at ts
   condition ← where_at table.1
   Some (delete table.0 condition.0, condition.1)
 
-unfoldable pub set_at : List Token → Option (Parsed × List Token)
+unfoldable pub set_at : List Token → Option (Plan Name × List Token)
 set_at ts = do
   a ← after_word word.Transaction ts
   b ← after_word word.Read a
   rest ← after_word word.Only b
   Some (set_read_only, rest)
 
-unfoldable pub body_at : List Token → Option (Parsed × List Token)
+unfoldable pub body_at : List Token → Option (Plan Name × List Token)
 body_at (token.Word word.Select ∷ rest) = select_at rest
 body_at (token.Word word.Insert ∷ rest) = insert_at rest
 body_at (token.Word word.Update ∷ rest) = update_at rest
@@ -172,13 +173,13 @@ body_at other = None
 abbrev pub without_semicolon : List Token → List Token
 without_semicolon ts = cases (after_sign sign.Semicolon ts) ts (λ rest. rest)
 
-abbrev pub only_if_empty : Parsed → List Token → Option Parsed
+abbrev pub only_if_empty : Plan Name → List Token → Option (Plan Name)
 only_if_empty statement [] = Some statement
 only_if_empty statement (t ∷ rest) = None
 
-unfoldable pub statement_at : List Token → Option Parsed
+unfoldable pub statement_at : List Token → Option (Plan Name)
 statement_at ts = body_at ts >>= λ x. only_if_empty x.0 (without_semicolon x.1)
 
 -- bytes, scanned and then read
-unfoldable pub read_at : List ℕ → Option Parsed
+unfoldable pub read_at : List ℕ → Option (Plan Name)
 read_at bytes = scanned bytes >>= λ tokens. statement_at tokens

@@ -5,16 +5,16 @@ use Rattle.sql_reader.specs.declared.error.SqlErr.TheVariants as error
 use Rattle.desk_values.specs.declared.text.TxtErr.{TxtErr}
 use Rattle.desk_values.specs.declared.text.TxtErr.TheVariants as text_error
 use Rattle.sql_reader.specs.declared.token.Token.{Token}
-use Rattle.sql_reader.specs.Plain.{Parsed}
+use Rattle.sql_tree.specs.Plain.{Plan, Name}
 use Rattle.sql_reader.specs.Lexical.{Tokens}
 use Rattle.sql_reader.specs.Grammar.{IsStatementOf}
 
 -- the text is tokens that are the statement
-abbrev pub Spells : List ℕ → Parsed → Type 0
+abbrev pub Spells : List ℕ → Plan Name → Type 0
 Spells text statement = (tokens : List Token) × Tokens text tokens × IsStatementOf tokens statement
 
 -- some text spells the statement
-abbrev pub IsStatement : Parsed → Type 0
+abbrev pub IsStatement : Plan Name → Type 0
 IsStatement statement = (text : List ℕ) × Spells text statement
 
 -- the error for bytes that are no text of the desk: it may be for want of memory

@@ -1,7 +1,7 @@
 -- The signs of the language, and the operators that words and signs are.
 use Rattle.std.specs.Prelude.{ℕ, List, codes, Bool, ◌==◌, Option, None, Some}
-use Rattle.sql_reader.specs.declared.tree.Op.{Op}
-use Rattle.sql_reader.specs.declared.tree.Op.TheVariants as op
+use Rattle.sql_tree.specs.declared.tree.Op.{Op}
+use Rattle.sql_tree.specs.declared.tree.Op.TheVariants as op
 use Rattle.desk_values.specs.declared.keyword.Keyword.{Keyword}
 use Rattle.desk_values.specs.declared.keyword.Keyword.TheVariants as word
 use Rattle.sql_reader.specs.declared.token.Sign.{Sign}

@@ -2,7 +2,7 @@
 //! than the text nests; a line of operators is read by a loop.
 
 ghost use Rattle.std.specs.Prelude.{◌≡◌, ◌<◌};
-ghost use Rattle.sql_reader.specs.Plain.{tree_of};
+ghost use Rattle.sql_tree.specs.Plain.{term_of};
 ghost use Rattle.sql_reader.specs.Grammar.{looseness, right_of};
 ghost use Rattle.sql_reader.specs.Spelling.{Gives, Finds};
 ghost use Rattle.sql_reader.specs.Descent.{after_word, after_sign, operator_of, operator_at, chain_at, null_test, primary_in, factor_in, compared_in, comparison_in, negation_in, part_in, inner_at, part_at};
@@ -68,13 +68,13 @@ fn operator(part: Part, tokens: &[Token]) -> Option<(Op, &[Token])>
 {
     let (first, rest) = tokens.split_first()?;
     let op = token_operator(first)?;
-    (op.part() == part).then_some((op, rest))
+    (Part::of(op) == part).then_some((op, rest))
 }
 
 // NULL or NOT NULL after IS.
 #[tactic(auto, unfolding(crate::specs::Descent::null_test))]
 fn null_test(alloc: Global, left: Expr, tokens: &[Token]) -> Result<(Expr, &[Token]), SqlErr>
-    ensures { Gives (λ x. (tree_of x.0, x.1.now)) result (null_test (tree_of left) tokens.now) }
+    ensures { Gives (λ x. (term_of x.0, x.1.now)) result (null_test (term_of left) tokens.now) }
 {
     if let Some(after) = after_word(Keyword::Not, tokens) {
         let rest = expect_word(Keyword::Null, after)?;
@@ -93,7 +93,7 @@ pub fn part(
     tokens: &[Token],
     depth: u32,
 ) -> Result<(Expr, &[Token]), SqlErr>
-    ensures { Gives (λ x. (tree_of x.0, x.1.now)) result (part_at depth wanted tokens.now) }
+    ensures { Gives (λ x. (term_of x.0, x.1.now)) result (part_at depth wanted tokens.now) }
 {
     match wanted {
         Part::Disjunction => chain(alloc, Part::Disjunction, tokens, depth),
@@ -115,7 +115,7 @@ fn nested(
     tokens: &[Token],
     depth: u32,
 ) -> Result<(Expr, &[Token]), SqlErr>
-    ensures { Gives (λ x. (tree_of x.0, x.1.now)) result (inner_at depth inner tokens.now) }
+    ensures { Gives (λ x. (term_of x.0, x.1.now)) result (inner_at depth inner tokens.now) }
 {
     if depth == 0 {
         return Err(SqlErr::Syntax);
@@ -132,7 +132,7 @@ fn chain(
     depth: u32,
 ) -> Result<(Expr, &[Token]), SqlErr>
     requires { looseness (right_of line) < looseness line }
-    ensures { Gives (λ x. (tree_of x.0, x.1.now)) result (chain_at (part_at depth (right_of line)) line tokens.now) }
+    ensures { Gives (λ x. (term_of x.0, x.1.now)) result (chain_at (part_at depth (right_of line)) line tokens.now) }
 {
     let (first, after) = part(alloc, line.right(), tokens, depth)?;
     let mut left = first;
@@ -151,7 +151,7 @@ fn chain(
 #[cycle(descent)]
 #[tactic(auto, unfolding(crate::specs::Descent::negation_in, crate::specs::Descent::part_at))]
 fn negation(alloc: Global, tokens: &[Token], depth: u32) -> Result<(Expr, &[Token]), SqlErr>
-    ensures { Gives (λ x. (tree_of x.0, x.1.now)) result (part_at depth Part.Negation tokens.now) }
+    ensures { Gives (λ x. (term_of x.0, x.1.now)) result (part_at depth Part.Negation tokens.now) }
 {
     if let Some(rest) = after_word(Keyword::Not, tokens) {
         let (of, rest) = nested(alloc, Part::Negation, rest, depth)?;
@@ -163,7 +163,7 @@ fn negation(alloc: Global, tokens: &[Token], depth: u32) -> Result<(Expr, &[Toke
 #[cycle(descent)]
 #[tactic(auto, unfolding(crate::specs::Descent::comparison_in, crate::specs::Descent::compared_in, crate::specs::Descent::part_at))]
 fn comparison(alloc: Global, tokens: &[Token], depth: u32) -> Result<(Expr, &[Token]), SqlErr>
-    ensures { Gives (λ x. (tree_of x.0, x.1.now)) result (part_at depth Part.Comparison tokens.now) }
+    ensures { Gives (λ x. (term_of x.0, x.1.now)) result (part_at depth Part.Comparison tokens.now) }
 {
     let (left, rest) = part(alloc, Part::Sum, tokens, depth)?;
     if let Some((op, after_operator)) = operator(Part::Comparison, rest) {
@@ -181,7 +181,7 @@ fn comparison(alloc: Global, tokens: &[Token], depth: u32) -> Result<(Expr, &[To
 #[cycle(descent)]
 #[tactic(auto, unfolding(crate::specs::Descent::factor_in, crate::specs::Descent::part_at))]
 fn factor(alloc: Global, tokens: &[Token], depth: u32) -> Result<(Expr, &[Token]), SqlErr>
-    ensures { Gives (λ x. (tree_of x.0, x.1.now)) result (part_at depth Part.Factor tokens.now) }
+    ensures { Gives (λ x. (term_of x.0, x.1.now)) result (part_at depth Part.Factor tokens.now) }
 {
     if let Some(rest) = after_sign(Sign::Minus, tokens) {
         let (of, rest) = nested(alloc, Part::Factor, rest, depth)?;
@@ -193,7 +193,7 @@ fn factor(alloc: Global, tokens: &[Token], depth: u32) -> Result<(Expr, &[Token]
 #[cycle(descent)]
 #[tactic(auto, unfolding(crate::specs::Descent::primary_in, crate::specs::Descent::part_at))]
 fn primary(alloc: Global, tokens: &[Token], depth: u32) -> Result<(Expr, &[Token]), SqlErr>
-    ensures { Gives (λ x. (tree_of x.0, x.1.now)) result (part_at depth Part.Primary tokens.now) }
+    ensures { Gives (λ x. (term_of x.0, x.1.now)) result (part_at depth Part.Primary tokens.now) }
 {
     match tokens {
         [Token::Number(number), rest @ ..] => Ok((Expr::Int(*number), rest)),

@@ -4,7 +4,6 @@
 //! spells the tree. It touches nothing but memory.
 #![tactic(auto)]
 
-mod copy;
 mod descent;
 mod error;
 mod part;

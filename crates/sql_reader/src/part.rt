@@ -47,14 +47,12 @@ impl Part {
             _ => Part::Factor,
         }
     }
-}
 
-impl Op {
     /// The part in which the operator stands.
-    pub(crate) fn part(self) -> Part
-        ensures { result ≡ line_of self }
+    pub(crate) fn of(op: Op) -> Part
+        ensures { result ≡ line_of op }
     {
-        match self {
+        match op {
             Op::Or => Part::Disjunction,
             Op::And => Part::Conjunction,
             Op::Eq | Op::Ne | Op::Lt | Op::Le | Op::Gt | Op::Ge => Part::Comparison,

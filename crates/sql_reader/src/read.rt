@@ -1,5 +1,5 @@
 ghost use Rattle.std.specs.Prelude.{◌≡◌, ℕ, List, Some, IfOk};
-ghost use Rattle.sql_reader.specs.Plain.{Parsed, parsed_of};
+ghost use Rattle.sql_tree.specs.Plain.{Plan, plan_of, Name};
 ghost use Rattle.sql_reader.specs.Spelling.{Spells, IsStatement, Gives};
 ghost use Rattle.sql_reader.specs.Sentences.{read_at};
 
@@ -19,18 +19,18 @@ use std::alloc::Global;
 /// `Syntax` exactly where the text spells no statement, and `Memory` where memory runs out.
 pub fn read_statement(alloc: Global, text: &Txt) -> Result<Statement, SqlErr>
     // The text spells what is given.
-    ensures ok { IfOk result (λ statement. Spells text.now (parsed_of statement)) }
+    ensures ok { IfOk result (λ statement. Spells text.now (plan_of statement)) }
     // It can be written.
-    ensures written { IfOk result (λ statement. IsStatement (parsed_of statement)) }
+    ensures written { IfOk result (λ statement. IsStatement (plan_of statement)) }
     // What the text spells is given, unless memory runs out.
-    ensures only { (statement : Parsed) → Spells text.now statement → Gives parsed_of result (Some statement) }
+    ensures only { (statement : Plan Name) → Spells text.now statement → Gives plan_of result (Some statement) }
 {
     read(alloc, text.as_str().as_bytes())
 }
 
 #[tactic(auto, unfolding(crate::specs::Sentences::read_at))]
 fn read(alloc: Global, text: &[u8]) -> Result<Statement, SqlErr>
-    ensures { Gives parsed_of result (read_at text.now) }
+    ensures { Gives plan_of result (read_at text.now) }
 {
     let tokens = scan(alloc, text)?;
     statement(alloc, &tokens)
@@ -38,5 +38,5 @@ fn read(alloc: Global, text: &[u8]) -> Result<Statement, SqlErr>
 
 /// A text spells at most one statement. The call does nothing: its clause is the law.
 pub fn one_statement()
-    ensures { (text : List ℕ) (a b : Parsed) → Spells text a → Spells text b → a ≡ b }
+    ensures { (text : List ℕ) (a b : Plan Name) → Spells text a → Spells text b → a ≡ b }
 {}

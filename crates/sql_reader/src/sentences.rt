@@ -2,8 +2,7 @@
 
 ghost use Rattle.std.specs.Prelude.{◌≡◌, map, ◌∷◌, [], List, Option};
 ghost use Rattle.sql_reader.specs.declared.token.Token.{Token as OneToken};
-ghost use Rattle.sql_reader.specs.declared.tree.Key.{Key as OneKey};
-ghost use Rattle.sql_reader.specs.Plain.{Expression, Aggregate, Given, Assignment, tree_of, optional_tree, aggregate_of, given_of, assignment_of, selection_of, parsed_of};
+ghost use Rattle.sql_tree.specs.Plain.{Term, Total, Entry, Change, term_of, condition_of, total_of, entry_of, change_of, asked_of, plan_of, Name};
 ghost use Rattle.sql_reader.specs.Spelling.{Gives, Finds};
 ghost use Rattle.sql_reader.specs.Descent.{expression_at};
 ghost use Rattle.sql_reader.specs.Sentences.{list_at, name_at, key_at, enclosed_at, counted_at, aggregate_at, draw_at, input_at, setting_at, where_at, order_at, for_update_at, from_at, is_aggregate_word, begins_aggregate, aggregates_at, rows_at, listed_at, dual_at, items_at, select_at, columns_at, inputs_at, insert_at, update_at, delete_at, set_at, body_at, statement_at};
@@ -55,10 +54,10 @@ fn list<T: Member>(alloc: Global, tokens: &[Token]) -> Result<(List<T>, &[Token]
 }
 
 impl Member for Expr {
-    ghost use Rattle.sql_reader.specs.Plain.{Expression as Tree, tree_of as tree};
+    ghost use Rattle.sql_tree.specs.Plain.{Term as Tree, Name, term_of as tree};
     ghost use Rattle.sql_reader.specs.Descent.{expression_at as read_expression};
 
-    ghost Plain = { Tree };
+    ghost Plain = { Tree Name };
 
     ghost view = { tree };
 
@@ -71,7 +70,7 @@ impl Member for Expr {
 
 /// The expression at the front, and the rest.
 pub fn expression(alloc: Global, tokens: &[Token]) -> Result<(Expr, &[Token]), SqlErr>
-    ensures { Gives (λ x. (tree_of x.0, x.1.now)) result (expression_at tokens.now) }
+    ensures { Gives (λ x. (term_of x.0, x.1.now)) result (expression_at tokens.now) }
 {
     part(alloc, Part::Disjunction, tokens, NESTING_LIMIT)
 }
@@ -106,21 +105,22 @@ impl Member for Txt {
 fn key(tokens: &[Token]) -> Result<(Key, &[Token]), SqlErr>
     ensures { Gives (λ x. (x.0, x.1.now)) result (key_at tokens.now) }
 {
-    let (name, after) = name(tokens)?;
+    let (column, after) = name(tokens)?;
     if let Some(rest) = after_word(Keyword::Desc, after) {
-        return Ok((Key { name, desc: true }, rest));
+        return Ok((Key { column, desc: true }, rest));
     }
     match after_word(Keyword::Asc, after) {
-        Some(rest) => Ok((Key { name, desc: false }, rest)),
-        None => Ok((Key { name, desc: false }, after)),
+        Some(rest) => Ok((Key { column, desc: false }, rest)),
+        None => Ok((Key { column, desc: false }, after)),
     }
 }
 
 impl Member for Key {
-    ghost use Rattle.sql_reader.specs.declared.tree.Key.{Key as Plainly};
+    ghost use Rattle.sql_tree.specs.declared.tree.Key.{Key as Plainly};
+    ghost use Rattle.sql_tree.specs.Plain.{Name};
     ghost use Rattle.sql_reader.specs.Sentences.{key_at as reading_of};
 
-    ghost Plain = { Plainly };
+    ghost Plain = { Plainly Name };
 
     ghost view = { λ key. key };
 
@@ -134,7 +134,7 @@ impl Member for Key {
 // An expression in parentheses.
 #[tactic(auto, unfolding(crate::specs::Sentences::enclosed_at))]
 fn enclosed(alloc: Global, tokens: &[Token]) -> Result<(Expr, &[Token]), SqlErr>
-    ensures { Gives (λ x. (tree_of x.0, x.1.now)) result (enclosed_at tokens.now) }
+    ensures { Gives (λ x. (term_of x.0, x.1.now)) result (enclosed_at tokens.now) }
 {
     let inside = expect_sign(Sign::Open, tokens)?;
     let (expr, after) = expression(alloc, inside)?;
@@ -153,7 +153,7 @@ fn counted(tokens: &[Token]) -> Result<&[Token], SqlErr>
 
 #[tactic(auto, unfolding(crate::specs::Sentences::aggregate_at))]
 fn aggregate(alloc: Global, tokens: &[Token]) -> Result<(Agg, &[Token]), SqlErr>
-    ensures { Gives (λ x. (aggregate_of x.0, x.1.now)) result (aggregate_at tokens.now) }
+    ensures { Gives (λ x. (total_of x.0, x.1.now)) result (aggregate_at tokens.now) }
 {
     let [Token::Word(word), rest @ ..] = tokens else {
         return Err(SqlErr::Syntax);
@@ -177,10 +177,10 @@ fn aggregate(alloc: Global, tokens: &[Token]) -> Result<(Agg, &[Token]), SqlErr>
 }
 
 impl Member for Agg {
-    ghost use Rattle.sql_reader.specs.Plain.{Aggregate as Plainly, aggregate_of as plain};
+    ghost use Rattle.sql_tree.specs.Plain.{Total as Plainly, Name, total_of as plain};
     ghost use Rattle.sql_reader.specs.Sentences.{aggregate_at as reading_of};
 
-    ghost Plain = { Plainly };
+    ghost Plain = { Plainly Name };
 
     ghost view = { plain };
 
@@ -214,7 +214,7 @@ fn first_name(tokens: &[Token]) -> Option<(&Txt, &[Token])>
 
 #[tactic(auto, unfolding(crate::specs::Sentences::input_at))]
 fn input(alloc: Global, tokens: &[Token]) -> Result<(Input, &[Token]), SqlErr>
-    ensures { Gives (λ x. (given_of x.0, x.1.now)) result (input_at tokens.now) }
+    ensures { Gives (λ x. (entry_of x.0, x.1.now)) result (input_at tokens.now) }
 {
     if let Some((sequence, rest)) = draw(tokens) {
         return Ok((Input::Next(sequence.copy()?), rest));
@@ -224,10 +224,10 @@ fn input(alloc: Global, tokens: &[Token]) -> Result<(Input, &[Token]), SqlErr>
 }
 
 impl Member for Input {
-    ghost use Rattle.sql_reader.specs.Plain.{Given as Plainly, given_of as plain};
+    ghost use Rattle.sql_tree.specs.Plain.{Entry as Plainly, Name, entry_of as plain};
     ghost use Rattle.sql_reader.specs.Sentences.{input_at as reading_of};
 
-    ghost Plain = { Plainly };
+    ghost Plain = { Plainly Name };
 
     ghost view = { plain };
 
@@ -240,19 +240,19 @@ impl Member for Input {
 
 #[tactic(auto, unfolding(crate::specs::Sentences::setting_at))]
 fn setting(alloc: Global, tokens: &[Token]) -> Result<(Setting, &[Token]), SqlErr>
-    ensures { Gives (λ x. (assignment_of x.0, x.1.now)) result (setting_at tokens.now) }
+    ensures { Gives (λ x. (change_of x.0, x.1.now)) result (setting_at tokens.now) }
 {
-    let (name, after) = name(tokens)?;
+    let (column, after) = name(tokens)?;
     let after_equal = expect_sign(Sign::Equal, after)?;
     let (to, rest) = expression(alloc, after_equal)?;
-    Ok((Setting { name, to }, rest))
+    Ok((Setting { column, to }, rest))
 }
 
 impl Member for Setting {
-    ghost use Rattle.sql_reader.specs.Plain.{Assignment as Plainly, assignment_of as plain};
+    ghost use Rattle.sql_tree.specs.Plain.{Change as Plainly, Name, change_of as plain};
     ghost use Rattle.sql_reader.specs.Sentences.{setting_at as reading_of};
 
-    ghost Plain = { Plainly };
+    ghost Plain = { Plainly Name };
 
     ghost view = { plain };
 
@@ -265,7 +265,7 @@ impl Member for Setting {
 
 #[tactic(auto, unfolding(crate::specs::Sentences::where_at))]
 fn condition(alloc: Global, tokens: &[Token]) -> Result<(Option<Expr>, &[Token]), SqlErr>
-    ensures { Gives (λ x. (optional_tree x.0, x.1.now)) result (where_at tokens.now) }
+    ensures { Gives (λ x. (condition_of x.0, x.1.now)) result (where_at tokens.now) }
 {
     let Some(after) = after_word(Keyword::Where, tokens) else {
         return Ok((None, tokens));
@@ -322,7 +322,7 @@ fn aggregate_word(word: Keyword) -> bool
 
 #[tactic(auto, unfolding(crate::specs::Sentences::aggregates_at))]
 fn select_aggregates(alloc: Global, tokens: &[Token]) -> Result<(Statement, &[Token]), SqlErr>
-    ensures { Gives (λ x. (parsed_of x.0, x.1.now)) result (aggregates_at tokens.now) }
+    ensures { Gives (λ x. (plan_of x.0, x.1.now)) result (aggregates_at tokens.now) }
 {
     let (aggs, after) = list(alloc, tokens)?;
     let (table, after) = from(after)?;
@@ -341,7 +341,7 @@ fn select_rows(
     items: Items,
     tokens: &[Token],
 ) -> Result<(Statement, &[Token]), SqlErr>
-    ensures { Gives (λ x. (parsed_of x.0, x.1.now)) result (rows_at (selection_of items) tokens.now) }
+    ensures { Gives (λ x. (plan_of x.0, x.1.now)) result (rows_at (asked_of items) tokens.now) }
 {
     let (table, after) = from(tokens)?;
     let (condition, after) = condition(alloc, after)?;
@@ -351,7 +351,7 @@ fn select_rows(
 }
 
 fn select_listed(alloc: Global, tokens: &[Token]) -> Result<(Statement, &[Token]), SqlErr>
-    ensures { Gives (λ x. (parsed_of x.0, x.1.now)) result (listed_at tokens.now) }
+    ensures { Gives (λ x. (plan_of x.0, x.1.now)) result (listed_at tokens.now) }
 {
     let (exprs, after) = list(alloc, tokens)?;
     select_rows(alloc, Items::Exprs(exprs), after)
@@ -365,7 +365,7 @@ fn dual(tokens: &[Token]) -> Result<&[Token], SqlErr>
 }
 
 fn select_items(alloc: Global, tokens: &[Token]) -> Result<(Statement, &[Token]), SqlErr>
-    ensures { Gives (λ x. (parsed_of x.0, x.1.now)) result (items_at tokens.now) }
+    ensures { Gives (λ x. (plan_of x.0, x.1.now)) result (items_at tokens.now) }
 {
     if let Some(after) = after_sign(Sign::Star, tokens) {
         return select_rows(alloc, Items::All, after);
@@ -379,7 +379,7 @@ fn select_items(alloc: Global, tokens: &[Token]) -> Result<(Statement, &[Token])
 
 #[tactic(auto, unfolding(crate::specs::Sentences::select_at))]
 fn select(alloc: Global, tokens: &[Token]) -> Result<(Statement, &[Token]), SqlErr>
-    ensures { Gives (λ x. (parsed_of x.0, x.1.now)) result (select_at tokens.now) }
+    ensures { Gives (λ x. (plan_of x.0, x.1.now)) result (select_at tokens.now) }
 {
     if let Some((sequence, after)) = draw(tokens) {
         let rest = dual(after)?;
@@ -401,7 +401,7 @@ fn columns(alloc: Global, tokens: &[Token]) -> Result<(Option<Names>, &[Token]),
 
 #[tactic(auto, unfolding(crate::specs::Sentences::inputs_at))]
 fn inputs(alloc: Global, tokens: &[Token]) -> Result<(Inputs, &[Token]), SqlErr>
-    ensures { Gives (λ x. (map given_of x.0, x.1.now)) result (inputs_at tokens.now) }
+    ensures { Gives (λ x. (map entry_of x.0, x.1.now)) result (inputs_at tokens.now) }
 {
     let after = expect_word(Keyword::Values, tokens)?;
     let inside = expect_sign(Sign::Open, after)?;
@@ -411,7 +411,7 @@ fn inputs(alloc: Global, tokens: &[Token]) -> Result<(Inputs, &[Token]), SqlErr>
 
 #[tactic(auto, unfolding(crate::specs::Sentences::insert_at))]
 fn insert(alloc: Global, tokens: &[Token]) -> Result<(Statement, &[Token]), SqlErr>
-    ensures { Gives (λ x. (parsed_of x.0, x.1.now)) result (insert_at tokens.now) }
+    ensures { Gives (λ x. (plan_of x.0, x.1.now)) result (insert_at tokens.now) }
 {
     let after = expect_word(Keyword::Into, tokens)?;
     let (table, after) = name(after)?;
@@ -422,7 +422,7 @@ fn insert(alloc: Global, tokens: &[Token]) -> Result<(Statement, &[Token]), SqlE
 
 #[tactic(auto, unfolding(crate::specs::Sentences::update_at))]
 fn update(alloc: Global, tokens: &[Token]) -> Result<(Statement, &[Token]), SqlErr>
-    ensures { Gives (λ x. (parsed_of x.0, x.1.now)) result (update_at tokens.now) }
+    ensures { Gives (λ x. (plan_of x.0, x.1.now)) result (update_at tokens.now) }
 {
     let (table, after) = name(tokens)?;
     let after = expect_word(Keyword::Set, after)?;
@@ -433,7 +433,7 @@ fn update(alloc: Global, tokens: &[Token]) -> Result<(Statement, &[Token]), SqlE
 
 #[tactic(auto, unfolding(crate::specs::Sentences::delete_at))]
 fn delete(alloc: Global, tokens: &[Token]) -> Result<(Statement, &[Token]), SqlErr>
-    ensures { Gives (λ x. (parsed_of x.0, x.1.now)) result (delete_at tokens.now) }
+    ensures { Gives (λ x. (plan_of x.0, x.1.now)) result (delete_at tokens.now) }
 {
     let (table, after) = from(tokens)?;
     let (condition, rest) = condition(alloc, after)?;
@@ -442,7 +442,7 @@ fn delete(alloc: Global, tokens: &[Token]) -> Result<(Statement, &[Token]), SqlE
 
 #[tactic(auto, unfolding(crate::specs::Sentences::set_at))]
 fn set_transaction(tokens: &[Token]) -> Result<(Statement, &[Token]), SqlErr>
-    ensures { Gives (λ x. (parsed_of x.0, x.1.now)) result (set_at tokens.now) }
+    ensures { Gives (λ x. (plan_of x.0, x.1.now)) result (set_at tokens.now) }
 {
     let after = expect_word(Keyword::Transaction, tokens)?;
     let after = expect_word(Keyword::Read, after)?;
@@ -451,7 +451,7 @@ fn set_transaction(tokens: &[Token]) -> Result<(Statement, &[Token]), SqlErr>
 
 #[tactic(auto, unfolding(crate::specs::Sentences::body_at))]
 fn body(alloc: Global, tokens: &[Token]) -> Result<(Statement, &[Token]), SqlErr>
-    ensures { Gives (λ x. (parsed_of x.0, x.1.now)) result (body_at tokens.now) }
+    ensures { Gives (λ x. (plan_of x.0, x.1.now)) result (body_at tokens.now) }
 {
     let [Token::Word(word), rest @ ..] = tokens else {
         return Err(SqlErr::Syntax);
@@ -471,7 +471,7 @@ fn body(alloc: Global, tokens: &[Token]) -> Result<(Statement, &[Token]), SqlErr
 /// The statement that the tokens are.
 #[tactic(auto, unfolding(crate::specs::Sentences::statement_at))]
 pub fn statement(alloc: Global, tokens: &[Token]) -> Result<Statement, SqlErr>
-    ensures { Gives parsed_of result (statement_at tokens.now) }
+    ensures { Gives plan_of result (statement_at tokens.now) }
 {
     let (statement, after) = body(alloc, tokens)?;
     let rest = match after_sign(Sign::Semicolon, after) {

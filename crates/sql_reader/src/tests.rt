@@ -1,5 +1,5 @@
 ghost use Rattle.std.specs.Prelude.{IfOk, IfSome};
-ghost use Rattle.sql_reader.specs.Plain.{parsed_of};
+ghost use Rattle.sql_tree.specs.Plain.{plan_of};
 ghost use Rattle.sql_reader.specs.Spelling.{IsStatement};
 
 mod limits;
@@ -14,7 +14,7 @@ use std::alloc::Global;
 use std::test::*;
 
 fn statement_of(alloc: Global, text: &str) -> Result<Option<Statement>, Fail>
-    ensures { IfOk result (λ found. IfSome found (λ statement. IsStatement (parsed_of statement))) }
+    ensures { IfOk result (λ found. IfSome found (λ statement. IsStatement (plan_of statement))) }
 {
     let Ok(text) = Txt::from_bytes(alloc, text.as_bytes()) else {
         return Err(Fail::new("no text"));

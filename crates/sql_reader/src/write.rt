@@ -1,7 +1,7 @@
 ghost use Rattle.std.specs.Prelude.{◌≡◌, ◌≤◌, List, IfOk};
 ghost use Rattle.sql_reader.specs.declared.token.Token.{Token};
 ghost use Rattle.sql_reader.specs.Grammar.{IsStatementOf};
-ghost use Rattle.sql_reader.specs.Plain.{Parsed, parsed_of};
+ghost use Rattle.sql_tree.specs.Plain.{Plan, plan_of, Name};
 ghost use Rattle.sql_reader.specs.Spelling.{Spells, IsStatement};
 ghost use Rattle.sql_reader.specs.Written.{opened, statement_tokens, written};
 
@@ -20,9 +20,9 @@ use std::alloc::Global;
 ///
 /// `Memory` where memory runs out.
 pub fn write_statement(alloc: Global, statement: &Statement) -> Result<Bytes, Memory>
-    requires { IsStatement (parsed_of statement.now) }
-    ensures written { IfOk result (λ bytes. bytes ≡ written (parsed_of statement.now)) }
-    ensures spells { IfOk result (λ bytes. Spells bytes (parsed_of statement.now)) }
+    requires { IsStatement (plan_of statement.now) }
+    ensures written { IfOk result (λ bytes. bytes ≡ written (plan_of statement.now)) }
+    ensures spells { IfOk result (λ bytes. Spells bytes (plan_of statement.now)) }
 {
     text(alloc, statement)
 }
@@ -30,5 +30,5 @@ pub fn write_statement(alloc: Global, statement: &Statement) -> Result<Bytes, Me
 /// No tokens that are the statement have fewer parentheses than those that are written. The call does nothing: its
 /// clause is the law.
 pub fn fewest_parentheses()
-    ensures { (statement : Parsed) (tokens : List Token) → IsStatementOf tokens statement → opened (statement_tokens statement) ≤ opened tokens }
+    ensures { (statement : Plan Name) (tokens : List Token) → IsStatementOf tokens statement → opened (statement_tokens statement) ≤ opened tokens }
 {}

@@ -6,7 +6,7 @@ ghost use Rattle.std.specs.List.{flat_map};
 ghost use Rattle.std.specs.Char.{to_ascii_uppercase};
 ghost use Rattle.sql_reader.specs.declared.token.Token.{Token as OneToken};
 ghost use Rattle.sql_reader.specs.declared.token.Token.TheVariants as token;
-ghost use Rattle.sql_reader.specs.Plain.{tree_of, optional_tree, aggregate_of, given_of, assignment_of, selection_of, parsed_of, select, next};
+ghost use Rattle.sql_tree.specs.Plain.{term_of, condition_of, total_of, entry_of, change_of, asked_of, plan_of, select, next};
 ghost use Rattle.sql_reader.specs.Lexical.{quoted};
 ghost use Rattle.sql_reader.specs.Grammar.{operator_token};
 ghost use Rattle.desk_values.specs.Keyword.{keyword_word};
@@ -116,12 +116,12 @@ fn operator(out: &mut Bytes, op: Op) -> Result<(), Memory>
 
 // The part that an expression is without parentheses.
 fn part(expr: &Expr) -> Part
-    ensures { result ≡ part_of (tree_of expr.now) }
+    ensures { result ≡ part_of (term_of expr.now) }
 {
     match expr {
         Expr::Neg(_) => Part::Factor,
         Expr::Not(_) => Part::Negation,
-        Expr::Bin(op, _, _) => op.part(),
+        Expr::Bin(op, _, _) => Part::of(*op),
         Expr::IsNull(_) => Part::Comparison,
         Expr::NotNull(_) => Part::Comparison,
         Expr::Null => Part::Primary,
@@ -137,7 +137,7 @@ fn part(expr: &Expr) -> Part
 // expression.
 #[cycle(written)]
 fn expression(out: &mut Bytes, wanted: Part, expr: &Expr) -> Result<(), Memory>
-    ensures { OnOk result (out.new ≡ out.old ++ spaced_all (expression_tokens wanted (tree_of expr.now))) }
+    ensures { OnOk result (out.new ≡ out.old ++ spaced_all (expression_tokens wanted (term_of expr.now))) }
 {
     if part(expr) <= wanted {
         return bare(out, expr);
@@ -150,7 +150,7 @@ fn expression(out: &mut Bytes, wanted: Part, expr: &Expr) -> Result<(), Memory>
 // An expression without parentheses around it.
 #[cycle(written)]
 fn bare(out: &mut Bytes, expr: &Expr) -> Result<(), Memory>
-    ensures { OnOk result (out.new ≡ out.old ++ spaced_all (bare_tokens (tree_of expr.now))) }
+    ensures { OnOk result (out.new ≡ out.old ++ spaced_all (bare_tokens (term_of expr.now))) }
 {
     match expr {
         Expr::Null => word(out, Keyword::Null),
@@ -168,9 +168,9 @@ fn bare(out: &mut Bytes, expr: &Expr) -> Result<(), Memory>
             expression(out, Part::Negation, of)
         }
         Expr::Bin(op, left, right) => {
-            expression(out, op.part().left(), left)?;
+            expression(out, Part::of(*op).left(), left)?;
             operator(out, *op)?;
-            expression(out, op.part().right(), right)
+            expression(out, Part::of(*op).right(), right)
         }
         Expr::IsNull(of) => {
             expression(out, Part::Sum, of)?;
@@ -217,7 +217,7 @@ fn further_members<T: Listed>(out: &mut Bytes, members: &[T]) -> Result<(), Memo
 }
 
 impl Listed for Expr {
-    ghost use Rattle.sql_reader.specs.Plain.{tree_of as plain};
+    ghost use Rattle.sql_tree.specs.Plain.{term_of as plain};
     ghost use Rattle.sql_reader.specs.Written.{whole as tokens_of};
 
     ghost tokens = { λ expr. tokens_of (plain expr) };
@@ -229,7 +229,7 @@ impl Listed for Expr {
 
 // A word and an expression in parentheses.
 fn call(out: &mut Bytes, function: Keyword, of: &Expr) -> Result<(), Memory>
-    ensures { OnOk result (out.new ≡ out.old ++ spaced_all (called (token.Word function) (tree_of of.now))) }
+    ensures { OnOk result (out.new ≡ out.old ++ spaced_all (called (token.Word function) (term_of of.now))) }
 {
     word(out, function)?;
     sign(out, Sign::Open)?;
@@ -238,7 +238,7 @@ fn call(out: &mut Bytes, function: Keyword, of: &Expr) -> Result<(), Memory>
 }
 
 impl Listed for Agg {
-    ghost use Rattle.sql_reader.specs.Plain.{aggregate_of as plain};
+    ghost use Rattle.sql_tree.specs.Plain.{total_of as plain};
     ghost use Rattle.sql_reader.specs.Written.{aggregate_tokens as tokens_of};
 
     ghost tokens = { λ agg. tokens_of (plain agg) };
@@ -259,7 +259,7 @@ impl Listed for Agg {
 }
 
 impl Listed for Input {
-    ghost use Rattle.sql_reader.specs.Plain.{given_of as plain};
+    ghost use Rattle.sql_tree.specs.Plain.{entry_of as plain};
     ghost use Rattle.sql_reader.specs.Written.{given_tokens as tokens_of};
 
     ghost tokens = { λ input. tokens_of (plain input) };
@@ -277,13 +277,13 @@ impl Listed for Input {
 }
 
 impl Listed for Setting {
-    ghost use Rattle.sql_reader.specs.Plain.{assignment_of as plain};
+    ghost use Rattle.sql_tree.specs.Plain.{change_of as plain};
     ghost use Rattle.sql_reader.specs.Written.{assignment_tokens as tokens_of};
 
     ghost tokens = { λ setting. tokens_of (plain setting) };
 
     fn write(&self, out: &mut Bytes) -> Result<(), Memory> {
-        name(out, &self.name)?;
+        name(out, &self.column)?;
         sign(out, Sign::Equal)?;
         expression(out, Part::Disjunction, &self.to)
     }
@@ -295,7 +295,7 @@ impl Listed for Key {
     ghost tokens = { tokens_of };
 
     fn write(&self, out: &mut Bytes) -> Result<(), Memory> {
-        name(out, &self.name)?;
+        name(out, &self.column)?;
         if self.desc {
             word(out, Keyword::Desc)?;
         }
@@ -315,7 +315,7 @@ impl Listed for Txt {
 
 #[tactic(auto, using(crate::proofs::Joined::joined_map))]
 fn selection(out: &mut Bytes, items: &Items) -> Result<(), Memory>
-    ensures { OnOk result (out.new ≡ out.old ++ spaced_all (selection_tokens (selection_of items.now))) }
+    ensures { OnOk result (out.new ≡ out.old ++ spaced_all (selection_tokens (asked_of items.now))) }
 {
     match items {
         Items::All => sign(out, Sign::Star),
@@ -325,7 +325,7 @@ fn selection(out: &mut Bytes, items: &Items) -> Result<(), Memory>
 }
 
 fn condition(out: &mut Bytes, condition: &Option<Expr>) -> Result<(), Memory>
-    ensures { OnOk result (out.new ≡ out.old ++ spaced_all (where_tokens (optional_tree condition.now))) }
+    ensures { OnOk result (out.new ≡ out.old ++ spaced_all (where_tokens (condition_of condition.now))) }
 {
     match condition {
         Some(expr) => {
@@ -372,20 +372,20 @@ fn columns(out: &mut Bytes, names: &Option<Names>) -> Result<(), Memory>
 
 #[tactic(auto, using(crate::proofs::Joined::joined_map))]
 fn given(out: &mut Bytes, inputs: &Inputs) -> Result<(), Memory>
-    ensures { OnOk result (out.new ≡ out.old ++ spaced_all (joined given_tokens (map given_of inputs.now))) }
+    ensures { OnOk result (out.new ≡ out.old ++ spaced_all (joined given_tokens (map entry_of inputs.now))) }
 {
     list(out, inputs.as_slice())
 }
 
 #[tactic(auto, using(crate::proofs::Joined::joined_map))]
 fn settings(out: &mut Bytes, sets: &Sets) -> Result<(), Memory>
-    ensures { OnOk result (out.new ≡ out.old ++ spaced_all (joined assignment_tokens (map assignment_of sets.now))) }
+    ensures { OnOk result (out.new ≡ out.old ++ spaced_all (joined assignment_tokens (map change_of sets.now))) }
 {
     list(out, sets.as_slice())
 }
 
 fn inputs(out: &mut Bytes, inputs: &Inputs) -> Result<(), Memory>
-    ensures { OnOk result (out.new ≡ out.old ++ spaced_all (inputs_tokens (map given_of inputs.now))) }
+    ensures { OnOk result (out.new ≡ out.old ++ spaced_all (inputs_tokens (map entry_of inputs.now))) }
 {
     word(out, Keyword::Values)?;
     sign(out, Sign::Open)?;
@@ -402,7 +402,7 @@ fn from(out: &mut Bytes, table: &Txt) -> Result<(), Memory>
 
 // What comes after the first word.
 fn further(out: &mut Bytes, statement: &Statement) -> Result<(), Memory>
-    ensures { OnOk result (out.new ≡ out.old ++ spaced_all (further_tokens (parsed_of statement.now))) }
+    ensures { OnOk result (out.new ≡ out.old ++ spaced_all (further_tokens (plan_of statement.now))) }
 {
     match statement {
         Statement::Select(table, items, condition, keys, held) => select(
@@ -443,7 +443,7 @@ fn select(
     keys: &Keys,
     held: bool,
 ) -> Result<(), Memory>
-    ensures { OnOk result (out.new ≡ out.old ++ spaced_all (further_tokens (select table.now (selection_of items.now) (optional_tree filter.now) keys.now held))) }
+    ensures { OnOk result (out.new ≡ out.old ++ spaced_all (further_tokens (select table.now (asked_of items.now) (condition_of filter.now) keys.now held))) }
 {
     selection(out, items)?;
     from(out, table)?;
@@ -463,7 +463,7 @@ fn next(out: &mut Bytes, sequence: &Txt) -> Result<(), Memory>
 }
 
 fn first(statement: &Statement) -> Keyword
-    ensures { result ≡ first_word (parsed_of statement.now) }
+    ensures { result ≡ first_word (plan_of statement.now) }
 {
     match statement {
         Statement::Select(..) | Statement::Next(_) => Keyword::Select,
@@ -479,7 +479,7 @@ fn first(statement: &Statement) -> Keyword
 /// The text of a statement: its tokens, parted by single spaces.
 #[tactic(auto, using(crate::proofs::Joined::written_is))]
 pub fn text(alloc: Global, statement: &Statement) -> Result<Bytes, Memory>
-    ensures { IfOk result (λ bytes. bytes ≡ written (parsed_of statement.now)) }
+    ensures { IfOk result (λ bytes. bytes ≡ written (plan_of statement.now)) }
 {
     let mut out = List::new(alloc);
     upper(&mut out, first(statement))?;

@@ -37,7 +37,7 @@ impl Shown for Agg {
 
 impl Shown for Key {
     fn shown(&self, alloc: Global) -> Result<String, Fail> {
-        Ok(format!(in alloc; "Key({}, {})", self.name.as_str(), self.desc)?)
+        Ok(format!(in alloc; "Key({}, {})", self.column.as_str(), self.desc)?)
     }
 }
 
@@ -53,7 +53,7 @@ impl Shown for Input {
 impl Shown for Setting {
     fn shown(&self, alloc: Global) -> Result<String, Fail> {
         let to = tree(alloc, &self.to)?;
-        Ok(format!(in alloc; "Setting({}, {to})", self.name.as_str())?)
+        Ok(format!(in alloc; "Setting({}, {to})", self.column.as_str())?)
     }
 }
 

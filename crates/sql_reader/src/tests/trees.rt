@@ -38,7 +38,7 @@ pub fn tree(alloc: Global, expr: &Expr) -> Result<String, Fail> {
 }
 
 // The tree of the expression that the text spells.
-fn tree_of(alloc: Global, expression: &str) -> Result<Option<String>, Fail> {
+fn term_of(alloc: Global, expression: &str) -> Result<Option<String>, Fail> {
     let text = format!(in alloc; "DELETE FROM t WHERE {expression}")?;
     match &statement_of(alloc, text.as_str())? {
         Some(Statement::Delete(_, Some(expr))) => Ok(Some(tree(alloc, expr)?)),
@@ -83,7 +83,7 @@ a - (b - c) => Sub(a, Sub(b, c))
 fn expressions_have_their_trees(rt: HostRuntime) -> Result<(), Fail> {
     for line in TREES.lines() {
         let (text, expected) = line.split_once(" => ").ok_or("two parts")?;
-        let found = tree_of(rt.alloc(), text)?.ok_or("an expression")?;
+        let found = term_of(rt.alloc(), text)?.ok_or("an expression")?;
         assert_eq!(rt; found.as_str(), expected, "{text}");
     }
     Ok(())
@@ -115,10 +115,10 @@ fn assert_grouping(
     bare: &str,
     is_bare: bool,
 ) -> Result<(), Fail> {
-    let found = tree_of(alloc, grouped)?.ok_or("an expression")?;
+    let found = term_of(alloc, grouped)?.ok_or("an expression")?;
     assert_eq!(rt; found.as_str(), expected, "{grouped}");
     let written = if is_bare { bare } else { grouped };
-    let found = tree_of(alloc, written)?.ok_or("an expression")?;
+    let found = term_of(alloc, written)?.ok_or("an expression")?;
     assert_eq!(rt; found.as_str(), expected, "{written}");
     let text = format!(in alloc; "DELETE FROM t WHERE {grouped}")?;
     let written = format!(in alloc; "DELETE FROM t WHERE {written}")?;
@@ -156,7 +156,7 @@ fn assert_pair(
         bare.as_str(),
         is_right,
     )?;
-    let is_read = tree_of(alloc, bare.as_str())?.is_some();
+    let is_read = term_of(alloc, bare.as_str())?.is_some();
     assert_eq!(rt; is_read, is_left || is_right, "{bare}");
     Ok(())
 }

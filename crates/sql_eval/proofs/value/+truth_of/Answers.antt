@@ -1,6 +1,6 @@
 use Rattle.std.proofs.Common.{◌≡◌, sym, ◌∙◌}
 use Rattle.std.specs.Prelude.{true}
-use Rattle.sql_eval.specs.Plain.{term_of}
+use Rattle.sql_tree.specs.Plain.{term_of}
 use Rattle.sql_eval.specs.Value.{is_connective}
 use Rattle.sql_eval.proofs.Condition.{joined_truth}
 use Rattle.sql_eval.proofs.value.+truth_of.Goals as goal

@@ -1,5 +1,5 @@
 use Rattle.std.proofs.Common.{◌≡◌, ◌+◌, ◌-◌, ◌*◌, length}
-use Rattle.sql_reader.specs.Plain.{tree_of}
+use Rattle.sql_tree.specs.Plain.{term_of}
 use Rattle.sql_reader.specs.Grammar.{looseness, right_of}
 use Rattle.sql_reader.specs.Descent.{more_at, chain_at, part_at}
 use Rattle.sql_reader.proofs.descent.+descent.Given as goal
@@ -27,4 +27,4 @@ abbrev pub decreases-nested : goal.decreases-nested
 decreases-nested l = 20 * l.depth
 
 abbrev pub invariant-chain-loop : goal.invariant-chain-loop
-invariant-chain-loop l = more_at (part_at l.depth (right_of l.line)) l.line (length l.tokens - l.counter) (tree_of l.left) l.rest ≡ chain_at (part_at l.depth (right_of l.line)) l.line l.tokens
+invariant-chain-loop l = more_at (part_at l.depth (right_of l.line)) l.line (length l.tokens - l.counter) (term_of l.left) l.rest ≡ chain_at (part_at l.depth (right_of l.line)) l.line l.tokens

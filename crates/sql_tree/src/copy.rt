@@ -2,16 +2,16 @@
 //! frame each.
 
 ghost use Rattle.std.specs.Prelude.{◌≡◌, IfOk, map};
-ghost use Rattle.sql_reader.specs.Plain.{tree_of, optional_tree, aggregate_of, given_of, assignment_of, selection_of, parsed_of};
+ghost use Rattle.sql_tree.specs.Plain.{term_of, condition_of, total_of, entry_of, change_of, asked_of, plan_of};
 
 use crate::tree::{Agg, Expr, Input, Items, Key, Setting, Statement};
 use desk_values::{Copied, List, Memory};
 use std::alloc::Global;
 
-impl Expr {
+impl<N: Copied> Expr<N> {
     /// An equal expression. `Memory` where memory runs out.
-    pub fn copy(&self, alloc: Global) -> Result<Expr, Memory>
-        ensures { IfOk result (λ copy. tree_of copy ≡ tree_of self.now) }
+    pub fn copy(&self, alloc: Global) -> Result<Expr<N>, Memory>
+        ensures { IfOk result (λ copy. term_of copy ≡ term_of self.now) }
     {
         match self {
             Expr::Null => Ok(Expr::Null),
@@ -45,10 +45,10 @@ impl Expr {
     }
 }
 
-impl Agg {
+impl<N: Copied> Agg<N> {
     /// An equal aggregate. `Memory` where memory runs out.
-    pub fn copy(&self, alloc: Global) -> Result<Agg, Memory>
-        ensures { IfOk result (λ copy. aggregate_of copy ≡ aggregate_of self.now) }
+    pub fn copy(&self, alloc: Global) -> Result<Agg<N>, Memory>
+        ensures { IfOk result (λ copy. total_of copy ≡ total_of self.now) }
     {
         match self {
             Agg::Count => Ok(Agg::Count),
@@ -59,10 +59,10 @@ impl Agg {
     }
 }
 
-impl Input {
+impl<N: Copied> Input<N> {
     /// An equal input. `Memory` where memory runs out.
-    pub fn copy(&self, alloc: Global) -> Result<Input, Memory>
-        ensures { IfOk result (λ copy. given_of copy ≡ given_of self.now) }
+    pub fn copy(&self, alloc: Global) -> Result<Input<N>, Memory>
+        ensures { IfOk result (λ copy. entry_of copy ≡ entry_of self.now) }
     {
         match self {
             Input::Expr(value) => Ok(Input::Expr(value.copy(alloc)?)),
@@ -71,22 +71,22 @@ impl Input {
     }
 }
 
-impl Setting {
+impl<N: Copied> Setting<N> {
     /// An equal setting. `Memory` where memory runs out.
-    pub fn copy(&self, alloc: Global) -> Result<Setting, Memory>
-        ensures { IfOk result (λ copy. assignment_of copy ≡ assignment_of self.now) }
+    pub fn copy(&self, alloc: Global) -> Result<Setting<N>, Memory>
+        ensures { IfOk result (λ copy. change_of copy ≡ change_of self.now) }
     {
-        let name = self.name.copy()?;
+        let column = self.column.copy()?;
         let to = self.to.copy(alloc)?;
-        Ok(Setting { name, to })
+        Ok(Setting { column, to })
     }
 }
 
-impl Copied for Key {
-    fn copy(&self) -> Result<Key, Memory> {
-        let name = self.name.copy()?;
+impl<N: Copied> Copied for Key<N> {
+    fn copy(&self) -> Result<Key<N>, Memory> {
+        let column = self.column.copy()?;
         Ok(Key {
-            name,
+            column,
             desc: self.desc,
         })
     }
@@ -103,50 +103,50 @@ trait CopiedTree: Drop + Sized {
         ensures { IfOk result (λ copy. view copy ≡ view self.now) };
 }
 
-impl CopiedTree for Expr {
-    ghost use Rattle.sql_reader.specs.Plain.{Expression as Plainly, tree_of as plain};
+impl<N: Copied> CopiedTree for Expr<N> {
+    ghost use Rattle.sql_tree.specs.Plain.{Term as Plainly, term_of as plain};
 
-    ghost Plain = { Plainly };
+    ghost Plain = { Plainly N };
 
     ghost view = { plain };
 
-    fn copy_tree(&self, alloc: Global) -> Result<Expr, Memory> {
+    fn copy_tree(&self, alloc: Global) -> Result<Expr<N>, Memory> {
         self.copy(alloc)
     }
 }
 
-impl CopiedTree for Agg {
-    ghost use Rattle.sql_reader.specs.Plain.{Aggregate as Plainly, aggregate_of as plain};
+impl<N: Copied> CopiedTree for Agg<N> {
+    ghost use Rattle.sql_tree.specs.Plain.{Total as Plainly, total_of as plain};
 
-    ghost Plain = { Plainly };
+    ghost Plain = { Plainly N };
 
     ghost view = { plain };
 
-    fn copy_tree(&self, alloc: Global) -> Result<Agg, Memory> {
+    fn copy_tree(&self, alloc: Global) -> Result<Agg<N>, Memory> {
         self.copy(alloc)
     }
 }
 
-impl CopiedTree for Input {
-    ghost use Rattle.sql_reader.specs.Plain.{Given as Plainly, given_of as plain};
+impl<N: Copied> CopiedTree for Input<N> {
+    ghost use Rattle.sql_tree.specs.Plain.{Entry as Plainly, entry_of as plain};
 
-    ghost Plain = { Plainly };
+    ghost Plain = { Plainly N };
 
     ghost view = { plain };
 
-    fn copy_tree(&self, alloc: Global) -> Result<Input, Memory> {
+    fn copy_tree(&self, alloc: Global) -> Result<Input<N>, Memory> {
         self.copy(alloc)
     }
 }
 
-impl CopiedTree for Setting {
-    ghost use Rattle.sql_reader.specs.Plain.{Assignment as Plainly, assignment_of as plain};
+impl<N: Copied> CopiedTree for Setting<N> {
+    ghost use Rattle.sql_tree.specs.Plain.{Change as Plainly, change_of as plain};
 
-    ghost Plain = { Plainly };
+    ghost Plain = { Plainly N };
 
     ghost view = { plain };
 
-    fn copy_tree(&self, alloc: Global) -> Result<Setting, Memory> {
+    fn copy_tree(&self, alloc: Global) -> Result<Setting<N>, Memory> {
         self.copy(alloc)
     }
 }
@@ -162,8 +162,11 @@ fn copy_all<T: CopiedTree>(alloc: Global, trees: &List<T>) -> Result<List<T>, Me
     Ok(copies)
 }
 
-fn copy_condition(alloc: Global, condition: &Option<Expr>) -> Result<Option<Expr>, Memory>
-    ensures { IfOk result (λ copy. optional_tree copy ≡ optional_tree condition.now) }
+fn copy_condition<N: Copied>(
+    alloc: Global,
+    condition: &Option<Expr<N>>,
+) -> Result<Option<Expr<N>>, Memory>
+    ensures { IfOk result (λ copy. condition_of copy ≡ condition_of condition.now) }
 {
     match condition {
         Some(expr) => Ok(Some(expr.copy(alloc)?)),
@@ -171,10 +174,10 @@ fn copy_condition(alloc: Global, condition: &Option<Expr>) -> Result<Option<Expr
     }
 }
 
-impl Items {
+impl<N: Copied> Items<N> {
     /// Equal items. `Memory` where memory runs out.
-    pub fn copy(&self, alloc: Global) -> Result<Items, Memory>
-        ensures { IfOk result (λ copy. selection_of copy ≡ selection_of self.now) }
+    pub fn copy(&self, alloc: Global) -> Result<Items<N>, Memory>
+        ensures { IfOk result (λ copy. asked_of copy ≡ asked_of self.now) }
     {
         match self {
             Items::All => Ok(Items::All),
@@ -184,10 +187,10 @@ impl Items {
     }
 }
 
-impl Statement {
+impl<N: Copied> Statement<N> {
     /// An equal statement. `Memory` where memory runs out.
-    pub fn copy(&self, alloc: Global) -> Result<Statement, Memory>
-        ensures { IfOk result (λ copy. parsed_of copy ≡ parsed_of self.now) }
+    pub fn copy(&self, alloc: Global) -> Result<Statement<N>, Memory>
+        ensures { IfOk result (λ copy. plan_of copy ≡ plan_of self.now) }
     {
         match self {
             Statement::Select(table, items, condition, keys, held) => {
