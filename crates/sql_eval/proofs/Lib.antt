@@ -2,6 +2,11 @@ pub mod Range
 pub mod Condition
 pub mod Mapped
 pub mod Inputs
-pub mod Faults
+pub mod PartFaults
 pub mod Tables
 pub mod Sorted
+pub mod Moved
+pub mod FirstOf
+pub mod TotalSteps
+pub mod TotalLaws
+pub mod CheckLaws

@@ -17,7 +17,8 @@ use Rattle.sql_tree.specs.Plain.{Term}
 use Rattle.sql_tree.specs.Plain as term
 use Rattle.sql_eval.specs.declared.logic.Truth.TheVariants.{Unknown}
 use Rattle.sql_eval.specs.Logic.{truth_of_test}
-use Rattle.sql_eval.specs.Value.{arithmetic, bind_at, both, comparison, connected, equal, is_connective, is_in_range, is_null_value, is_zero, minus, number, of_numbers, order, quotient, then_apply, truth_value, value_of}
+use Rattle.desk_values.specs.Comparison.{value_equal, value_order}
+use Rattle.sql_eval.specs.Value.{arithmetic, bind_at, both, comparison, connected, is_connective, is_in_range, is_null_value, is_zero, minus, number, of_numbers, quotient, then_apply, truth_value, value_of}
 use Rattle.sql_eval.specs.Kinds.{has_order, is_comparable, is_number, is_same_kind, is_taken, kept, kind_of, kind_of_value, of_one, of_two, operator_kind}
 use Rattle.sql_eval.specs.Laws.{IsComparison, UnknownMeansNull, ValueHasItsKind}
 
@@ -184,7 +185,7 @@ taken_is k (value.Row a) n h = same_is Row k h
 taken_is k (value.Draw p a) n h = same_is (Seq p) k h
 
 -- two values that are not Null and go together can be compared
-equal_known : (level : ℕ) (v w : Value) → is_null_value v ≡ false → is_null_value w ≡ false → is_comparable (kind_of_value v) (kind_of_value w) ≡ true → equal level v w ≡ None → ⊥
+equal_known : (level : ℕ) (v w : Value) → is_null_value v ≡ false → is_null_value w ≡ false → is_comparable (kind_of_value v) (kind_of_value w) ≡ true → value_equal level v w ≡ None → ⊥
 equal_known level (value.Int a) (value.Int b) m n h e = cc
 equal_known level (value.Text a) (value.Text b) m n h e = cc
 equal_known level (value.Row a) (value.Row b) m n h e = cc
@@ -199,12 +200,12 @@ and_right : (a b : Bool) → (a && b) ≡ true → b ≡ true
 and_right true b h = h
 and_right false b h = absurd (cc)
 
-ordered : (level : ℕ) (v w : Value) → is_null_value v ≡ false → is_null_value w ≡ false → is_comparable (kind_of_value v) (kind_of_value w) ≡ true → has_order (kind_of_value v) ≡ true → order level v w ≡ None → ⊥
+ordered : (level : ℕ) (v w : Value) → is_null_value v ≡ false → is_null_value w ≡ false → is_comparable (kind_of_value v) (kind_of_value w) ≡ true → has_order (kind_of_value v) ≡ true → value_order level v w ≡ None → ⊥
 ordered level (value.Int a) (value.Int b) m n h o e = cc
 ordered level (value.Text a) (value.Text b) m n h o e = cc
 ordered level v w m n h o e = cc
 
-order_known : (level : ℕ) (v w : Value) → is_null_value v ≡ false → is_null_value w ≡ false → (is_comparable (kind_of_value v) (kind_of_value w) && has_order (kind_of_value v) && has_order (kind_of_value w)) ≡ true → order level v w ≡ None → ⊥
+order_known : (level : ℕ) (v w : Value) → is_null_value v ≡ false → is_null_value w ≡ false → (is_comparable (kind_of_value v) (kind_of_value w) && has_order (kind_of_value v) && has_order (kind_of_value w)) ≡ true → value_order level v w ≡ None → ⊥
 order_known level v w m n h e =
     let both_hold = and_left (is_comparable (kind_of_value v) (kind_of_value w) && has_order (kind_of_value v)) (has_order (kind_of_value w)) h in
     ordered level v w m n (and_left (is_comparable (kind_of_value v) (kind_of_value w)) (has_order (kind_of_value v)) both_hold) (and_right (is_comparable (kind_of_value v) (kind_of_value w)) (has_order (kind_of_value v)) both_hold) e
@@ -219,11 +220,11 @@ compared_known level Sub v w c m n h e = absurd c
 compared_known level Mul v w c m n h e = absurd c
 compared_known level Div v w c m n h e = absurd c
 compared_known level Eq v w c m n h e = equal_known level v w m n ((kept_is (is_comparable (kind_of_value v) (kind_of_value w)) Condition Condition h).holds) e
-compared_known level Ne v w c m n h e = equal_known level v w m n ((kept_is (is_comparable (kind_of_value v) (kind_of_value w)) Condition Condition h).holds) (map_none not (equal level v w) e)
-compared_known level Lt v w c m n h e = order_known level v w m n ((kept_is (is_comparable (kind_of_value v) (kind_of_value w) && has_order (kind_of_value v) && has_order (kind_of_value w)) Condition Condition h).holds) (map_none is_lt (order level v w) e)
-compared_known level Le v w c m n h e = order_known level v w m n ((kept_is (is_comparable (kind_of_value v) (kind_of_value w) && has_order (kind_of_value v) && has_order (kind_of_value w)) Condition Condition h).holds) (map_none is_le (order level v w) e)
-compared_known level Gt v w c m n h e = order_known level v w m n ((kept_is (is_comparable (kind_of_value v) (kind_of_value w) && has_order (kind_of_value v) && has_order (kind_of_value w)) Condition Condition h).holds) (map_none is_gt (order level v w) e)
-compared_known level Ge v w c m n h e = order_known level v w m n ((kept_is (is_comparable (kind_of_value v) (kind_of_value w) && has_order (kind_of_value v) && has_order (kind_of_value w)) Condition Condition h).holds) (map_none is_ge (order level v w) e)
+compared_known level Ne v w c m n h e = equal_known level v w m n ((kept_is (is_comparable (kind_of_value v) (kind_of_value w)) Condition Condition h).holds) (map_none not (value_equal level v w) e)
+compared_known level Lt v w c m n h e = order_known level v w m n ((kept_is (is_comparable (kind_of_value v) (kind_of_value w) && has_order (kind_of_value v) && has_order (kind_of_value w)) Condition Condition h).holds) (map_none is_lt (value_order level v w) e)
+compared_known level Le v w c m n h e = order_known level v w m n ((kept_is (is_comparable (kind_of_value v) (kind_of_value w) && has_order (kind_of_value v) && has_order (kind_of_value w)) Condition Condition h).holds) (map_none is_le (value_order level v w) e)
+compared_known level Gt v w c m n h e = order_known level v w m n ((kept_is (is_comparable (kind_of_value v) (kind_of_value w) && has_order (kind_of_value v) && has_order (kind_of_value w)) Condition Condition h).holds) (map_none is_gt (value_order level v w) e)
+compared_known level Ge v w c m n h e = order_known level v w m n ((kept_is (is_comparable (kind_of_value v) (kind_of_value w) && has_order (kind_of_value v) && has_order (kind_of_value w)) Condition Condition h).holds) (map_none is_ge (value_order level v w) e)
 compared_known level And v w c m n h e = absurd c
 compared_known level Or v w c m n h e = absurd c
 

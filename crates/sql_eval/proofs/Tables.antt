@@ -11,7 +11,8 @@ use Rattle.sql_tree.specs.declared.tree.Op.TheVariants.{Add, Sub, Mul, Div, Eq, 
 use Rattle.sql_eval.specs.declared.logic.Truth.{Truth}
 use Rattle.sql_eval.specs.declared.logic.Truth.TheVariants.{Unknown}
 use Rattle.sql_eval.specs.Logic.{conjunction, disjunction, negation, truth_of_test}
-use Rattle.sql_eval.specs.Value.{arithmetic, both, comparison, connected, equal, order, then_apply, truth_value, value_of}
+use Rattle.desk_values.specs.Comparison.{value_equal, value_order}
+use Rattle.sql_eval.specs.Value.{arithmetic, both, comparison, connected, then_apply, truth_value, value_of}
 use Rattle.sql_eval.specs.Laws.{AreStandardTables, GoesByTable, NotGoesByTable, NullIsNull, NullIsUnknown}
 
 pub standard_tables : AreStandardTables
@@ -40,14 +41,14 @@ pub or_by_table : GoesByTable Or disjunction
 or_by_table level row values binds a b s t e f = joined Or (truth_value level row values binds a) (truth_value level row values binds b) s t e f
 
 -- nothing is known of two values of which one is Null
-order_right : (level : ℕ) (v : Value) → order level v Null ≡ None
+order_right : (level : ℕ) (v : Value) → value_order level v Null ≡ None
 order_right level Null = refl
 order_right level (Int n) = refl
 order_right level (Text t) = refl
 order_right level (Row n) = refl
 order_right level (Draw p n) = refl
 
-equal_right : (level : ℕ) (v : Value) → equal level v Null ≡ None
+equal_right : (level : ℕ) (v : Value) → value_equal level v Null ≡ None
 equal_right level Null = refl
 equal_right level (Int n) = refl
 equal_right level (Text t) = refl

@@ -1,5 +1,5 @@
 -- The fault of an expression, told by its parts.
-use Rattle.std.specs.Prelude.{ℕ, Bool, true, false, if◌then◌else◌, List, [], ◌∷◌, ◌++◌, Option, None, Some, Result, Ok, Err}
+use Rattle.std.specs.Prelude.{ℕ, Bool, true, false, ◌||◌, if◌then◌else◌, List, [], ◌∷◌, ◌++◌, Option, None, Some, Result, Ok, Err}
 use Rattle.std.specs.List.{list_any}
 use Rattle.std.specs.Result.{result_err}
 use Rattle.desk_values.specs.declared.value.Value.{Value}
@@ -7,6 +7,7 @@ use Rattle.desk_values.specs.declared.fault.Fault.{Fault}
 use Rattle.desk_values.specs.declared.fault.Fault.TheVariants.{ZeroDivisor, Overflow}
 use Rattle.sql_tree.specs.Plain.{Term}
 use Rattle.sql_tree.specs.Plain as term
+use Rattle.sql_eval.specs.declared.faults.Faults.{Faults}
 use Rattle.sql_eval.specs.Value.{arithmetic, both, is_connective, minus, value_of}
 
 -- the parts whose values are taken for the value of an expression: all of them, its own among them
@@ -44,12 +45,33 @@ abbrev pub is_overflow : Option Fault → Bool
 is_overflow (Some Overflow) = true
 is_overflow other = false
 
+-- ---- over parts or rows
+
+abbrev pub divides : {A : Type 0} → Result A Fault → Bool
+divides outcome = is_zero_divisor (result_err outcome)
+
+abbrev pub overflows : {A : Type 0} → Result A Fault → Bool
+overflows outcome = is_overflow (result_err outcome)
+
+-- whether some row's part divides by zero, and whether some row's part leaves 64 bits
+unfoldable pub any_fault : {R A : Type 0} → (R → Result A Fault) → List R → Faults
+any_fault part rows = record { divides = list_any (λ row. divides (part row)) rows; overflows = list_any (λ row. overflows (part row)) rows }
+
+-- the faults of some parts and of others
+unfoldable pub joined : Faults → Faults → Faults
+joined some others = record { divides = some.divides || others.divides; overflows = some.overflows || others.overflows }
+
+-- the faults of some parts and of one more
+unfoldable pub noted : {A : Type 0} → Faults → Result A Fault → Faults
+noted faults outcome = record { divides = faults.divides || divides outcome; overflows = faults.overflows || overflows outcome }
+
 -- the zero divisor where some part has it, else overflow where some part has that, else none
-abbrev pub told : Bool → Bool → Option Fault
-told zero over = if zero then Some ZeroDivisor else if over then Some Overflow else None
+abbrev pub told : Faults → Option Fault
+told faults = if faults.divides then Some ZeroDivisor else if faults.overflows then Some Overflow else None
 
 -- the fault that these parts make
 abbrev pub fault_among : ℕ → ℕ → List Value → List Value → List (Term ℕ) → Option Fault
-fault_among level row values binds ps = told
-    (list_any (λ p. is_zero_divisor (own_fault level row values binds p)) ps)
-    (list_any (λ p. is_overflow (own_fault level row values binds p)) ps)
+fault_among level row values binds ps = told (record {
+  divides = list_any (λ p. is_zero_divisor (own_fault level row values binds p)) ps;
+  overflows = list_any (λ p. is_overflow (own_fault level row values binds p)) ps;
+})

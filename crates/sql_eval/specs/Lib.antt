@@ -8,3 +8,7 @@ pub mod Check
 pub mod Faults
 pub mod Laws
 pub mod Totals
+pub mod Moved
+pub mod TotalLaws
+pub mod Applies
+pub mod CheckLaws

@@ -1,52 +1,97 @@
--- What the totals of a SELECT give for the values that their part has in the rows that match. It depends on which
--- values there are, and not on their order. No call computes it yet.
-use Rattle.std.specs.Prelude.{◌≡◌, ℕ, ℤ, pos, ◌+ℤ◌, List, [], ◌∷◌, length, Option, None, Some, Result, Ok, Contains, IfSome, IsTrue}
-use Rattle.std.specs.Ordering.{is_le}
-use Rattle.std.specs.List.{filter_map}
+-- What COUNT, SUM, MIN and MAX give for the rows that match.
+use Rattle.std.specs.Prelude.{ℕ, ℤ, pos, ◌+ℤ◌, if◌then◌else◌, List, [], length, map, Option, None, Some, Result, Ok, Err}
+use Rattle.std.specs.Option.{unwrap_or}
+use Rattle.std.specs.Ordering.{nat_cmp, int_cmp, is_gt, then_cmp, flip_args}
+use Rattle.std.specs.Cmp.Lexicographic.{slice_cmp}
+use Rattle.std.specs.List.{filter_map, reduce}
+use Rattle.std.specs.Result.{result_ok}
 use Rattle.std.specs.declared.cmp.Ordering.{Ordering}
+use denote.Ref.{Bor}
 use Rattle.desk_values.specs.declared.value.Value.{Value}
-use Rattle.desk_values.specs.declared.value.Value.TheVariants.{Null, Int}
+use Rattle.desk_values.specs.declared.value.Value.TheVariants.{Null, Int, Text}
+use Rattle.desk_values.specs.declared.value.Image.{Image}
 use Rattle.desk_values.specs.declared.fault.Fault.{Fault}
-use Rattle.sql_eval.specs.Value.{number, order}
+use Rattle.desk_values.specs.Comparison.{text_order}
+use Rattle.sql_tree.specs.Plain.{Term, Total}
+use Rattle.sql_tree.specs.Plain as total
+use Rattle.sql_eval.specs.declared.totals.Extreme.{Extreme}
+use Rattle.sql_eval.specs.declared.totals.Extreme.TheVariants.{Least, Greatest}
+use Rattle.sql_eval.specs.Faults.{any_fault, told}
+use Rattle.sql_eval.specs.Value.{number, value_of}
 
--- COUNT of all rows: how many there are
-abbrev pub count_value : List (List Value) → Value
-count_value rows = Int (pos (length rows))
+-- ---- of values
 
--- the number, where the value is one
 abbrev pub number_in : Value → Option ℤ
 number_in (Int n) = Some n
 number_in other = None
 
--- all numbers added up, however large the sum
-abbrev pub sum_of : List ℤ → ℤ
-sum_of [] = pos 0
-sum_of (n ∷ ns) = n +ℤ sum_of ns
+abbrev pub text_in : Value → Option (List ℕ)
+text_in (Text t) = Some t
+text_in other = None
 
--- SUM: Null of no numbers, else their sum, which is asked once, at its end, whether 64 bits hold it
-abbrev pub sum_value : List ℤ → Result Value Fault
-sum_value [] = Ok Null
-sum_value (n ∷ ns) = number (sum_of (n ∷ ns))
+-- the sum as a value: of no numbers Null, else asked once, at its end, whether 64 bits hold it
+abbrev pub sum_value : Option ℤ → Result Value Fault
+sum_value None = Ok Null
+sum_value (Some sum) = number sum
 
-abbrev pub total_value : List Value → Result Value Fault
-total_value values = sum_value (filter_map number_in values)
+-- SUM: Null is skipped, and the numbers are added up, however large the sum becomes on the way
+unfoldable pub sum_of : List Value → Result Value Fault
+sum_of values = sum_value (reduce ◌+ℤ◌ (filter_map number_in values))
 
--- the value, where it is no Null
-abbrev pub told_in : Value → Option Value
-told_in Null = None
-told_in other = Some other
+-- the one of two that an order puts first
+abbrev pub first_of : {A : Type 0} → (A → A → Ordering) → A → A → A
+first_of order a b = if is_gt (order a b) then b else a
 
--- a value that stands before no other: of these, or the other way round
-abbrev pub IsFirst : (Value → Value → Option Ordering) → List Value → Value → Type 0
-IsFirst before values first = Contains values first × ((other : Value) → Contains values other → IfSome (before first other) (λ o. IsTrue (is_le o)))
+-- the first number or the first text; Null of neither, and of both, since no number compares with a text
+abbrev pub first_value : Option ℤ → Option (List ℕ) → Value
+first_value (Some n) None = Int n
+first_value None (Some t) = Text t
+first_value number text = Null
 
--- MIN and MAX: Null of no values but Null, else one that is at most, or at least, every other
-abbrev pub IsExtreme : (Value → Value → Option Ordering) → List Value → Value → Type 0
-IsExtreme before [] extreme = extreme ≡ Null
-IsExtreme before (value ∷ values) extreme = IsFirst before (value ∷ values) extreme
+-- which number comes first for MIN and for MAX
+abbrev pub number_order : Extreme → ℤ → ℤ → Ordering
+number_order Least = int_cmp
+number_order Greatest = flip_args int_cmp
 
-abbrev pub IsLeast : ℕ → List Value → Value → Type 0
-IsLeast level values least = IsExtreme (order level) (filter_map told_in values) least
+-- which text comes first for MIN and for MAX; of texts that are equal at the level the least by bytes
+unfoldable pub tied_order : ℕ → Extreme → List ℕ → List ℕ → Ordering
+tied_order level Least = then_cmp (text_order level) (slice_cmp nat_cmp)
+tied_order level Greatest = then_cmp (flip_args (text_order level)) (slice_cmp nat_cmp)
 
-abbrev pub IsGreatest : ℕ → List Value → Value → Type 0
-IsGreatest level values greatest = IsExtreme (λ a b. order level b a) (filter_map told_in values) greatest
+-- MIN and MAX: Null and ids are skipped
+unfoldable pub extreme_of : ℕ → Extreme → List Value → Value
+extreme_of level extreme values = first_value (reduce (first_of (number_order extreme)) (filter_map number_in values)) (reduce (first_of (tied_order level extreme)) (filter_map text_in values))
+
+-- ---- of rows
+
+-- the fault, or else the outcome
+abbrev pub unless_told : {A : Type 0} → Option Fault → Result A Fault → Result A Fault
+unless_told (Some fault) outcome = Err fault
+unless_told None outcome = outcome
+
+-- the values that the part has in the rows where it has one
+abbrev pub members : (Image → Result Value Fault) → List Image → List Value
+members part rows = filter_map (λ row. result_ok (part row)) rows
+
+-- a value of all members, where none has a fault
+abbrev pub over : (List Value → Result Value Fault) → (Image → Result Value Fault) → List Image → Result Value Fault
+over of part rows = unless_told (told (any_fault part rows)) (of (members part rows))
+
+-- the images that are looked at
+abbrev pub looked_at : List (Bor Image) → List Image
+looked_at images = map (λ (image : Bor Image). image.now) images
+
+-- the values of a row by column; a row that is gone has none
+abbrev pub values_in : Image → List Value
+values_in image = unwrap_or image.left []
+
+-- the value of an expression for a row
+abbrev pub part_in : ℕ → List Value → Term ℕ → Image → Result Value Fault
+part_in level binds part image = value_of level image.row (values_in image) binds part
+
+-- the total of a SELECT over the rows that match: a fault of a member goes before the total's own
+abbrev pub total_over : ℕ → List Value → Total ℕ → List Image → Result Value Fault
+total_over level binds total.count rows = Ok (Int (pos (length rows)))
+total_over level binds (total.total part) rows = over sum_of (part_in level binds part) rows
+total_over level binds (total.least part) rows = over (λ values. Ok (extreme_of level Least values)) (part_in level binds part) rows
+total_over level binds (total.greatest part) rows = over (λ values. Ok (extreme_of level Greatest values)) (part_in level binds part) rows

@@ -1,12 +1,11 @@
--- The value of an expression for one row, and the truth of a condition. So far only level 1 of the rules is told.
+-- The value of an expression for one row, and the truth of a condition. Division is told at level 1 alone so far.
 use Rattle.std.specs.Prelude.{ℕ, ◌-◌, ◌^◌, ℤ, pos, negsuc, ◌+ℤ◌, ◌-ℤ◌, ◌*ℤ◌, neg_ℤ, int_div, Bool, true, false, ◌&&◌, not, nat_eq, nat_lt, if◌then◌else◌, List, Option, None, Some, Result, Ok, Err, slice_get}
 use Rattle.std.specs.Option.{option_map, unwrap_or}
-use Rattle.std.specs.Ordering.{nat_cmp, int_cmp, is_eq, is_lt, is_le, is_gt, is_ge}
-use Rattle.std.specs.Cmp.Lexicographic.{slice_cmp}
-use Rattle.std.specs.declared.cmp.Ordering.{Ordering}
+use Rattle.std.specs.Ordering.{is_lt, is_le, is_gt, is_ge}
 use Rattle.desk_values.specs.declared.value.Value.{Value}
 use Rattle.desk_values.specs.declared.value.Value.TheVariants.{Null, Int, Text, Row, Draw}
 use Rattle.desk_values.specs.declared.fault.Fault.{Fault}
+use Rattle.desk_values.specs.Comparison.{value_equal, value_order}
 use Rattle.desk_values.specs.declared.fault.Fault.TheVariants.{ZeroDivisor, Overflow}
 use Rattle.sql_tree.specs.declared.tree.Op.{Op}
 use Rattle.sql_tree.specs.declared.tree.Op.TheVariants.{Add, Sub, Mul, Div, Eq, Ne, Lt, Le, Gt, Ge, And, Or}
@@ -75,30 +74,14 @@ minus other = Ok Null
 
 -- ---- comparisons
 
--- level 1 compares texts byte by byte
-abbrev pub text_order : ℕ → List ℕ → List ℕ → Ordering
-text_order level a b = slice_cmp nat_cmp a b
-
--- the order of two numbers or two texts; ids have none
-abbrev pub order : ℕ → Value → Value → Option Ordering
-order level (Int a) (Int b) = Some (int_cmp a b)
-order level (Text a) (Text b) = Some (text_order level a b)
-order level other value = None
-
--- whether two values of one kind are equal; nobody knows of a Null
-abbrev pub equal : ℕ → Value → Value → Option Bool
-equal level (Row a) (Row b) = Some (nat_eq a b)
-equal level (Draw p a) (Draw q b) = Some (nat_eq p q && nat_eq a b)
-equal level a b = option_map is_eq (order level a b)
-
 -- the outcome of a comparison; none where nobody knows
 abbrev pub comparison : ℕ → Op → Value → Value → Option Bool
-comparison level Eq a b = equal level a b
-comparison level Ne a b = option_map not (equal level a b)
-comparison level Lt a b = option_map is_lt (order level a b)
-comparison level Le a b = option_map is_le (order level a b)
-comparison level Gt a b = option_map is_gt (order level a b)
-comparison level Ge a b = option_map is_ge (order level a b)
+comparison level Eq a b = value_equal level a b
+comparison level Ne a b = option_map not (value_equal level a b)
+comparison level Lt a b = option_map is_lt (value_order level a b)
+comparison level Le a b = option_map is_le (value_order level a b)
+comparison level Gt a b = option_map is_gt (value_order level a b)
+comparison level Ge a b = option_map is_ge (value_order level a b)
 comparison level other a b = None
 
 -- the value is Null

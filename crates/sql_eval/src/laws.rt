@@ -1,9 +1,17 @@
-//! Laws of [`truth_of`](crate::truth_of) and [`eval`](crate::eval) that callers may rest on. The functions do nothing:
+//! Laws of [`check`](crate::check), [`truth_of`](crate::truth_of), [`eval`](crate::eval) and [`total`](crate::total) that callers may rest on. The functions do nothing:
 //! their contracts are the laws.
 
 ghost use Rattle.sql_tree.specs.declared.tree.Op.TheVariants.{And, Or};
+ghost use Rattle.sql_eval.specs.CheckLaws.{LowestRankIsTold, NothingIsOverlooked};
 ghost use Rattle.sql_eval.specs.Laws.{AreStandardTables, GoesByTable, NotGoesByTable, NullIsNull, NullIsUnknown, TruthFaultIsAmongParts, UnknownMeansNull, ValueFaultIsAmongParts, ValueHasItsKind};
 ghost use Rattle.sql_eval.specs.Logic.{conjunction, disjunction};
+ghost use Rattle.sql_eval.specs.TotalLaws.{MaxIsGreatest, MinIsLeast, TotalIgnoresOrder};
+
+/// The checks tell the fault of lowest rank among those that apply to the statement, and none is overlooked.
+pub fn faults_by_rank()
+    ensures lowest { LowestRankIsTold }
+    ensures none { NothingIsOverlooked }
+{}
 
 /// NOT, AND and OR go by the truth tables of three-valued logic (ISO/IEC 9075-2, boolean value expression).
 pub fn three_valued_logic()
@@ -32,4 +40,12 @@ pub fn faults_of_parts()
 pub fn values_have_their_kind()
     ensures value { ValueHasItsKind }
     ensures unknown { UnknownMeansNull }
+{}
+
+/// Totals are what they say, in whatever order the rows stand: MIN and MAX are a value of their part that is at most, or
+/// at least, every number and every text among these values, and Null only where there is no such value.
+pub fn totals_of_rows()
+    ensures order { TotalIgnoresOrder }
+    ensures min { MinIsLeast }
+    ensures max { MaxIsGreatest }
 {}

@@ -10,6 +10,7 @@
 mod binds;
 mod checks;
 mod error;
+mod faults;
 mod kind;
 mod laws;
 mod logic;
@@ -20,15 +21,21 @@ mod rules;
 mod scope;
 #[cfg(test)]
 mod tests;
+mod totals;
 mod value;
 mod value_ref;
 
 pub use checks::check;
 pub use error::{CheckErr, EvalErr};
-pub use laws::{faults_of_parts, null_operands, three_valued_logic, values_have_their_kind};
+pub use faults::Faults;
+pub use laws::{
+    faults_by_rank, faults_of_parts, null_operands, three_valued_logic, totals_of_rows,
+    values_have_their_kind,
+};
 pub use logic::Truth;
 pub use ready::{
     Checked, CheckedList, Columns, Ready, ReadyAgg, ReadyAggs, ReadyInput, ReadyInputs, ReadyItems,
     ReadyKey, ReadyKeys, ReadySets, ReadySetting,
 };
+pub use totals::total;
 pub use value::{eval, truth_of};

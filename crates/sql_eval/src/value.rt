@@ -17,8 +17,8 @@ use std::alloc::Global;
 
 /// The value of an expression for one row: Null, or of the kind that the checks gave the expression.
 ///
-/// `level` is the level of the rules of values. It is an argument so that other rules can join: so far there is level 1
-/// alone, which every number stands for. At it division truncates toward zero, and texts compare byte by byte.
+/// `level` is the level of the rules of values. Texts compare by [`text_order`](desk_values::text_order) of that level.
+/// Division truncates toward zero, at whatever level: so far only level 1 is told of it.
 ///
 /// `row` is the id of the row. `values` are those of the columns that `e` was checked for, and `binds` are those that it
 /// was checked with; one that is not there is Null. A condition has no value but a truth, which [`truth_of`] gives; here
@@ -41,7 +41,16 @@ pub fn eval(
     ensures memory { IsErrOf result EvalErr.Memory → IsTextOf (value_of level row values.now binds.now (term_of e.now)) }
 {
     let _ = alloc;
-    match borrowed_value(level, row, values, binds, e) {
+    owned(borrowed_value(level, row, values.as_slice(), binds, e))
+}
+
+/// The value itself, its text copied.
+pub(crate) fn owned(outcome: Result<ValueRef<'_>, Fault>) -> Result<Value, EvalErr>
+    ensures ok { IfOk result (λ value. ref_outcome outcome.entry ≡ Ok value) }
+    ensures refused { (fault : Fault) → IsErrOf result (EvalErr.Refused fault) ↔ (ref_outcome outcome.entry ≡ Err fault) }
+    ensures memory { IsErrOf result EvalErr.Memory → IsTextOf (ref_outcome outcome.entry) }
+{
+    match outcome {
         Ok(ValueRef::Null) => Ok(Value::Null),
         Ok(ValueRef::Int(number)) => Ok(Value::Int(number)),
         Ok(ValueRef::Text(text)) => Ok(Value::Text(text.copy()?)),
@@ -75,18 +84,18 @@ pub fn truth_of(
                 let right = truth_of(level, row, values, binds, right);
                 connected_truths(*op, left, right)
             } else {
-                let left = borrowed_value(level, row, values, binds, left);
-                let right = borrowed_value(level, row, values, binds, right);
+                let left = borrowed_value(level, row, values.as_slice(), binds, left);
+                let right = borrowed_value(level, row, values.as_slice(), binds, right);
                 let (left, right) = both_values(left, right)?;
                 Ok(tested(comparison_of(level, *op, left, right)))
             }
         }
         Checked::IsNull(operand) => {
-            let value = borrowed_value(level, row, values, binds, operand)?;
+            let value = borrowed_value(level, row, values.as_slice(), binds, operand)?;
             Ok(tested(Some(is_null_of(value))))
         }
         Checked::NotNull(operand) => {
-            let value = borrowed_value(level, row, values, binds, operand)?;
+            let value = borrowed_value(level, row, values.as_slice(), binds, operand)?;
             Ok(tested(Some(!is_null_of(value))))
         }
         _ => Ok(Truth::Unknown),
@@ -94,10 +103,10 @@ pub fn truth_of(
 }
 
 /// The value of an expression, its text borrowed.
-fn borrowed_value<'a>(
+pub(crate) fn borrowed_value<'a>(
     level: u32,
     row: u64,
-    values: &'a Values,
+    values: &'a [Value],
     binds: &'a Binds,
     expr: &'a Checked,
 ) -> Result<ValueRef<'a>, Fault>
@@ -135,7 +144,7 @@ fn bind_value(binds: &Binds, number: u32) -> ValueRef<'_>
 }
 
 /// The value of a column by its number from 0.
-fn column_value(values: &Values, number: u32) -> ValueRef<'_>
+fn column_value(values: &[Value], number: u32) -> ValueRef<'_>
     ensures { ref_value result ≡ unwrap_or (slice_get values.now number) Value.Null }
 {
     match values.get(number as usize) {

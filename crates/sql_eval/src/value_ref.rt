@@ -1,10 +1,11 @@
 //! Operators on values that are looked at and not copied.
 
 ghost use Rattle.std.specs.Prelude.{◌≡◌};
-ghost use Rattle.sql_eval.specs.Value.{both, worse, of_numbers, arithmetic, minus, order, equal, comparison, is_null_value};
+ghost use Rattle.sql_eval.specs.Value.{both, worse, of_numbers, arithmetic, minus, comparison, is_null_value};
+ghost use Rattle.desk_values.specs.Comparison.{value_equal, value_order};
 ghost use Rattle.sql_eval.specs.ValueRef.{ref_value, ref_outcome, ref_pair, computed_of};
 
-use desk_values::{Fault, Txt, Value};
+use desk_values::{Fault, Txt, Value, text_order};
 use sql_reader::Op;
 use std::cmp::Ordering;
 
@@ -109,19 +110,18 @@ pub(crate) fn minus_of<'a>(operand: ValueRef<'a>) -> Result<ValueRef<'a>, Fault>
 
 /// The order of two numbers or of two texts.
 fn order_of(level: u32, left: ValueRef<'_>, right: ValueRef<'_>) -> Option<Ordering>
-    ensures { result ≡ order level (ref_value left.entry) (ref_value right.entry) }
+    ensures { result ≡ value_order level (ref_value left.entry) (ref_value right.entry) }
 {
-    let _ = level;
     match (left, right) {
         (ValueRef::Int(left), ValueRef::Int(right)) => Some(left.cmp(&right)),
-        (ValueRef::Text(left), ValueRef::Text(right)) => Some(left.as_str().cmp(right.as_str())),
+        (ValueRef::Text(left), ValueRef::Text(right)) => Some(text_order(level, left, right)),
         _ => None,
     }
 }
 
 /// Whether two values of one kind are equal. Nobody knows of a Null.
 fn equal_of(level: u32, left: ValueRef<'_>, right: ValueRef<'_>) -> Option<bool>
-    ensures { result ≡ equal level (ref_value left.entry) (ref_value right.entry) }
+    ensures { result ≡ value_equal level (ref_value left.entry) (ref_value right.entry) }
 {
     match (left, right) {
         (ValueRef::Row(left), ValueRef::Row(right)) => Some(left == right),

@@ -1,4 +1,4 @@
-use Rattle.sql_eval.proofs.Faults.{truth_fault, value_fault}
+use Rattle.sql_eval.proofs.PartFaults.{truth_fault, value_fault}
 use Rattle.sql_eval.proofs.laws.faults_of_parts.Goals as goal
 
 pub returns : goal.returns

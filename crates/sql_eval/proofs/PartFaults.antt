@@ -15,7 +15,10 @@ use Rattle.sql_eval.specs.declared.logic.Truth.{Truth}
 use Rattle.sql_tree.specs.Plain.{Term}
 use Rattle.sql_tree.specs.Plain as term
 use Rattle.sql_eval.specs.Value.{arithmetic, both, is_in_range, is_zero, is_null_value, is_connective, connected, comparison, minus, number, of_numbers, then_apply, truth_value, value_of, worse, quotient}
-use Rattle.sql_eval.specs.Faults.{fault_after, fault_among, is_overflow, is_zero_divisor, own_fault, parts, condition_parts, told}
+use Rattle.sql_eval.specs.Faults.{fault_after, fault_among, is_overflow, is_zero_divisor, own_fault, parts, condition_parts, told as told_of}
+
+abbrev told : Bool → Bool → Option Fault
+told zero over = told_of (record { divides = zero; overflows = over })
 
 -- the worse of two faults that may be there
 abbrev worst : Option Fault → Option Fault → Option Fault
