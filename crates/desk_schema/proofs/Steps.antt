@@ -19,9 +19,8 @@ use Rattle.desk_schema.specs.declared.schema.Service.{Service}
 use Rattle.desk_schema.specs.declared.schema.Table.{Table}
 use Rattle.desk_schema.specs.declared.schema.Column.{Column}
 use Rattle.desk_schema.specs.Name.{IsName, is_name}
-use Rattle.desk_schema.specs.Schema.{SchemaView, table_names, column_names, service_names}
+use Rattle.desk_schema.specs.Schema.{SchemaView, table_names, column_names}
 use Rattle.desk_schema.specs.Line.{with_name, with_number, name_of}
-use Rattle.desk_schema.specs.Start.{StartView}
 use Rattle.desk_schema.specs.State.{State, nothing, place, with_column, sessions_with, start_with, added}
 use Rattle.desk_schema.specs.Rules.{IsKind, IsNewKey, key_of, key_in, keys_of, last_columns, MayFollow}
 use Rattle.desk_schema.specs.Sound.{HaveColumnsButLast, AreDistinct, AreApart, IsKnownKind, IsSoundTable, IsSoundRow, AreSoundRows, IsSound, IsInOrder, IsSoundNextRow, IsSoundState}
