@@ -14,8 +14,7 @@ use Rattle.sql_reader.specs.declared.token.Token.TheVariants as token
 use Rattle.sql_tree.specs.Plain.{Term, Total, Entry, Change, Name}
 use Rattle.sql_reader.specs.Grammar as g
 use Rattle.sql_reader.specs.Grammar.{operator_token, Reads, IsExpression, Joined, IsList, IsName, IsKey, IsAggregate, IsInput, IsSetting, IsWhere, IsOrder, IsForUpdate, IsSelection, IsColumns, IsBody, IsStatementOf}
-use Rattle.sql_reader.specs.Descent.{after_word, after_sign, expression_at}
-use Rattle.sql_reader.specs.Sentences.{list_at, name_at, key_at, enclosed_at, counted_at, aggregate_at, draw_at, input_at, setting_at, where_at, order_at, for_update_at, from_at}
+use Rattle.sql_reader.specs.Reading.{after_word, after_sign, expression_at, list_at, name_at, key_at, enclosed_at, counted_at, aggregate_at, draw_at, input_at, setting_at, where_at, order_at, for_update_at, from_at}
 use Rattle.sql_reader.proofs.Firsts.{after_word_self, after_sign_self, rank}
 use Rattle.sql_reader.proofs.Complete.{begins, expression_complete}
 
@@ -147,17 +146,7 @@ both (t ∷ ts) us a b = (let p = and_parts (not_dot t) (list_all not_dot ts) a 
 
 operator_no_dot : (o : Op) → not_dot (operator_token o) ≡ true
 operator_no_dot op.Or = refl
-operator_no_dot op.And = refl
-operator_no_dot op.Eq = refl
-operator_no_dot op.Ne = refl
-operator_no_dot op.Lt = refl
-operator_no_dot op.Le = refl
-operator_no_dot op.Gt = refl
-operator_no_dot op.Ge = refl
-operator_no_dot op.Add = refl
-operator_no_dot op.Sub = refl
-operator_no_dot op.Mul = refl
-operator_no_dot op.Div = refl
+operator_no_dot other = refl
 
 around : (ts us : List Token) (o : Op) → list_all not_dot ts ≡ true → list_all not_dot us ≡ true → list_all not_dot (ts ++ operator_token o ∷ us) ≡ true
 around ts us o a b = both ts (operator_token o ∷ us) a (and_from _ _ (operator_no_dot o) b)

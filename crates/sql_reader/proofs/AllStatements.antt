@@ -12,15 +12,12 @@ use Rattle.sql_reader.specs.declared.token.Token.TheVariants as token
 use Rattle.sql_tree.specs.Plain.{Term, Total, Entry, Change, Asked, columns, values, totals, Plan, select, next, insert, update, delete, Name}
 use Rattle.sql_reader.specs.Grammar as g
 use Rattle.sql_reader.specs.Grammar.{operator_token, Reads, IsExpression, Joined, IsList, IsName, IsKey, IsAggregate, IsInput, IsSetting, IsWhere, IsOrder, IsForUpdate, IsSelection, IsColumns, IsBody, IsStatementOf}
-use Rattle.sql_reader.specs.Descent.{after_word, after_sign, expression_at}
-use Rattle.sql_reader.specs.Sentences.{name_at, aggregate_at, draw_at, input_at, setting_at, is_aggregate_word, begins_aggregate, aggregates_at, rows_at, listed_at, dual_at, items_at, select_at, columns_at, inputs_at, insert_at, update_at, delete_at, set_at, body_at, without_semicolon, only_if_empty, statement_at}
+use Rattle.sql_reader.specs.Reading.{after_word, after_sign, expression_at, name_at, aggregate_at, draw_at, input_at, setting_at, is_aggregate_word, begins_aggregate, aggregates_at, rows_at, listed_at, dual_at, items_at, select_at, columns_at, inputs_at, insert_at, update_at, delete_at, set_at, body_at, without_semicolon, only_if_empty, statement_at, statement_of, scanned}
 use Rattle.std.specs.Prelude.{Result, Ok, Err, IfOk}
 use Rattle.sql_reader.specs.declared.error.SqlErr.{SqlErr}
 use Rattle.sql_tree.specs.declared.tree.Statement.{Statement}
 use Rattle.sql_tree.specs.Plain.{plan_of}
 use Rattle.sql_reader.specs.Spelling.{Spells, IsStatement, Gives}
-use Rattle.sql_reader.specs.Sentences.{read_at}
-use Rattle.sql_reader.specs.Scan.{scanned}
 use Rattle.sql_reader.proofs.Options.{bind_then, some_is}
 use Rattle.sql_reader.proofs.Firsts.{after_word_self, after_sign_self, begins_negation}
 use Rattle.sql_reader.proofs.Complete.{Begins, begins}
@@ -211,25 +208,25 @@ statement_complete (g.ended {ts = ts} {s = s} b) = finishes (ts ++ token.Sign si
 
 -- ---- texts
 
-pub read_sound : (text : List ℕ) (s : Plan Name) → read_at text ≡ Some s → Spells text s
-unfolding read_at
+pub read_sound : (text : List ℕ) (s : Plan Name) → statement_of text ≡ Some s → Spells text s
+unfolding statement_of
 read_sound text s h = bind_then (scanned text) (λ tokens. statement_at tokens) s h (λ tokens et e1. (tokens, scan_sound text tokens et, statement_sound tokens s e1))
 
-pub read_complete : (text : List ℕ) (s : Plan Name) → Spells text s → read_at text ≡ Some s
-unfolding read_at
+pub read_complete : (text : List ℕ) (s : Plan Name) → Spells text s → statement_of text ≡ Some s
+unfolding statement_of
 read_complete text s h = rw (scan_complete text h.0 h.1) (statement_complete h.2)
 
 -- a text spells one statement
 pub spells_one : (text : List ℕ) (a b : Plan Name) → Spells text a → Spells text b → a ≡ b
 spells_one text a b p q = some_is a b (sym (read_complete text a p) ∙ read_complete text b q)
 
-pub ok_spells : (text : List ℕ) (r : Result (Statement (List ℕ)) SqlErr) → Gives plan_of r (read_at text) → IfOk r (λ s. Spells text (plan_of s))
+pub ok_spells : (text : List ℕ) (r : Result (Statement (List ℕ)) SqlErr) → Gives plan_of r (statement_of text) → IfOk r (λ s. Spells text (plan_of s))
 ok_spells text (Ok s) h = read_sound text (plan_of s) h
 ok_spells text (Err e) h = tt
 
-pub only_spelled : (text : List ℕ) (r : Result (Statement (List ℕ)) SqlErr) → Gives plan_of r (read_at text) → (s : Plan Name) → Spells text s → Gives plan_of r (Some s)
+pub only_spelled : (text : List ℕ) (r : Result (Statement (List ℕ)) SqlErr) → Gives plan_of r (statement_of text) → (s : Plan Name) → Spells text s → Gives plan_of r (Some s)
 only_spelled text r h s spells = subst (λ (o : Option (Plan Name)). Gives plan_of r o) (read_complete text s spells) h
 
-pub ok_written : (text : List ℕ) (r : Result (Statement (List ℕ)) SqlErr) → Gives plan_of r (read_at text) → IfOk r (λ s. IsStatement (plan_of s))
+pub ok_written : (text : List ℕ) (r : Result (Statement (List ℕ)) SqlErr) → Gives plan_of r (statement_of text) → IfOk r (λ s. IsStatement (plan_of s))
 ok_written text (Ok s) h = (text, read_sound text (plan_of s) h)
 ok_written text (Err e) h = tt

@@ -10,9 +10,7 @@ use Rattle.sql_reader.specs.declared.token.Token.TheVariants as token
 use Rattle.sql_tree.specs.Plain.{Term, Total, count, total, least, greatest, value, drawn, Change, Name}
 use Rattle.sql_reader.specs.Grammar as g
 use Rattle.sql_reader.specs.Grammar.{operator_token, Reads, IsExpression, Joined, IsList, IsName, IsKey, IsAggregate, IsInput, IsSetting, IsWhere, IsOrder, IsForUpdate, IsSelection, IsColumns, IsBody, IsStatementOf}
-use Rattle.sql_reader.specs.Scan.{◌>>=◌}
-use Rattle.sql_reader.specs.Descent.{cases, after_word, after_sign, expression_at}
-use Rattle.sql_reader.specs.Sentences.{list_at, name_at, key_at, enclosed_at, counted_at, made_of, aggregate_at, draw_at, input_at, setting_at, where_at, order_at, for_update_at, from_at}
+use Rattle.sql_reader.specs.Reading.{◌>>=◌, cases, after_word, after_sign, expression_at, list_at, name_at, key_at, enclosed_at, counted_at, made_of, aggregate_at, draw_at, input_at, setting_at, where_at, order_at, for_update_at, from_at}
 use Rattle.sql_reader.proofs.Options.{bind_then, some, some_is, nothing_is, cases_are}
 use Rattle.sql_reader.proofs.Firsts.{after_word_is, after_sign_is}
 use Rattle.sql_reader.proofs.Expressions.{expression_sound}

@@ -7,7 +7,7 @@ use Rattle.sql_reader.specs.declared.error.SqlErr.{SqlErr}
 use Rattle.sql_reader.specs.declared.error.SqlErr.TheVariants as error
 use Rattle.sql_tree.specs.Plain.{Term, bin, Name}
 use Rattle.sql_reader.specs.Spelling.{Fails}
-use Rattle.sql_reader.specs.Descent.{operator_at, more_at, chain_at, inner_at, part_at}
+use Rattle.sql_reader.specs.Reading.{operator_at, more_at, chain_at, inner_at, part_at}
 
 module _ (operand : List Token → Option (Term Name × List Token)) (part : Part) where
   pub chain_begins : (ts : List Token) (left : Term Name) (after : List Token) → operand ts ≡ Some (left, after) → more_at operand part (length ts - 0) left after ≡ chain_at operand part ts

@@ -10,8 +10,7 @@ use Rattle.sql_reader.specs.declared.token.Token.{Token}
 use Rattle.sql_reader.specs.declared.token.Token.TheVariants as token
 use Rattle.sql_tree.specs.Plain.{Term, null, int, text, bind, column, rowid, neg, not, bin, is_null, not_null, Name}
 use Rattle.sql_reader.specs.Grammar.{line_of, operator_token, Reads, conjunction, or_, negation, and_, comparison, not_, sum_, compare_, is_null_, not_null_, product, add_, factor, multiply_, primary, minus_, number, string, null_, bind_, name, rowid_, parentheses}
-use Rattle.sql_reader.specs.Scan.{◌>>=◌}
-use Rattle.sql_reader.specs.Descent.{cases, after_word, after_sign, operator_at, more_at, chain_at, null_test, primary_in, factor_in, product_in, sum_in, compared_in, comparison_in, negation_in, conjunction_in, disjunction_in, part_in, inner_at, part_at, expression_at}
+use Rattle.sql_reader.specs.Reading.{◌>>=◌, cases, after_word, after_sign, operator_at, more_at, chain_at, null_test, primary_in, factor_in, product_in, sum_in, compared_in, comparison_in, negation_in, conjunction_in, disjunction_in, part_in, inner_at, part_at, expression_at}
 use Rattle.sql_reader.proofs.Options.{bind_then, some, some_is, nothing_is, cases_are}
 use Rattle.sql_reader.proofs.Firsts.{after_word_is, after_sign_is, operator_sound}
 

@@ -7,7 +7,7 @@ use Rattle.sql_reader.specs.declared.token.Token.{Token}
 use Rattle.sql_reader.specs.declared.error.SqlErr.{SqlErr}
 use Rattle.sql_reader.specs.declared.error.SqlErr.TheVariants as error
 use Rattle.sql_reader.specs.Spelling.{Fails}
-use Rattle.sql_reader.specs.Scan.{◌>>=◌, keep, begins_quote, content_at, step_at, tokens_at}
+use Rattle.sql_reader.specs.Reading.{◌>>=◌, keep, begins_quote, content_at, step_at, tokens_at}
 
 -- bytes before those that are read
 abbrev pub content_front : List ℕ → Option (List ℕ × List ℕ) → Option (List ℕ × List ℕ)

@@ -5,9 +5,7 @@ use Rattle.sql_reader.specs.declared.token.Token.{Token}
 use Rattle.sql_reader.specs.declared.error.SqlErr.{SqlErr}
 use Rattle.sql_reader.specs.declared.error.SqlErr.TheVariants as error
 use Rattle.sql_reader.specs.Spelling.{Fails}
-use Rattle.sql_reader.specs.Scan.{◌>>=◌}
-use Rattle.sql_reader.specs.Descent.{after_sign}
-use Rattle.sql_reader.specs.Sentences.{list_at}
+use Rattle.sql_reader.specs.Reading.{◌>>=◌, after_sign, list_at}
 
 module _ {A : Type 0} (read : List Token → Option (A × List Token)) where
   -- members before those that are read

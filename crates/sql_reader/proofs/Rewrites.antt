@@ -43,15 +43,9 @@ weaken name = name
 weaken rowid_ = rowid_
 weaken (parentheses r) = parentheses (weaken r)
 
-at_most : (part : Part) → looseness part ≤ 7
+pub at_most : (part : Part) → looseness part ≤ 7
 at_most Primary = omega arith
-at_most Factor = omega arith
-at_most Product = omega arith
-at_most Sum = omega arith
-at_most Comparison = omega arith
-at_most Negation = omega arith
-at_most Conjunction = omega arith
-at_most Disjunction = omega arith
+at_most other = omega arith
 
 -- a tighter part is also a looser one
 raise : (n : ℕ) (p q : Part) {d : ℕ} {ts : List Token} {e : Term Name} → looseness p + n ≡ looseness q → Reads p d ts e → Reads q d ts e

@@ -3,7 +3,7 @@ use Rattle.std.proofs.Common.{◌≡◌, ℕ, suc, true, false, List, [], ◌∷
 use Rattle.std.specs.List.{list_all, prefix_len}
 use Rattle.std.proofs.lemmas.Bool.{and_from, and_parts}
 use Rattle.sql_reader.specs.Lexical.{is_part}
-use Rattle.sql_reader.specs.Scan.{run_of, behind_run}
+use Rattle.sql_reader.specs.Reading.{run_of, behind_run}
 use Rattle.sql_reader.proofs.Options.{either_way}
 
 -- no part of a word is first

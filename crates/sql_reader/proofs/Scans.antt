@@ -16,14 +16,14 @@ use Rattle.sql_reader.specs.declared.token.Sign.{Sign}
 use Rattle.sql_reader.specs.declared.token.Sign.TheVariants as sign
 use Rattle.sql_reader.specs.declared.token.Token.{Token}
 use Rattle.sql_reader.specs.declared.token.Token.TheVariants as token
-use Rattle.desk_values.specs.Keyword.{keyword_word}
+use Rattle.desk_values.specs.Keyword.{keyword_word, keywords_have_own_words}
 use Rattle.sql_reader.specs.Words.{sign_text}
 use Rattle.sql_reader.specs.Lexical.{is_space, is_part, is_word, is_numeral, folded, quoted, goes_on, EndsBefore, Lexeme, word, name, number, string, bind, mark, other_not_equal, Tokens, end, space, then}
-use Rattle.sql_reader.specs.Scan.{◌>>=◌, txt_at, keyword_at, name_or, word_at, value_after, value_at, number_at, bind_number, bind_at, content_at, string_at, sign_at, run_of, behind_run, with_rest, token_at, step_at, tokens_at, scanned}
+use Rattle.sql_reader.specs.Reading.{◌>>=◌, txt_at, keyword_at, name_or, word_at, value_after, value_at, number_at, bind_number, bind_at, content_at, string_at, sign_at, run_of, behind_run, with_rest, token_at, step_at, tokens_at, scanned}
 use Rattle.sql_reader.proofs.Options.{bind_then, chosen, some_is, pair_is, nothing_is}
 use Rattle.sql_reader.proofs.Txt.{txt_fits, txt_sound, txt_is}
 use Rattle.sql_reader.proofs.Runs.{Stops, IsRun, run_more, run_sound, run_complete}
-use Rattle.sql_reader.proofs.Words.{keyword_again, keyword_sound, keyword_none, keyword_refused, value_sound, value_complete, bind_sound, bind_complete, tens}
+use Rattle.sql_reader.proofs.Words.{keyword_sound, keyword_none, keyword_refused, value_sound, value_complete, bind_sound, bind_complete, tens}
 use Rattle.sql_reader.proofs.Strings.{NoQuote, content_sound, content_complete, IsFront, sign_sound, sign_complete, other_complete}
 
 -- ---- what stops a token
@@ -262,7 +262,7 @@ folded_ascii (b ∷ bs) h (suc i) = folded_ascii bs (and_parts (is_part b) (list
 
 word_again : (run : List ℕ) (k : Keyword) → folded run ≡ keyword_word k → word_at run ≡ Some (token.Word k)
 unfolding word_at
-word_again run k e = rw (e, keyword_again k) refl
+word_again run k e = rw (e, keywords_have_own_words k) refl
 
 name_again : (run : List ℕ) → is_word run ≡ true → ((k : Keyword) → folded run ≢ keyword_word k) → length run ≤ 30 → word_at run ≡ Some (token.Name (folded run))
 unfolding word_at
@@ -318,20 +318,7 @@ bind_first n rest low high stops = token_step 58 (decimal n ++ rest) (token.Bind
 sign_first : (s : Sign) (rest : List ℕ) → step_at (sign_text s ++ rest) ≡ (sign_at (sign_text s ++ rest) >>= λ x. Some (Some x.0, x.1))
 unfolding step_at token_at
 sign_first sign.Open rest = refl
-sign_first sign.Close rest = refl
-sign_first sign.Comma rest = refl
-sign_first sign.Dot rest = refl
-sign_first sign.Star rest = refl
-sign_first sign.Plus rest = refl
-sign_first sign.Minus rest = refl
-sign_first sign.Slash rest = refl
-sign_first sign.Equal rest = refl
-sign_first sign.NotEqual rest = refl
-sign_first sign.Less rest = refl
-sign_first sign.LessOrEqual rest = refl
-sign_first sign.Greater rest = refl
-sign_first sign.GreaterOrEqual rest = refl
-sign_first sign.Semicolon rest = refl
+sign_first other rest = refl
 
 other_first : (rest : List ℕ) → step_at (codes "!=" ++ rest) ≡ (sign_at (codes "!=" ++ rest) >>= λ x. Some (Some x.0, x.1))
 unfolding step_at token_at
@@ -356,20 +343,7 @@ numeral_long (b ∷ bs) h = omega arith
 
 sign_long : (s : Sign) → 1 ≤ length (sign_text s)
 sign_long sign.Open = lit≤ tt
-sign_long sign.Close = lit≤ tt
-sign_long sign.Comma = lit≤ tt
-sign_long sign.Dot = lit≤ tt
-sign_long sign.Star = lit≤ tt
-sign_long sign.Plus = lit≤ tt
-sign_long sign.Minus = lit≤ tt
-sign_long sign.Slash = lit≤ tt
-sign_long sign.Equal = lit≤ tt
-sign_long sign.NotEqual = lit≤ tt
-sign_long sign.Less = lit≤ tt
-sign_long sign.LessOrEqual = lit≤ tt
-sign_long sign.Greater = lit≤ tt
-sign_long sign.GreaterOrEqual = lit≤ tt
-sign_long sign.Semicolon = lit≤ tt
+sign_long other = lit≤ tt
 
 lexeme_long : {text : List ℕ} {t : Token} → Lexeme text t → 1 ≤ length text
 lexeme_long {text} (word w e) = word_long text w

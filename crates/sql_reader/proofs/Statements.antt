@@ -8,9 +8,7 @@ use Rattle.sql_reader.specs.declared.token.Token.TheVariants as token
 use Rattle.sql_tree.specs.Plain.{Entry, Asked, columns, values, totals, Plan, select, next, insert, update, delete, commit, rollback, set_read_only, Name}
 use Rattle.sql_reader.specs.Grammar as g
 use Rattle.sql_reader.specs.Grammar.{operator_token, Reads, IsExpression, Joined, IsList, IsName, IsKey, IsAggregate, IsInput, IsSetting, IsWhere, IsOrder, IsForUpdate, IsSelection, IsColumns, IsBody, IsStatementOf}
-use Rattle.sql_reader.specs.Scan.{◌>>=◌}
-use Rattle.sql_reader.specs.Descent.{cases, after_word, after_sign, expression_at}
-use Rattle.sql_reader.specs.Sentences.{list_at, name_at, aggregate_at, draw_at, input_at, setting_at, where_at, order_at, for_update_at, from_at, begins_aggregate, aggregates_at, rows_at, listed_at, dual_at, items_at, select_at, columns_at, inputs_at, insert_at, update_at, delete_at, set_at, body_at, without_semicolon, only_if_empty, statement_at}
+use Rattle.sql_reader.specs.Reading.{◌>>=◌, cases, after_word, after_sign, expression_at, list_at, name_at, aggregate_at, draw_at, input_at, setting_at, where_at, order_at, for_update_at, from_at, begins_aggregate, aggregates_at, rows_at, listed_at, dual_at, items_at, select_at, columns_at, inputs_at, insert_at, update_at, delete_at, set_at, body_at, without_semicolon, only_if_empty, statement_at}
 use Rattle.sql_reader.proofs.Options.{bind_then, chosen, some_is, nothing_is, cases_are}
 use Rattle.sql_reader.proofs.Firsts.{after_word_is, after_sign_is}
 use Rattle.sql_reader.proofs.Clauses.{FrontOf, SoundOf, got, whole_sound, name_is, name_sound, list_sound, aggregate_sound, draw_is, input_sound, setting_sound, where_sound, order_sound, for_update_sound, from_is}

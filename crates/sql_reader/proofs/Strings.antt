@@ -12,7 +12,7 @@ use Rattle.sql_reader.specs.declared.token.Token.{Token}
 use Rattle.sql_reader.specs.declared.token.Token.TheVariants as token
 use Rattle.sql_reader.specs.Words.{sign_text}
 use Rattle.sql_reader.specs.Lexical.{quoted, lengthens, EndsBefore, Lexeme, mark, other_not_equal}
-use Rattle.sql_reader.specs.Scan.{keep, content_at, begins, all_signs, sign_behind, sign_at}
+use Rattle.sql_reader.specs.Reading.{keep, content_at, begins, all_signs, sign_behind, sign_at}
 use Rattle.sql_reader.proofs.Options.{bind_some, chosen, either_way, find_passes, some_is, pair_is, nothing_is, or_none}
 use Rattle.sql_reader.proofs.Fronts.{content_next}
 
@@ -144,18 +144,7 @@ sign_ends sign.Greater rest e =
     let c = skipped (λ s. begins (sign_text s) (62 ∷ rest)) sign.GreaterOrEqual signs_from_fourth sign.Greater (λ h. cc) b.1 in
     greater_ends rest (not_behind 62 61 rest c.0)
 sign_ends sign.Open rest e = ends_free sign.Open rest (λ b. refl)
-sign_ends sign.Close rest e = ends_free sign.Close rest (λ b. refl)
-sign_ends sign.Comma rest e = ends_free sign.Comma rest (λ b. refl)
-sign_ends sign.Dot rest e = ends_free sign.Dot rest (λ b. refl)
-sign_ends sign.Star rest e = ends_free sign.Star rest (λ b. refl)
-sign_ends sign.Plus rest e = ends_free sign.Plus rest (λ b. refl)
-sign_ends sign.Minus rest e = ends_free sign.Minus rest (λ b. refl)
-sign_ends sign.Slash rest e = ends_free sign.Slash rest (λ b. refl)
-sign_ends sign.Equal rest e = ends_free sign.Equal rest (λ b. refl)
-sign_ends sign.NotEqual rest e = ends_free sign.NotEqual rest (λ b. refl)
-sign_ends sign.LessOrEqual rest e = ends_free sign.LessOrEqual rest (λ b. refl)
-sign_ends sign.GreaterOrEqual rest e = ends_free sign.GreaterOrEqual rest (λ b. refl)
-sign_ends sign.Semicolon rest e = ends_free sign.Semicolon rest (λ b. refl)
+sign_ends other rest e = ends_free other rest (λ b. refl)
 
 -- a token that stands at the front
 pub record IsFront (bytes : List ℕ) (t : Token) (rest : List ℕ) : Type 0 where
@@ -196,18 +185,7 @@ unfolding sign_at
 sign_complete sign.Less rest h = less_again rest h
 sign_complete sign.Greater rest h = greater_again rest h
 sign_complete sign.Open rest h = refl
-sign_complete sign.Close rest h = refl
-sign_complete sign.Comma rest h = refl
-sign_complete sign.Dot rest h = refl
-sign_complete sign.Star rest h = refl
-sign_complete sign.Plus rest h = refl
-sign_complete sign.Minus rest h = refl
-sign_complete sign.Slash rest h = refl
-sign_complete sign.Equal rest h = refl
-sign_complete sign.NotEqual rest h = refl
-sign_complete sign.LessOrEqual rest h = refl
-sign_complete sign.GreaterOrEqual rest h = refl
-sign_complete sign.Semicolon rest h = refl
+sign_complete other rest h = refl
 
 pub other_complete : (rest : List ℕ) → sign_at (codes "!=" ++ rest) ≡ Some (token.Sign sign.NotEqual, rest)
 unfolding sign_at

@@ -144,20 +144,7 @@ text_again l.other_not_equal = l.mark
 
 no_space_sign : (s : Sign) → lengthens s 32 ≡ false
 no_space_sign sign.Open = refl
-no_space_sign sign.Close = refl
-no_space_sign sign.Comma = refl
-no_space_sign sign.Dot = refl
-no_space_sign sign.Star = refl
-no_space_sign sign.Plus = refl
-no_space_sign sign.Minus = refl
-no_space_sign sign.Slash = refl
-no_space_sign sign.Equal = refl
-no_space_sign sign.NotEqual = refl
-no_space_sign sign.Less = refl
-no_space_sign sign.LessOrEqual = refl
-no_space_sign sign.Greater = refl
-no_space_sign sign.GreaterOrEqual = refl
-no_space_sign sign.Semicolon = refl
+no_space_sign other = refl
 
 space_ends : (t : Token) (rest : List ℕ) → EndsBefore t (32 ∷ rest)
 space_ends (token.Sign s) rest = no_space_sign s

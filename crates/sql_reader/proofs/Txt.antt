@@ -9,7 +9,7 @@ use Rattle.std.proofs.lemmas.Str.{IsUtf8-from_is_utf8, is_utf8-from_IsUtf8}
 use Rattle.desk_values.specs.declared.text.TxtErr.{TxtErr}
 use Rattle.desk_values.specs.declared.text.TxtErr.TheVariants as text_error
 use Rattle.sql_reader.specs.Spelling.{Fails, sql_err}
-use Rattle.sql_reader.specs.Scan.{txt_at}
+use Rattle.sql_reader.specs.Reading.{txt_at}
 use Rattle.desk_values.specs.Good.{IsTxt}
 
 utf8_or : (bytes : List ℕ) (b : Bool) → is_utf8 bytes ≡ b → ¬ (¬ (IsUtf8 bytes)) → is_utf8 bytes ≡ true

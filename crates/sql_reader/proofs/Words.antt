@@ -12,54 +12,17 @@ use Rattle.std.proofs.lemmas.Bool.Decides.{nat_tests}
 use Rattle.std.proofs.lemmas.Slice.Eq.{bytes_eq-Decides}
 use Rattle.std.proofs.lemmas.Fmt.{decimal_digit, decimal_step}
 use Rattle.desk_values.specs.declared.keyword.Keyword.{Keyword}
-use Rattle.desk_values.specs.declared.keyword.Keyword.TheVariants as word
-use Rattle.desk_values.specs.Keyword.{keyword_word}
-use Rattle.desk_values.specs.Keyword.{all_keywords}
-use Rattle.sql_reader.specs.Scan.{keyword_at, value_after, bind_number}
+use Rattle.desk_values.specs.Word.{member_with_word}
+use Rattle.desk_values.specs.Keyword.{keyword_word, all_keywords, keywords_have_own_words}
+use Rattle.sql_reader.specs.Reading.{keyword_at, value_after, bind_number}
 use Rattle.sql_reader.proofs.Options.{guard_some, find_passes, some, some_is}
 
-pub keyword_again : (k : Keyword) → keyword_at (keyword_word k) ≡ Some k
-unfolding keyword_at
-keyword_again word.And = refl
-keyword_again word.Asc = refl
-keyword_again word.By = refl
-keyword_again word.Commit = refl
-keyword_again word.Count = refl
-keyword_again word.Delete = refl
-keyword_again word.Desc = refl
-keyword_again word.Dual = refl
-keyword_again word.For = refl
-keyword_again word.From = refl
-keyword_again word.Insert = refl
-keyword_again word.Into = refl
-keyword_again word.Is = refl
-keyword_again word.Max = refl
-keyword_again word.Min = refl
-keyword_again word.Nextval = refl
-keyword_again word.Not = refl
-keyword_again word.Null = refl
-keyword_again word.Only = refl
-keyword_again word.Or = refl
-keyword_again word.Order = refl
-keyword_again word.Read = refl
-keyword_again word.Rollback = refl
-keyword_again word.Rowid = refl
-keyword_again word.Savepoint = refl
-keyword_again word.Select = refl
-keyword_again word.Set = refl
-keyword_again word.Sum = refl
-keyword_again word.To = refl
-keyword_again word.Transaction = refl
-keyword_again word.Update = refl
-keyword_again word.Values = refl
-keyword_again word.Where = refl
-
 pub keyword_sound : (bytes : List ℕ) (k : Keyword) → keyword_at bytes ≡ Some k → bytes ≡ keyword_word k
-unfolding keyword_at
+unfolding member_with_word
 keyword_sound bytes k e = sym ((bytes_eq-Decides (keyword_word k) bytes).0 (find_passes (λ keyword. bytes_eq (keyword_word keyword) bytes) all_keywords k e))
 
 pub keyword_none : (bytes : List ℕ) → keyword_at bytes ≡ None → (k : Keyword) → bytes ≢ keyword_word k
-keyword_none bytes e k same = let again = keyword_again k in absurd (nothing (keyword_at bytes) k e (ap keyword_at same ∙ again))
+keyword_none bytes e k same = let again = keywords_have_own_words k in absurd (nothing (keyword_at bytes) k e (ap keyword_at same ∙ again))
   where
     nothing : (o : Option Keyword) (k : Keyword) → o ≡ None → o ≡ Some k → ⊥
     nothing o k e f = cc

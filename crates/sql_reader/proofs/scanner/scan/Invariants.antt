@@ -1,5 +1,5 @@
 use Rattle.std.proofs.Common.{◌≡◌, ◌-◌, length}
-use Rattle.sql_reader.specs.Scan.{tokens_at}
+use Rattle.sql_reader.specs.Reading.{tokens_at}
 use Rattle.sql_reader.proofs.Fronts.{tokens_front}
 use Rattle.sql_reader.proofs.scanner.scan.Given as goal
 

@@ -1,5 +1,5 @@
 use Rattle.std.proofs.Common.{◌≡◌, ◌-◌, map}
-use Rattle.sql_reader.specs.Sentences.{list_at}
+use Rattle.sql_reader.specs.Reading.{list_at}
 use Rattle.sql_reader.proofs.Lists.{list_front}
 use Rattle.sql_reader.proofs.sentences.list.Given as goal
 
