@@ -8,18 +8,16 @@ use Rattle.desk_values.specs.declared.keyword.Keyword.TheVariants as word
 use Rattle.sql_reader.specs.declared.token.Sign.TheVariants as sign
 use Rattle.sql_reader.specs.declared.token.Token.{Token}
 use Rattle.sql_reader.specs.declared.token.Token.TheVariants as token
-use Rattle.sql_tree.specs.Plain.{Term, null, int, text, bind, column, rowid, neg, not, bin, is_null, not_null, Name}
-use Rattle.sql_reader.specs.Grammar.{looseness, right_of, line_of, operator_token, Reads, conjunction, or_, negation, and_, comparison, not_, sum_, compare_, is_null_, not_null_, product, add_, factor, multiply_, primary, minus_, number, string, null_, bind_, name, rowid_, parentheses, IsExpression}
+use Rattle.sql_tree.specs.Plain.{Term, null, int, text, bind, column, rowid, neg, not, bin, is_null, not_null, Name, Total, Entry, Change, Asked, Plan}
+use Rattle.sql_reader.specs.Grammar.{looseness, right_of, line_of, operator_token, Reads, conjunction, or_, negation, and_, comparison, not_, sum_, compare_, is_null_, not_null_, product, add_, factor, multiply_, primary, minus_, number, string, null_, bind_, name, rowid_, parentheses, IsExpression, left_of, Joined, IsList, IsName, IsKey, IsAggregate, IsInput, IsSetting, IsWhere, IsOrder, IsForUpdate, IsSelection, IsColumns, IsBody, IsStatementOf}
 use Rattle.std.specs.Prelude.{nat_lt, if◌then◌else◌}
 use Rattle.std.specs.List.{flat_map}
 use Rattle.std.proofs.lemmas.Bool.{ltb-false, le-ltb}
 use Rattle.sql_tree.specs.declared.tree.Op.TheVariants as op
 use Rattle.sql_tree.specs.declared.tree.Key.{Key}
-use Rattle.sql_tree.specs.Plain.{Total, Entry, Change, Asked, Plan, Name}
 use Rattle.sql_reader.specs.Grammar as g
-use Rattle.sql_reader.specs.Grammar.{left_of, Joined, IsList, IsName, IsKey, IsAggregate, IsInput, IsSetting, IsWhere, IsOrder, IsForUpdate, IsSelection, IsColumns, IsBody, IsStatementOf}
 use Rattle.sql_reader.specs.Written.{part_of, bare_tokens, expression_tokens, whole, joined, called, aggregate_tokens, given_tokens, assignment_tokens, key_tokens, name_tokens, selection_tokens, where_tokens, order_tokens, for_update_tokens, columns_tokens, inputs_tokens, statement_tokens, opening, opened}
-use Rattle.sql_reader.proofs.Rewrites.{at_most}
+use Rattle.sql_reader.proofs.Rewritten.{at_most}
 
 opened_both : (ts us : List Token) → opened (ts ++ us) ≡ opened ts + opened us
 opened_both [] us = omega arith

@@ -1,4 +1,4 @@
-use Rattle.sql_reader.proofs.AllStatements.{spells_one}
+use Rattle.sql_reader.proofs.Complete.{spells_one}
 use Rattle.sql_reader.proofs.laws.one_statement.Goals as goal
 
 pub returns : goal.returns

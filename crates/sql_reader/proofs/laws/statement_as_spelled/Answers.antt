@@ -1,4 +1,4 @@
-use Rattle.sql_reader.proofs.AllStatements.{read_complete, read_sound}
+use Rattle.sql_reader.proofs.Complete.{read_complete, read_sound}
 use Rattle.sql_reader.proofs.laws.statement_as_spelled.Goals as goal
 
 pub returns : goal.returns
