@@ -1,6 +1,6 @@
 //! The trees with names as the text has them, in lower case. Each list that was read has 1 to 16 members.
 
-pub use sql_tree::{Agg, Expr, Input, Items, Key, Op, Setting, Statement};
+pub use sql_tree::{Agg, CopiedTree, Expr, Input, Items, Key, Op, Setting, Statement};
 
 use desk_values::{List, Txt};
 

@@ -1,4 +1,4 @@
--- What was read before, and what is still read.
+-- Loops that read: what was read before, and what is still read.
 use Rattle.std.proofs.Common.{◌≡◌, ℕ, suc, ◌-◌, ◌+◌, ◌≤◌, ◌<◌, ◌≢◌, Bool, false, eqb, get_or, drop, drop-cons, add-one, List, [], ◌∷◌, ◌++◌, length, Option, Some, None, refl, sym, ap, ◌∙◌, append_assoc, arith}
 use Rattle.std.specs.List.{cons_option, find}
 use Rattle.std.proofs.lemmas.Bool.Decides.{nat_tests}
@@ -7,7 +7,13 @@ use Rattle.sql_reader.specs.declared.token.Token.{Token}
 use Rattle.sql_reader.specs.declared.error.SqlErr.{SqlErr}
 use Rattle.sql_reader.specs.declared.error.SqlErr.TheVariants as error
 use Rattle.sql_reader.specs.Spelling.{Fails}
-use Rattle.sql_reader.specs.Scan.{◌>>=◌, keep, begins_quote, content_at, step_at, tokens_at}
+use Rattle.sql_reader.specs.Reading.{◌>>=◌, keep, begins_quote, content_at, step_at, tokens_at, operator_at, more_at, chain_at, inner_at, part_at, after_sign, list_at}
+use Rattle.sql_tree.specs.declared.tree.Op.{Op}
+use Rattle.sql_reader.specs.declared.part.Part.{Part}
+use Rattle.sql_tree.specs.Plain.{Term, bin, Name}
+use Rattle.sql_reader.specs.declared.token.Sign.TheVariants as sign
+
+-- ---- What was read before, and what is still read.
 
 -- bytes before those that are read
 abbrev pub content_front : List ℕ → Option (List ℕ × List ℕ) → Option (List ℕ × List ℕ)
@@ -99,3 +105,82 @@ tokens_left front count i (b ∷ bytes) total le full so_far =
     let k : count - i ≡ 0 = omega arith in
     let one : tokens_front front (tokens_at (count - i) (b ∷ bytes)) ≡ None = rw k refl in
     sym so_far ∙ one
+
+-- ---- Steps of the descent, as a loop takes them.
+
+module _ (operand : List Token → Option (Term Name × List Token)) (part : Part) where
+  pub chain_begins : (ts : List Token) (left : Term Name) (after : List Token) → operand ts ≡ Some (left, after) → more_at operand part (length ts - 0) left after ≡ chain_at operand part ts
+  unfolding chain_at
+  chain_begins ts left after e =
+      let k : length ts - 0 ≡ length ts = omega arith in
+      rw (k, e) refl
+
+  pub chain_fails : (e : SqlErr) (ts : List Token) → Fails e (operand ts) → Fails e (chain_at operand part ts)
+  unfolding chain_at
+  chain_fails error.Memory ts h = tt
+  chain_fails error.Syntax ts h = rw h refl
+
+  pub chain_goes_on : (count i : ℕ) (left : Term Name) (ts : List Token) (o : Op) (behind : List Token) (right : Term Name) (after : List Token) (total : Option (Term Name × List Token)) → i < count → operator_at part ts ≡ Some (o, behind) → operand behind ≡ Some (right, after) → more_at operand part (count - i) left ts ≡ total → more_at operand part (count - (i + 1)) (bin o left right) after ≡ total
+  chain_goes_on count i left ts o behind right after total lt e f so_far =
+      let k : count - i ≡ suc (count - (i + 1)) = omega arith in
+      let one : more_at operand part (count - i) left ts ≡ more_at operand part (count - (i + 1)) (bin o left right) after = rw (k, e, f) refl in
+      sym one ∙ so_far
+
+pub nothing_nests : (depth : ℕ) (part : Part) (ts : List Token) → depth ≡ 0 → inner_at depth part ts ≡ None
+unfolding inner_at
+nothing_nests depth part ts e = rw e refl
+
+nests : (depth : ℕ) (part : Part) (ts : List Token) → inner_at (suc depth) part ts ≡ part_at depth part ts
+unfolding inner_at part_at
+nests depth part ts = refl
+
+pub one_level : (depth : ℕ) (part : Part) (ts : List Token) → depth ≢ 0 → part_at (depth - 1) part ts ≡ inner_at depth part ts
+one_level depth part ts h =
+    let e : depth ≡ suc (depth - 1) = omega arith in
+    sym (nests (depth - 1) part ts) ∙ ap (λ (d : ℕ). inner_at d part ts) (sym e)
+
+-- ---- Reading the members of a list one after the other, as a loop does.
+
+module _ {A : Type 0} (read : List Token → Option (A × List Token)) where
+  -- members before those that are read
+  abbrev pub list_front : List A → Option (List A × List Token) → Option (List A × List Token)
+  list_front front got = got >>= λ x. Some (front ++ x.0, x.1)
+
+  regroup : (front : List A) (x : A) (got : Option (List A × List Token)) → list_front front (got >>= λ xs. Some (x ∷ xs.0, xs.1)) ≡ list_front (front ++ x ∷ []) got
+  regroup front x None = refl
+  regroup front x (Some xs) = ap (λ (ys : List A). Some (ys, xs.1)) (simp append_assoc)
+
+  pub nothing_before : (got total : Option (List A × List Token)) → got ≡ total → list_front [] got ≡ total
+  nothing_before None total e = e
+  nothing_before (Some x) total e = e
+
+  pub list_goes_on : (front : List A) (count i : ℕ) (ts : List Token) (x : A) (after more : List Token) (total : Option (List A × List Token)) → i < count → read ts ≡ Some (x, after) → after_sign sign.Comma after ≡ Some more
+      → list_front front (list_at read (count - i) ts) ≡ total → list_front (front ++ x ∷ []) (list_at read (count - (i + 1)) more) ≡ total
+  unfolding list_at
+  list_goes_on front count i ts x after more total lt e f so_far =
+      let k : count - i ≡ suc (count - (i + 1)) = omega arith in
+      let one : list_front front (list_at read (count - i) ts) ≡ list_front (front ++ x ∷ []) (list_at read (count - (i + 1)) more) = rw (k, e, f) (regroup front x (list_at read (count - (i + 1)) more)) in
+      sym one ∙ so_far
+
+  pub list_ends : (front : List A) (count i : ℕ) (ts : List Token) (x : A) (after : List Token) (total : Option (List A × List Token)) → i < count → read ts ≡ Some (x, after) → after_sign sign.Comma after ≡ None
+      → list_front front (list_at read (count - i) ts) ≡ total → total ≡ Some (front ++ x ∷ [], after)
+  unfolding list_at
+  list_ends front count i ts x after total lt e f so_far =
+      let k : count - i ≡ suc (count - (i + 1)) = omega arith in
+      let one : list_front front (list_at read (count - i) ts) ≡ Some (front ++ x ∷ [], after) = rw (k, e, f) refl in
+      sym so_far ∙ one
+
+  pub list_fails : (e : SqlErr) (front : List A) (count i : ℕ) (ts : List Token) (total : Option (List A × List Token)) → i < count → Fails e (read ts) → list_front front (list_at read (count - i) ts) ≡ total → Fails e total
+  unfolding list_at
+  list_fails error.Memory front count i ts total lt h so_far = tt
+  list_fails error.Syntax front count i ts total lt h so_far =
+      let k : count - i ≡ suc (count - (i + 1)) = omega arith in
+      let one : list_front front (list_at read (count - i) ts) ≡ None = rw (k, h) refl in
+      sym so_far ∙ one
+
+  pub list_full : (front : List A) (count i : ℕ) (ts : List Token) (total : Option (List A × List Token)) → count ≤ i → list_front front (list_at read (count - i) ts) ≡ total → total ≡ None
+  unfolding list_at
+  list_full front count i ts total le so_far =
+      let k : count - i ≡ 0 = omega arith in
+      let one : list_front front (list_at read (count - i) ts) ≡ None = rw k refl in
+      sym so_far ∙ one
