@@ -1,13 +1,13 @@
 -- How a command ends, from what its work came to and what was printed.
 use Rattle.std.proofs.Common.{◌≡◌, ◌≤◌, ◌⊎◌, inl, inr, ℕ, List, arith, Option, Some, None, Result, Ok, Err, refl, sym, ap, subst, ◌∙◌}
 use Rattle.std.specs.Prelude.{IsSomeAnd, IsErrOf}
-use Rattle.desk_files.specs.Outside.{FileMap, Told, HasRisen}
+use Rattle.desk_files.specs.Outside.{Appends, FileMap, Told, HasRisen}
 use Rattle.replay_cli.specs.declared.failure.Failure.{Failure}
 use Rattle.replay_cli.specs.declared.failure.Failure.TheVariants.{BadCommand, NotYet, BadCapture, Missing, DeviceFault, OutOfMemory}
 use Rattle.replay_cli.specs.Folder.{IsOutside}
 use Rattle.replay_cli.specs.Lines.{failure_status, failure_line, replayed_line}
 use Rattle.replay_cli.specs.Command.{RunSays, WrittenWhole, WrittenInPart, WrittenSoFar}
-use Rattle.replay_cli.specs.Status.{IsReason, IsGoodCapture, IsBadCapture, IsFileNotYet, IsFileMissing, Appends, EndsWith, Reports, status_of, line_of}
+use Rattle.replay_cli.specs.Status.{IsReason, IsGoodCapture, IsBadCapture, IsFileNotYet, IsFileMissing, EndsWith, Reports, status_of, line_of}
 use Rattle.replay_cli.proofs.Tested.{told}
 use Rattle.replay_cli.proofs.Loading.{some_and}
 use Rattle.replay_cli.proofs.Reasons.{one_reason, no_reason}

@@ -30,10 +30,9 @@ returns-in_err-write_texts-clause-says g c =
     let start : Told c0 (λ before. Holds ReadsStart (get before (start_name capture)) c.in_ok-start.start) = c.in_ok-start.ensures.says in
     let session : Told c1 (λ before. Holds ReadsRoom (get before (session_name capture)) c.in_ok-calls.calls) = c.in_ok-calls.ensures.says in
     let p = err_from_is_err_and c.from_residual-in_err-write_texts.result c.from_residual-in_err-write_texts.ensures.1 in
-    let part = λ cut. part_says CutShort c0 c1 c2 (g.F.Files.content c.write_texts.new.files) c.args.words.now capture c.in-Some.folders.out.now c.in_ok-start.start c.in_ok-calls.calls c.as_slice.result.now
+    rw (p.1, p.2) (error_says c0 (g.F.Files.content c.write_texts.new.files) c.args.words.now c.in_err-write_texts.field-0.0 c.in_err-write_texts.ensures.cause (λ cut. part_says CutShort c0 c1 c2 (g.F.Files.content c.write_texts.new.files) c.args.words.now capture c.in-Some.folders.out.now c.in_ok-start.start c.in_ok-calls.calls c.as_slice.result.now
     c.in_ok-replayed.replayed.history.items c.in_ok-replayed.replayed.tables c.len-count.result c.as_slice-2.result.now c.in-Some.ensures.some start c.in_ok-start.ensures.content session c.in_ok-calls.ensures.content
-    c.as_slice.ensures c.in_ok-replayed.ensures c.len-count.ensures (c.as_slice-2.ensures ∙ c.in_ok-writes.ensures) (c.in_err-write_texts.ensures.cut (ap Err cut)) in
-    rw (p.1, p.2) (error_says c0 (g.F.Files.content c.write_texts.new.files) c.args.words.now c.in_err-write_texts.field-0.0 c.in_err-write_texts.ensures.cause part (λ is. part_says WrittenSoFar c0 c1 c2 (g.F.Files.content c.write_texts.new.files) c.args.words.now capture c.in-Some.folders.out.now c.in_ok-start.start c.in_ok-calls.calls c.as_slice.result.now
+    c.as_slice.ensures c.in_ok-replayed.ensures c.len-count.ensures (c.as_slice-2.ensures ∙ c.in_ok-writes.ensures) (c.in_err-write_texts.ensures.cut (ap Err cut))) (λ is. part_says WrittenSoFar c0 c1 c2 (g.F.Files.content c.write_texts.new.files) c.args.words.now capture c.in-Some.folders.out.now c.in_ok-start.start c.in_ok-calls.calls c.as_slice.result.now
     c.in_ok-replayed.replayed.history.items c.in_ok-replayed.replayed.tables c.len-count.result c.as_slice-2.result.now c.in-Some.ensures.some start c.in_ok-start.ensures.content session c.in_ok-calls.ensures.content
     c.as_slice.ensures c.in_ok-replayed.ensures c.len-count.ensures (c.as_slice-2.ensures ∙ c.in_ok-writes.ensures) (c.in_err-write_texts.ensures.memory (ap Err is))))
 
