@@ -1,6 +1,6 @@
 -- What is of the grammar is read.
 use Rattle.std.proofs.Common.{◌≡◌, ℕ, zero, suc, ◌<◌, ◌≤◌, Bool, true, List, [], ◌∷◌, ◌++◌, length, Some, refl, sym, ap, ◌∙◌, arith, append_assoc, length-append, lit<, false, Option, None, subst}
-use Rattle.std.specs.Prelude.{ℤ, Result, Ok, Err, IfOk}
+use Rattle.std.specs.Prelude.{Result, Ok, Err, IfOk}
 use Rattle.sql_tree.specs.declared.tree.Op.{Op}
 use Rattle.sql_reader.specs.declared.part.Part.{Part}
 use Rattle.sql_reader.specs.declared.part.Part.TheVariants.{Disjunction, Conjunction, Negation, Comparison, Sum, Product, Factor, Primary}
@@ -8,7 +8,7 @@ use Rattle.desk_values.specs.declared.keyword.Keyword.TheVariants as word
 use Rattle.sql_reader.specs.declared.token.Sign.TheVariants as sign
 use Rattle.sql_reader.specs.declared.token.Token.{Token}
 use Rattle.sql_reader.specs.declared.token.Token.TheVariants as token
-use Rattle.sql_tree.specs.Plain.{Term, null, int, text, bind, column, rowid, neg, not, bin, is_null, not_null, Name, Total, Entry, Change, Asked, columns, values, totals, Plan, select, next, insert, update, delete, plan_of}
+use Rattle.sql_tree.specs.Plain.{Term, neg, not, bin, is_null, not_null, Name, Total, Entry, Change, Asked, columns, values, totals, Plan, select, next, insert, update, delete, plan_of}
 use Rattle.sql_reader.specs.Grammar.{looseness, line_of, operator_token, Reads, conjunction, or_, negation, and_, comparison, not_, sum_, compare_, is_null_, not_null_, product, add_, factor, multiply_, primary, minus_, number, string, null_, bind_, name, rowid_, parentheses, IsExpression, Joined, IsList, IsName, IsKey, IsAggregate, IsInput, IsSetting, IsWhere, IsOrder, IsForUpdate, IsSelection, IsColumns, IsBody, IsStatementOf}
 use Rattle.sql_reader.specs.Reading.{after_word, operator_at, more_at, chain_at, null_test, primary_in, factor_in, compared_in, comparison_in, negation_in, inner_at, part_at, expression_at, after_sign, list_at, name_at, key_at, enclosed_at, counted_at, aggregate_at, draw_at, input_at, setting_at, where_at, order_at, for_update_at, from_at, is_aggregate_word, begins_aggregate, aggregates_at, rows_at, listed_at, dual_at, items_at, select_at, columns_at, inputs_at, insert_at, update_at, delete_at, set_at, body_at, without_semicolon, only_if_empty, statement_at, statement_of, scanned}
 use Rattle.sql_reader.proofs.Firsts.{after_word_self, after_sign_self, operator_complete, operator_none, rank, rank_operator, no_is, begins_primary, begins_factor, begins_negation, no_minus, no_not, factor_from_primary, negation_from_factor}
