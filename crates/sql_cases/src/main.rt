@@ -8,13 +8,13 @@
 mod escape;
 mod shown;
 
-use desk_values::{Bytes, Memory, Txt};
-use sql_reader::{CopiedTree, SqlErr, Statement, read_statement, write_statement};
-use std::alloc::Global;
-
 ghost use Rattle.std.specs.Prelude.{IfOk};
 ghost use Rattle.sql_tree.specs.Plain.{plan_of};
 ghost use Rattle.sql_reader.specs.Spelling.{IsStatement};
+
+use desk_values::{Bytes, Memory, Txt};
+use sql_reader::{CopiedTree, SqlErr, Statement, read_statement, write_statement};
+use std::alloc::Global;
 
 fn main(rt: HostRuntime) -> Result<(), anyhow::Error> {
     let alloc = rt.alloc();

@@ -1,6 +1,6 @@
 -- What is of the grammar is read.
 use Rattle.std.proofs.Common.{◌≡◌, ℕ, zero, suc, ◌<◌, ◌≤◌, Bool, true, List, [], ◌∷◌, ◌++◌, length, Some, refl, sym, ap, ◌∙◌, arith, append_assoc, length-append, lit<, false, Option, None, subst}
-use Rattle.std.specs.Prelude.{ℤ, Result, Ok, Err, IfOk}
+use Rattle.std.specs.Prelude.{Result, Ok, Err, IfOk}
 use Rattle.sql_tree.specs.declared.tree.Op.{Op}
 use Rattle.sql_reader.specs.declared.part.Part.{Part}
 use Rattle.sql_reader.specs.declared.part.Part.TheVariants.{Disjunction, Conjunction, Negation, Comparison, Sum, Product, Factor, Primary}
@@ -8,7 +8,7 @@ use Rattle.desk_values.specs.declared.keyword.Keyword.TheVariants as word
 use Rattle.sql_reader.specs.declared.token.Sign.TheVariants as sign
 use Rattle.sql_reader.specs.declared.token.Token.{Token}
 use Rattle.sql_reader.specs.declared.token.Token.TheVariants as token
-use Rattle.sql_tree.specs.Plain.{Term, null, int, text, bind, column, rowid, neg, not, bin, is_null, not_null, Name, Total, Entry, Change, Asked, columns, values, totals, Plan, select, next, insert, update, delete, plan_of}
+use Rattle.sql_tree.specs.Plain.{Term, neg, not, bin, is_null, not_null, Name, Total, Entry, Change, Asked, columns, values, totals, Plan, select, next, insert, update, delete, plan_of}
 use Rattle.sql_reader.specs.Grammar.{looseness, line_of, operator_token, Reads, conjunction, or_, negation, and_, comparison, not_, sum_, compare_, is_null_, not_null_, product, add_, factor, multiply_, primary, minus_, number, string, null_, bind_, name, rowid_, parentheses, IsExpression, Joined, IsList, IsName, IsKey, IsAggregate, IsInput, IsSetting, IsWhere, IsOrder, IsForUpdate, IsSelection, IsColumns, IsBody, IsStatementOf}
 use Rattle.sql_reader.specs.Reading.{after_word, operator_at, more_at, chain_at, null_test, primary_in, factor_in, compared_in, comparison_in, negation_in, inner_at, part_at, expression_at, after_sign, list_at, name_at, key_at, enclosed_at, counted_at, aggregate_at, draw_at, input_at, setting_at, where_at, order_at, for_update_at, from_at, is_aggregate_word, begins_aggregate, aggregates_at, rows_at, listed_at, dual_at, items_at, select_at, columns_at, inputs_at, insert_at, update_at, delete_at, set_at, body_at, without_semicolon, only_if_empty, statement_at, statement_of, scanned}
 use Rattle.sql_reader.proofs.Firsts.{after_word_self, after_sign_self, operator_complete, operator_none, rank, rank_operator, no_is, begins_primary, begins_factor, begins_negation, no_minus, no_not, factor_from_primary, negation_from_factor}
@@ -19,6 +19,7 @@ use Rattle.sql_tree.specs.declared.tree.Key.{Key}
 use Rattle.sql_reader.specs.Grammar as g
 use Rattle.std.proofs.lemmas.List.{append-nil}
 use Rattle.desk_values.specs.declared.keyword.Keyword.{Keyword}
+use Rattle.desk_values.specs.Keyword.{same_keyword}
 use Rattle.sql_reader.specs.declared.error.SqlErr.{SqlErr}
 use Rattle.sql_tree.specs.declared.tree.Statement.{Statement}
 use Rattle.sql_reader.specs.Spelling.{Spells, IsStatement, Gives}
@@ -218,31 +219,6 @@ not_null_plain d ts a p rest h =
 parentheses_plain : (d : ℕ) (ts : List Token) (e : Term Name) → Plain Disjunction d ts e → Plain Primary (suc d) (token.Sign sign.Open ∷ (ts ++ token.Sign sign.Close ∷ [])) e
 parentheses_plain d ts e p rest h = parentheses_complete d ((ts ++ token.Sign sign.Close ∷ []) ++ rest) e rest (ap (λ (x : List Token). part_at d Disjunction x) (append_assoc ts (token.Sign sign.Close ∷ []) rest) ∙ p (token.Sign sign.Close ∷ rest) (lit< tt))
 
--- one token
-number_plain : (d : ℕ) (n : ℤ) → Plain Primary d (token.Number n ∷ []) (int n)
-unfolding part_at primary_in
-number_plain d n rest h = refl
-
-string_plain : (d : ℕ) (t : List ℕ) → Plain Primary d (token.Text t ∷ []) (text t)
-unfolding part_at primary_in
-string_plain d t rest h = refl
-
-null_token : (d : ℕ) → Plain Primary d (token.Word word.Null ∷ []) null
-unfolding part_at primary_in
-null_token d rest h = refl
-
-bind_plain : (d : ℕ) (n : ℕ) → Plain Primary d (token.Bind n ∷ []) (bind n)
-unfolding part_at primary_in
-bind_plain d n rest h = refl
-
-name_plain : (d : ℕ) (n : List ℕ) → Plain Primary d (token.Name n ∷ []) (column n)
-unfolding part_at primary_in
-name_plain d n rest h = refl
-
-rowid_plain : (d : ℕ) → Plain Primary d (token.Word word.Rowid ∷ []) rowid
-unfolding part_at primary_in
-rowid_plain d rest h = refl
-
 -- what is proved of each part
 abbrev Complete : Part → ℕ → List Token → Term Name → Type 0
 Complete Disjunction d ts e = Chained Disjunction Conjunction d ts e
@@ -261,6 +237,7 @@ disjunction_ends : (d : ℕ) (ts : List Token) (e : Term Name) → Chained Disju
 disjunction_ends d ts e c = ends Disjunction Conjunction disjunction_line (lit< tt) d ts e c
 
 complete : {part : Part} {d : ℕ} {ts : List Token} {e : Term Name} → Reads part d ts e → Complete part d ts e
+unfolding part_at primary_in
 complete (conjunction {d = d} {ts = ts} {e = e} r) = starts Disjunction Conjunction disjunction_line (lit< tt) d ts e (ends Conjunction Negation conjunction_line (lit< tt) d ts e (complete r))
 complete (or_ {d = d} {ts = ts} {us = us} {o = o} {a = a} {b = b} l p q) = links Disjunction Conjunction disjunction_line (lit< tt) d ts us o a b l (complete p) (ends Conjunction Negation conjunction_line (lit< tt) d us b (complete q))
 complete (negation {d = d} {ts = ts} {e = e} r) = starts Conjunction Negation conjunction_line (lit< tt) d ts e (complete r)
@@ -277,12 +254,12 @@ complete (factor {d = d} {ts = ts} {e = e} r) = starts Product Factor product_li
 complete (multiply_ {d = d} {ts = ts} {us = us} {o = o} {a = a} {b = b} l p q) = links Product Factor product_line (lit< tt) d ts us o a b l (complete p) (complete q)
 complete (primary {d = d} {ts = ts} {e = e} r) = factor_plain d ts e (begins r) (complete r)
 complete (minus_ {d = d} {ts = ts} {e = e} r) = λ rest h. minus_complete d (ts ++ rest) e rest (complete r rest h)
-complete (number {d = d} {n = n}) = number_plain d n
-complete (string {d = d} {t = t}) = string_plain d t
-complete (null_ {d = d}) = null_token d
-complete (bind_ {d = d} {n = n}) = bind_plain d n
-complete (name {d = d} {n = n}) = name_plain d n
-complete (rowid_ {d = d}) = rowid_plain d
+complete number = λ rest h. refl
+complete string = λ rest h. refl
+complete null_ = λ rest h. refl
+complete bind_ = λ rest h. refl
+complete name = λ rest h. refl
+complete rowid_ = λ rest h. refl
 complete (parentheses {d = d} {ts = ts} {e = e} r) = parentheses_plain d ts e (disjunction_ends d ts e (complete r))
 
 pub expression_complete : (ts : List Token) (e : Term Name) (rest : List Token) → IsExpression ts e → 7 < rank rest → expression_at (ts ++ rest) ≡ Some (e, rest)
@@ -318,21 +295,9 @@ pub ends_close : (rest : List Token) → Ends (token.Sign sign.Close ∷ rest)
 unfolding after_word after_sign
 ends_close rest = record { free = lit< tt; no_comma = refl; no_dot = refl; no_asc = refl; no_desc = refl }
 
-pub ends_from : (rest : List Token) → Ends (token.Word word.From ∷ rest)
+pub ends_word : (k : Keyword) (rest : List Token) → same_keyword k word.Asc ≡ false → same_keyword k word.Desc ≡ false → 7 < rank (token.Word k ∷ rest) → Ends (token.Word k ∷ rest)
 unfolding after_word after_sign
-ends_from rest = record { free = lit< tt; no_comma = refl; no_dot = refl; no_asc = refl; no_desc = refl }
-
-pub ends_where : (rest : List Token) → Ends (token.Word word.Where ∷ rest)
-unfolding after_word after_sign
-ends_where rest = record { free = lit< tt; no_comma = refl; no_dot = refl; no_asc = refl; no_desc = refl }
-
-ends_order : (rest : List Token) → Ends (token.Word word.Order ∷ rest)
-unfolding after_word after_sign
-ends_order rest = record { free = lit< tt; no_comma = refl; no_dot = refl; no_asc = refl; no_desc = refl }
-
-ends_for : (rest : List Token) → Ends (token.Word word.For ∷ rest)
-unfolding after_word after_sign
-ends_for rest = record { free = lit< tt; no_comma = refl; no_dot = refl; no_asc = refl; no_desc = refl }
+ends_word k rest a d free = record { free = free; no_comma = refl; no_dot = refl; no_asc = rw a refl; no_desc = rw d refl }
 
 -- the end of a statement
 pub data Final : List Token → Type 0 where
@@ -520,21 +485,16 @@ for_update_one g.held rest none = rw (after_word_self word.For (token.Word word.
 -- what follows a clause
 pub held_ends : {fs : List Token} {b : Bool} → IsForUpdate fs b → {rest : List Token} → Final rest → Ends (fs ++ rest)
 held_ends g.free f = ends_final f
-held_ends g.held {rest} f = ends_for (token.Word word.Update ∷ rest)
+held_ends g.held {rest} f = ends_word word.For (token.Word word.Update ∷ rest) refl refl (lit< tt)
 
-pub held_no_order : {fs : List Token} {b : Bool} → IsForUpdate fs b → {rest : List Token} → Final rest → after_word word.Order (fs ++ rest) ≡ None
+pub held_no_word : (k : Keyword) → same_keyword word.For k ≡ false → {fs : List Token} {b : Bool} → IsForUpdate fs b → {rest : List Token} → Final rest → after_word k (fs ++ rest) ≡ None
 unfolding after_word
-held_no_order g.free f = no_word_final word.Order f
-held_no_order g.held f = refl
-
-pub held_no_where : {fs : List Token} {b : Bool} → IsForUpdate fs b → {rest : List Token} → Final rest → after_word word.Where (fs ++ rest) ≡ None
-unfolding after_word
-held_no_where g.free f = no_word_final word.Where f
-held_no_where g.held f = refl
+held_no_word k e g.free f = no_word_final k f
+held_no_word k e g.held f = rw e refl
 
 pub order_ends : {os : List Token} {keys : List (Key Name)} → IsOrder os keys → (rest : List Token) → Ends rest → Ends (os ++ rest)
 order_ends g.by_row rest h = h
-order_ends (g.by_keys {ts = ts} l) rest h = ends_order (token.Word word.By ∷ (ts ++ rest))
+order_ends (g.by_keys {ts = ts} l) rest h = ends_word word.Order (token.Word word.By ∷ (ts ++ rest)) refl refl (lit< tt)
 
 pub order_no_where : {os : List Token} {keys : List (Key Name)} → IsOrder os keys → (rest : List Token) → after_word word.Where rest ≡ None → after_word word.Where (os ++ rest) ≡ None
 unfolding after_word
@@ -552,12 +512,12 @@ unfolding rows_at
 rows_again items table ws os fs condition keys held rest w o f final =
     let he = held_ends f final in
     let oe = order_ends o (fs ++ rest) he in
-    rw (from_one table (ws ++ (os ++ (fs ++ rest))), where_one w (os ++ (fs ++ rest)) oe (order_no_where o (fs ++ rest) (held_no_where f final)), order_one o (fs ++ rest) he (held_no_order f final), for_update_one f rest (no_word_final word.For final)) refl
+    rw (from_one table (ws ++ (os ++ (fs ++ rest))), where_one w (os ++ (fs ++ rest)) oe (order_no_where o (fs ++ rest) (held_no_word word.Where refl f final)), order_one o (fs ++ rest) he (held_no_word word.Order refl f final), for_update_one f rest (no_word_final word.For final)) refl
 
 aggregates_again : (ts ws : List Token) (items : List (Total Name)) (table : List ℕ) (condition : Option (Term Name)) (rest : List Token) → IsList IsAggregate ts items → IsWhere ws condition → Final rest → aggregates_at (ts ++ token.Word word.From ∷ token.Name table ∷ (ws ++ rest)) ≡ Some (select table (totals items) condition [] false, rest)
 unfolding aggregates_at
 aggregates_again ts ws items table condition rest l w final =
-    rw (list_again aggregate_at IsAggregate aggregate_again ts items (token.Word word.From ∷ token.Name table ∷ (ws ++ rest)) l (ends_from (token.Name table ∷ (ws ++ rest))), from_one table (ws ++ rest), where_one w rest (ends_final final) (no_word_final word.Where final)) refl
+    rw (list_again aggregate_at IsAggregate aggregate_again ts items (token.Word word.From ∷ token.Name table ∷ (ws ++ rest)) l (ends_word word.From (token.Name table ∷ (ws ++ rest)) refl refl (lit< tt)), from_one table (ws ++ rest), where_one w rest (ends_final final) (no_word_final word.Where final)) refl
 
 listed_again : (ts more : List Token) (es : List (Term Name)) (s : Plan Name) (rest : List Token) → IsList IsExpression ts es → Ends more → rows_at (values es) more ≡ Some (s, rest) → listed_at (ts ++ more) ≡ Some (s, rest)
 listed_again ts more es s rest l h e = rw (list_again expression_at IsExpression expression_again ts es more l h, e) refl
@@ -652,7 +612,7 @@ selection_again : {ts : List Token} {items : Asked Name} → IsSelection ts item
 selection_again g.star table ws os fs condition keys held rest w o f final = select_star (token.Word word.From ∷ token.Name table ∷ (ws ++ (os ++ (fs ++ rest)))) ∙ rows_again columns table ws os fs condition keys held rest w o f final
 selection_again (g.list {ts = ts} {es = es} l) table ws os fs condition keys held rest w o f final =
     let more : List Token = token.Word word.From ∷ token.Name table ∷ (ws ++ (os ++ (fs ++ rest))) in
-    select_listed ts more es l (from_no_dot (token.Name table ∷ (ws ++ (os ++ (fs ++ rest))))) ∙ listed_again ts more es (select table (values es) condition keys held) rest l (ends_from (token.Name table ∷ (ws ++ (os ++ (fs ++ rest))))) (rows_again (values es) table ws os fs condition keys held rest w o f final)
+    select_listed ts more es l (from_no_dot (token.Name table ∷ (ws ++ (os ++ (fs ++ rest))))) ∙ listed_again ts more es (select table (values es) condition keys held) rest l (ends_word word.From (token.Name table ∷ (ws ++ (os ++ (fs ++ rest)))) refl refl (lit< tt)) (rows_again (values es) table ws os fs condition keys held rest w o f final)
 
 -- ---- INSERT
 
@@ -679,7 +639,7 @@ insert_again table cs is names inputs rest c l = rw (after_word_self word.Into (
 
 settings_end : {ws : List Token} {c : Option (Term Name)} → IsWhere ws c → {rest : List Token} → Final rest → Ends (ws ++ rest)
 settings_end g.all_ f = ends_final f
-settings_end (g.where_ {ts = ts} r) {rest} f = ends_where (ts ++ rest)
+settings_end (g.where_ {ts = ts} r) {rest} f = ends_word word.Where (ts ++ rest) refl refl (lit< tt)
 
 update_again : (table : List ℕ) (ss ws : List Token) (settings : List (Change Name)) (condition : Option (Term Name)) (rest : List Token) → IsList IsSetting ss settings → IsWhere ws condition → Final rest → update_at (token.Name table ∷ token.Word word.Set ∷ (ss ++ (ws ++ rest))) ≡ Some (update table settings condition, rest)
 unfolding update_at

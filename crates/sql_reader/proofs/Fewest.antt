@@ -73,7 +73,6 @@ operated line p q o a b ts us l lp lq f h =
     let le : looseness (line_of o) ≤ looseness line = omega (arith, ap looseness l) in
     omega (arith, bare_is line (bin o a b) le, opened_both ts (operator_token o ∷ us), opened_both (expression_tokens (left_of (line_of o)) a) (operator_token o ∷ expression_tokens (right_of (line_of o)) b), none, ea, eb, f, h)
 
-
 in_parentheses : (e : Term Name) (ts : List Token) → opened (expression_tokens Disjunction e) ≤ opened ts → opened (expression_tokens Primary e) ≤ opened (token.Sign sign.Open ∷ (ts ++ token.Sign sign.Close ∷ []))
 in_parentheses e ts h = omega (arith, opened_written Primary e, extra_one (needs Primary e), bare_is Disjunction e (at_most (part_of e)), opened_both ts (token.Sign sign.Close ∷ []))
 

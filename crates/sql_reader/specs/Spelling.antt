@@ -1,5 +1,5 @@
 -- Which text spells which statement.
-use Rattle.std.specs.Prelude.{◌≡◌, ℕ, List, Option, None, Some, Result, Ok, Err}
+use Rattle.std.specs.Prelude.{◌≡◌, ℕ, List, Option, None, Some, Result}
 use Rattle.desk_values.specs.Answers.{Answers, IsTold}
 use Rattle.sql_reader.specs.declared.error.SqlErr.{SqlErr}
 use Rattle.sql_reader.specs.declared.error.SqlErr.TheVariants as error

@@ -20,6 +20,7 @@ pub use error::SqlErr;
 pub use laws::{fewest_parentheses, one_statement, statement_as_spelled};
 pub use read::read_statement;
 pub use tree::{
-    Agg, Aggs, CopiedTree, Expr, Exprs, Input, Inputs, Items, Key, Keys, Names, Op, Sets, Setting, Statement,
+    Agg, Aggs, CopiedTree, Expr, Exprs, Input, Inputs, Items, Key, Keys, Names, Op, Sets, Setting,
+    Statement,
 };
 pub use write::write_statement;

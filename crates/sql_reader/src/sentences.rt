@@ -109,8 +109,20 @@ fn key(tokens: &[Token]) -> Result<(Key, &[Token]), SqlErr>
         return Ok((Key { column, desc: true }, rest));
     }
     match after_word(Keyword::Asc, after) {
-        Some(rest) => Ok((Key { column, desc: false }, rest)),
-        None => Ok((Key { column, desc: false }, after)),
+        Some(rest) => Ok((
+            Key {
+                column,
+                desc: false,
+            },
+            rest,
+        )),
+        None => Ok((
+            Key {
+                column,
+                desc: false,
+            },
+            after,
+        )),
     }
 }
 

@@ -25,8 +25,14 @@ fn the_lists_of_a_statement_are_copied(rt: HostRuntime) -> Result<(), Fail> {
     };
     assert_eq!(rt; exprs.copy()?.len(), 2);
     let keys = keys.copy()?;
-    assert!(rt; keys.get(0).is_some_and(|key| key.column.as_str() == "a" && key.desc));
-    assert!(rt; keys.get(1).is_some_and(|key| key.column.as_str() == "b" && !key.desc));
+    assert!(rt;
+        keys.get(0)
+            .is_some_and(|key| key.column.as_str() == "a" && key.desc)
+    );
+    assert!(rt;
+        keys.get(1)
+            .is_some_and(|key| key.column.as_str() == "b" && !key.desc)
+    );
     let select = statement(rt.alloc(), "SELECT COUNT(*), MAX(a) FROM t")?;
     let Statement::Select(_, Items::Aggs(aggs), _, _, _) = &select else {
         return Err("a SELECT of two totals".into());
@@ -36,7 +42,12 @@ fn the_lists_of_a_statement_are_copied(rt: HostRuntime) -> Result<(), Fail> {
     let Statement::Insert(_, Some(names), inputs) = &insert else {
         return Err("an INSERT with names".into());
     };
-    assert!(rt; names.copy()?.get(0).is_some_and(|name| name.as_str() == "b"));
+    assert!(rt;
+        names
+            .copy()?
+            .get(0)
+            .is_some_and(|name| name.as_str() == "b")
+    );
     assert_eq!(rt; inputs.copy()?.len(), 2);
     let update = statement(rt.alloc(), "UPDATE t SET a = 1, b = 2, c = 3")?;
     let Statement::Update(_, settings, _) = &update else {
