@@ -2,7 +2,7 @@
 use Rattle.std.proofs.Common.{◌≡◌, ℕ, List, Option, None, Result, Err, sym, ap, ◌∙◌}
 use Rattle.desk_schema.specs.declared.draft.DraftErr.{DraftErr}
 use Rattle.desk_schema.specs.declared.draft.DraftErr.TheVariants as draft
-use Rattle.desk_schema.specs.Start.{Judges}
+use Rattle.desk_schema.specs.Draft.{Judges}
 use Rattle.capture_format.specs.declared.form.FormErr.{FormErr}
 use Rattle.capture_format.specs.declared.form.FormErr.TheVariants.{NotYet, Memory}
 use Rattle.capture_format.specs.StartSteps.{ReadsNext, ReadsPart, rule_err}

@@ -1,4 +1,6 @@
 pub mod Cuts
+pub mod ReplyTexts
+pub mod CallTexts
 pub mod Alphabet
 pub mod SessionLines
 pub mod SessionSteps
@@ -11,6 +13,5 @@ pub mod SimpleReader
 pub mod StartReader
 pub mod Failures
 pub mod StartLoop
-pub mod StartEnd
 pub mod StartTail
 pub mod Unique

@@ -11,7 +11,9 @@ use Rattle.desk_values.specs.declared.call.Call.{Call as AnyCall}
 use Rattle.desk_values.specs.Fields.{Lacks, cut_at}
 use Rattle.desk_values.specs.Good.{IsCall, IsGoodReply}
 use Rattle.desk_values.specs.Text.{call_text, reply_text}
-use Rattle.desk_values.specs.Reading.{◌>>=◌, number_of, number_below, call_of, reply_of}
+use Rattle.desk_values.specs.Reading.{◌>>=◌, number_of, number_below}
+use Rattle.capture_format.specs.CallReading.{call_of}
+use Rattle.capture_format.specs.ReplyReading.{reply_of}
 use Rattle.desk_values.proofs.Options.{bind_some, map_some, if_some, chosen}
 use Rattle.desk_values.proofs.Readers.{IsReader}
 use Rattle.desk_values.proofs.Cuts.{cut_at-joined, cut_at_parts}

@@ -1,10 +1,11 @@
 -- What a line that was read says of the whole start file.
 use Rattle.std.proofs.Common.{◌≡◌, ◌≢◌, ◌⊎◌, inl, inr, ℕ, ◌<◌, ◌≤◌, ◌^◌, Bool, true, false, List, [], ◌∷◌, ◌++◌, length, Option, Some, None, refl, ap, sym, subst, ◌∙◌, append_assoc, append-nil, length-append, arith, lit<}
-use Rattle.std.specs.Prelude.{codes, fold}
+use Rattle.std.specs.Prelude.{codes}
 use Rattle.std.specs.List.{AllByRecursion, last_or}
 use Rattle.std.specs.Fmt.{decimal, signed_decimal}
 use Rattle.std.proofs.lemmas.Option.{same_Some}
 use Rattle.std.proofs.lemmas.List.Concat.{flat_map-append}
+use Rattle.std.proofs.lemmas.List.Sums.{fold-append}
 use Rattle.desk_values.specs.Fields.{Lacks, cut_at}
 use Rattle.desk_values.specs.Text.{values_text}
 use Rattle.desk_values.proofs.Options.{bind_some}
@@ -17,10 +18,11 @@ use Rattle.desk_schema.specs.declared.schema.Rights.{Rights}
 use Rattle.desk_schema.specs.declared.schema.Rights.TheVariants.{ReadWrite, ReadOnly}
 use Rattle.desk_schema.specs.Name.{IsName}
 use Rattle.desk_schema.specs.Line.{rights_text, nulls_text, kind_text, line_text, lines_text}
-use Rattle.desk_schema.specs.Rules.{place, last_place, MayFollow, AreLinesAfter, AreLines}
+use Rattle.desk_schema.specs.State.{State, nothing, place, added, state_after, state_of}
+use Rattle.desk_schema.specs.Rules.{MayFollow, AreLinesFrom, AreLines}
 use Rattle.capture_format.specs.StartFile.{IsColumnKind, IsStartLine, IsStartFile}
 use Rattle.capture_format.specs.StartReading.{start_line_of}
-use Rattle.capture_format.specs.StartSteps.{next_line_of, StartSoFar, IsNoStart, IsNextRow}
+use Rattle.capture_format.specs.StartSteps.{next_line_of, StartSoFar, DraftSoFar, IsNoStart, IsNextRow}
 use Rattle.capture_format.proofs.Cuts.{all_append}
 use Rattle.capture_format.proofs.Alphabet.{AreTextBytes, text_word, text_decimal, text_signed, text_values}
 use Rattle.capture_format.proofs.SessionSteps.{visible_all}
@@ -151,17 +153,17 @@ so_far_more whole before rest x so_far e =
 
 -- ---- what is no start file
 
-follows_at : (front before : List StartLine) (l : StartLine) (more : List StartLine) → AreLinesAfter front (before ++ l ∷ more) → MayFollow (front ++ before) l
-follows_at front [] l more are = subst (λ (ls : List StartLine). MayFollow ls l) (sym (append-nil front)) are.0
-follows_at front (b ∷ before) l more are = subst (λ (ls : List StartLine). MayFollow ls l) (append_assoc front (b ∷ []) before) (follows_at (front ++ b ∷ []) before l more are.1)
+follows_at : (state : State) (before : List StartLine) (l : StartLine) (more : List StartLine) → AreLinesFrom state (before ++ l ∷ more) → MayFollow (state_after state before) l
+follows_at state [] l more are = are.0
+follows_at state (b ∷ before) l more are = follows_at (added state b) before l more are.1
 
 -- the next line of a file may follow
-pub next_follows : (whole : List ℕ) (before : List StartLine) (rest : List ℕ) (x : StartLine × List ℕ) (lines : List StartLine) → StartSoFar whole before rest → next_line_of rest ≡ Some x → IsStartFile whole lines → MayFollow before x.0
+pub next_follows : (whole : List ℕ) (before : List StartLine) (rest : List ℕ) (x : StartLine × List ℕ) (lines : List StartLine) → StartSoFar whole before rest → next_line_of rest ≡ Some x → IsStartFile whole lines → MayFollow (state_of before) x.0
 next_follows whole before rest x lines so_far e file =
     let next = next_is whole before rest x lines so_far e file in
-    follows_at [] before x.0 next.more (subst (λ (ls : List StartLine). AreLines ls) next.are file.lines_are)
+    follows_at nothing before x.0 next.more (subst (λ (ls : List StartLine). AreLines ls) next.are file.lines_are)
 
-pub rule_broken : (whole : List ℕ) (before : List StartLine) (rest : List ℕ) (x : StartLine × List ℕ) → StartSoFar whole before rest → next_line_of rest ≡ Some x → (¬ (MayFollow before x.0)) → IsNoStart whole
+pub rule_broken : (whole : List ℕ) (before : List StartLine) (rest : List ℕ) (x : StartLine × List ℕ) → StartSoFar whole before rest → next_line_of rest ≡ Some x → (¬ (MayFollow (state_of before) x.0)) → IsNoStart whole
 rule_broken whole before rest x so_far e broken = λ lines file. broken (next_follows whole before rest x lines so_far e file)
 
 -- the lines so far are no file yet
@@ -178,17 +180,17 @@ no_next whole before rest so_far e unended = λ lines file. stops lines (left wh
     stops : (lines : List StartLine) → IsLeft whole before rest lines → last_or None lines ≡ Some line.End → ⊥
     stops lines is ended = stuck is.more is.each is.text (subst (λ (ls : List StartLine). last_or None ls ≡ Some line.End) is.are ended)
 
-ended_from : (o : Option StartLine) (n : ℕ) (before : List StartLine) → (o ≡ Some line.End → n ≡ 10) → last_or o before ≡ Some line.End → fold (λ _ l. place l) n before ≡ 10
-ended_from o n [] start ended = start ended
-ended_from o n (l ∷ before) start ended = ended_from (Some l) (place l) before (λ is. ap place (same_Some l line.End is)) ended
+ended_from : (o : Option StartLine) (state : State) (before : List StartLine) → (o ≡ Some line.End → state.last ≡ 10) → last_or o before ≡ Some line.End → (state_after state before).last ≡ 10
+ended_from o state [] start ended = start ended
+ended_from o state (l ∷ before) start ended = ended_from (Some l) (added state l) before (λ is. ap place (same_Some l line.End is)) ended
 
-pub open_within : (before : List StartLine) → last_place before ≤ 8 → IsOpen before
-open_within before low = λ ended. let at_end = ended_from None 0 before (λ never. cc) ended in absurd (omega arith)
+pub open_within : (before : List StartLine) → (state_of before).last ≤ 8 → IsOpen before
+open_within before low = λ ended. let at_end = ended_from None nothing before (λ never. cc) ended in absurd (omega arith)
 
 pub open_none : IsOpen []
 open_none = λ ended. cc
 
-pub first_is_head : (l : StartLine) → MayFollow [] l → l ≡ line.Head
+pub first_is_head : (l : StartLine) → MayFollow nothing l → l ≡ line.Head
 first_is_head line.Head may = refl
 first_is_head (line.Level level) may = absurd (omega (arith, may.0))
 first_is_head (line.Seq name next) may = absurd (omega (arith, may.order.from))
@@ -200,8 +202,8 @@ first_is_head (line.NextRow row) may = absurd (omega (arith, may.order.from))
 first_is_head (line.Sessions count) may = absurd (omega (arith, may.0))
 first_is_head line.End may = absurd (omega (arith, may))
 
-pub second_is_level : (l : StartLine) → MayFollow (line.Head ∷ []) l → (level : ℕ) × (l ≡ line.Level level)
-second_is_level line.Head may = absurd (let never = may in cc)
+pub second_is_level : (l : StartLine) → MayFollow (added nothing line.Head) l → (level : ℕ) × (l ≡ line.Level level)
+second_is_level line.Head may = absurd (omega (arith, may))
 second_is_level (line.Level level) may = (level, refl)
 second_is_level (line.Seq name next) may = absurd (omega (arith, may.order.from))
 second_is_level (line.Service name rights) may = absurd (omega (arith, may.order.from))
@@ -214,19 +216,30 @@ second_is_level line.End may = absurd (omega (arith, may))
 
 -- ---- one more line
 
-last_place_from : (n : ℕ) (before : List StartLine) (l : StartLine) → fold (λ _ x. place x) n (before ++ l ∷ []) ≡ place l
-last_place_from n [] l = refl
-last_place_from n (b ∷ before) l = last_place_from (place b) before l
+pub last_more : (before : List StartLine) (l : StartLine) → (state_of (before ++ l ∷ [])).last ≡ place l
+last_more before l = ap (λ (s : State). s.last) (fold-append added nothing before (l ∷ []))
 
-pub last_place_more : (before : List StartLine) (l : StartLine) → last_place (before ++ l ∷ []) ≡ place l
-last_place_more before l = last_place_from 0 before l
+lines_more_from : (state : State) (before : List StartLine) (l : StartLine) → AreLinesFrom state before → MayFollow (state_after state before) l → AreLinesFrom state (before ++ l ∷ [])
+lines_more_from state [] l are may = (may, tt)
+lines_more_from state (b ∷ before) l are may = (are.0, lines_more_from (added state b) before l are.1 may)
 
-lines_more_after : (front before : List StartLine) (l : StartLine) → AreLinesAfter front before → MayFollow (front ++ before) l → AreLinesAfter front (before ++ l ∷ [])
-lines_more_after front [] l are may = (subst (λ (ls : List StartLine). MayFollow ls l) (append-nil front) may, tt)
-lines_more_after front (b ∷ before) l are may = (are.0, lines_more_after (front ++ b ∷ []) before l are.1 (subst (λ (ls : List StartLine). MayFollow ls l) (sym (append_assoc front (b ∷ []) before)) may))
+pub lines_more : (before : List StartLine) (l : StartLine) → AreLines before → MayFollow (state_of before) l → AreLines (before ++ l ∷ [])
+lines_more before l are may = lines_more_from nothing before l are may
 
-pub lines_more : (before : List StartLine) (l : StartLine) → AreLines before → MayFollow before l → AreLines (before ++ l ∷ [])
-lines_more before l are may = lines_more_after [] before l are may
+-- the draft with one more line
+pub draft_more : (whole : List ℕ) (state : State) (rest : List ℕ) (x : StartLine × List ℕ) → DraftSoFar whole state rest → next_line_of rest ≡ Some x → MayFollow state x.0 → DraftSoFar whole (added state x.0) x.1
+draft_more whole state rest x draft e may = record {
+  before = draft.before ++ x.0 ∷ [];
+  so_far = so_far_more whole draft.before rest x draft.so_far e;
+  are_lines = lines_more draft.before x.0 draft.are_lines (subst (λ (s : State). MayFollow s x.0) (sym draft.leads) may);
+  leads = fold-append added nothing draft.before (x.0 ∷ []) ∙ ap (λ (s : State). added s x.0) draft.leads;
+}
+
+pub draft_broken : (whole : List ℕ) (state : State) (rest : List ℕ) (x : StartLine × List ℕ) → DraftSoFar whole state rest → next_line_of rest ≡ Some x → (¬ (MayFollow state x.0)) → IsNoStart whole
+draft_broken whole state rest x draft e broken = rule_broken whole draft.before rest x draft.so_far e (λ may. broken (subst (λ (s : State). MayFollow s x.0) draft.leads may))
+
+pub draft_open : (whole : List ℕ) (state : State) (rest : List ℕ) (draft : DraftSoFar whole state rest) → state.last ≤ 8 → IsOpen draft.before
+draft_open whole state rest draft low = open_within draft.before (subst (λ (s : State). s.last ≤ 8) (sym draft.leads) low)
 
 pub next_shorter : (rest : List ℕ) (x : StartLine × List ℕ) → next_line_of rest ≡ Some x → length x.1 < length rest
 next_shorter rest x e =
@@ -246,5 +259,5 @@ place_of_next_row (line.Sessions count) is = absurd (omega arith)
 place_of_next_row line.End is = absurd (omega arith)
 
 -- a line that was not added, and is not that of the next row
-pub not_added : (before : List StartLine) (l : StartLine) → IsNextRow l ⊎ (¬ (MayFollow before l)) → ((row : ℕ) → l ≡ line.NextRow row → ⊥) → ¬ (MayFollow before l)
+pub not_added : (before : State) (l : StartLine) → IsNextRow l ⊎ (¬ (MayFollow before l)) → ((row : ℕ) → l ≡ line.NextRow row → ⊥) → ¬ (MayFollow before l)
 not_added before l reason other = elim reason [ inl next ↦ λ may. let row = place_of_next_row l next in other row.0 row.1 | inr broken ↦ broken ]

@@ -2,21 +2,22 @@
 use Rattle.std.proofs.Common.{◌≡◌, ℕ, ◌<◌, ◌≤◌, ◌^◌, leb, List, [], ◌∷◌, ◌++◌, Option, Some, None, Err, refl, ap, sym, subst, ◌∙◌, append_assoc, append-nil, arith}
 use Rattle.std.specs.List.{last_or}
 use Rattle.std.proofs.lemmas.Bool.{le-leb, leb-true}
+use Rattle.std.proofs.lemmas.List.Sums.{fold-append}
 use Rattle.std.proofs.lemmas.Option.{same_Some}
 use Rattle.desk_values.proofs.Options.{bind_some, if_some, at_end_some}
 use Rattle.desk_schema.specs.declared.line.StartLine.{StartLine}
 use Rattle.desk_schema.specs.declared.line.StartLine.TheVariants.{Head, Level, Seq, Service, Table, Column, Row, NextRow, Sessions, End}
 use Rattle.desk_schema.specs.Line.{line_text, lines_text}
-use Rattle.desk_schema.specs.Rules.{place, last_place, MayFollow, AreLinesAfter, AreLines}
-use Rattle.desk_schema.specs.Start.{StartView, start_of}
+use Rattle.desk_schema.specs.Start.{StartView}
+use Rattle.desk_schema.specs.State.{State, nothing, place, added, state_after, state_of}
+use Rattle.desk_schema.specs.Rules.{MayFollow, AreLinesFrom, AreLines}
 use Rattle.capture_format.specs.declared.form.FormErr.{FormErr}
 use Rattle.capture_format.specs.declared.form.FormErr.TheVariants.{NotYet, Memory}
 use Rattle.capture_format.specs.declared.start.StartFile.{StartFile}
 use Rattle.capture_format.specs.Reading.{ReadsFile}
-use Rattle.capture_format.specs.StartFile.{IsStartFile, sessions_of, file_of, SpellsStart}
+use Rattle.capture_format.specs.StartFile.{IsStartFile, file_of, SpellsStart}
 use Rattle.capture_format.specs.StartSteps.{next_line_of, sessions_in, ends_with, tail_of, ReadsPart, IsDeclared}
-use Rattle.capture_format.proofs.StartLoop.{next_again, left, IsLeft, so_far_more, last_place_more, lines_more, open_within}
-use Rattle.capture_format.proofs.StartEnd.{sessions_other, end_other, same_start, sessions_end, sessions_last}
+use Rattle.capture_format.proofs.StartLoop.{next_again, left, IsLeft, so_far_more, last_more, lines_more, open_within}
 
 sessions_in_some : (l : StartLine) (n : ℕ) → sessions_in l ≡ Some n → (l ≡ Sessions n) × (n ≤ 64)
 sessions_in_some Head n e = absurd cc
@@ -82,6 +83,9 @@ last_pushed : (o : Option StartLine) (before : List StartLine) (l : StartLine) �
 last_pushed o [] l = refl
 last_pushed o (first ∷ before) l = last_pushed (Some first) before l
 
+after_two : (before : List StartLine) (count : ℕ) → state_of ((before ++ Sessions count ∷ []) ++ End ∷ []) ≡ added (added (state_of before) (Sessions count)) End
+after_two before count = fold-append added nothing (before ++ Sessions count ∷ []) (End ∷ []) ∙ ap (λ (s : State). added s End) (fold-append added nothing before (Sessions count ∷ []))
+
 pub file_read : (whole : List ℕ) (start : StartView) (rest : List ℕ) (count : ℕ) → IsDeclared whole start rest → tail_of rest ≡ Some count → SpellsStart whole (record { start = start; sessions = count })
 file_read whole start rest count is e =
     let tail = tail_taken rest count e in
@@ -89,22 +93,21 @@ file_read whole start rest count is e =
     let first = so_far_more whole is.before rest (Sessions count, tail.between) is.so_far tail.first in
     let second = so_far_more whole before tail.between (End, []) first tail.second in
     let lines = before ++ End ∷ [] in
-    let start_is : start ≡ start_of lines = is.start_is ∙ sym (same_start (Sessions count) (sessions_other count) is.before) ∙ sym (same_start End end_other before) in
-    let count_is : count ≡ sessions_of lines = sym (sessions_end before ∙ sessions_last count is.before) in (
+    let after : state_of lines ≡ added (added (state_of is.before) (Sessions count)) End = after_two is.before count in (
       lines,
       record {
         each = second.each;
-        lines_are = lines_more before End (lines_more is.before (Sessions count) is.are_lines (is.last, tail.few)) (last_place_more is.before (Sessions count));
+        lines_are = lines_more before End (lines_more is.before (Sessions count) is.are_lines (is.last, tail.few)) (last_more is.before (Sessions count));
         text = second.text ∙ append-nil (lines_text lines);
         ended = last_pushed None before End;
       },
-      ap (λ (s : StartView). record { start = s; sessions = count }) start_is ∙ ap (λ (n : ℕ). record { start = start_of lines; sessions = n }) count_is,
+      ap (λ (s : StartView). record { start = s; sessions = count }) is.start_is ∙ sym (ap (λ (s : State). record { start = s.start; sessions = s.sessions }) after),
     )
 
 -- ---- what is spelled so is read
 
-after_next_row : (before : List StartLine) (l : StartLine) → last_place before ≡ 8 → MayFollow before l → (count : ℕ) × (l ≡ Sessions count) × (count ≤ 64)
-after_next_row before Head last may = absurd (let none = ap last_place may in omega arith)
+after_next_row : (before : State) (l : StartLine) → before.last ≡ 8 → MayFollow before l → (count : ℕ) × (l ≡ Sessions count) × (count ≤ 64)
+after_next_row before Head last may = absurd (omega (arith, may))
 after_next_row before (Level n) last may = absurd (omega (arith, may.0))
 after_next_row before (Seq name n) last may = absurd (omega (arith, may.order.to))
 after_next_row before (Service name rights) last may = absurd (omega (arith, may.order.to))
@@ -115,8 +118,8 @@ after_next_row before (NextRow n) last may = absurd (omega (arith, may.order.to)
 after_next_row before (Sessions count) last may = (count, refl, may.1)
 after_next_row before End last may = absurd (omega (arith, may))
 
-after_sessions : (before : List StartLine) (l : StartLine) → last_place before ≡ 9 → MayFollow before l → l ≡ End
-after_sessions before Head last may = absurd (let none = ap last_place may in omega arith)
+after_sessions : (before : State) (l : StartLine) → before.last ≡ 9 → MayFollow before l → l ≡ End
+after_sessions before Head last may = absurd (omega (arith, may))
 after_sessions before (Level n) last may = absurd (omega (arith, may.0))
 after_sessions before (Seq name n) last may = absurd (omega (arith, may.order.to))
 after_sessions before (Service name rights) last may = absurd (omega (arith, may.order.to))
@@ -127,8 +130,8 @@ after_sessions before (NextRow n) last may = absurd (omega (arith, may.order.to)
 after_sessions before (Sessions count) last may = absurd (omega (arith, may.0))
 after_sessions before End last may = refl
 
-after_end : (before : List StartLine) (l : StartLine) → last_place before ≡ 10 → MayFollow before l → ⊥
-after_end before Head last may = let none = ap last_place may in omega arith
+after_end : (before : State) (l : StartLine) → before.last ≡ 10 → MayFollow before l → ⊥
+after_end before Head last may = omega (arith, may)
 after_end before (Level n) last may = omega (arith, may.0)
 after_end before (Seq name n) last may = omega (arith, may.order.to)
 after_end before (Service name rights) last may = omega (arith, may.order.to)
@@ -139,29 +142,26 @@ after_end before (NextRow n) last may = omega (arith, may.order.to)
 after_end before (Sessions count) last may = omega (arith, may.0)
 after_end before End last may = omega (arith, may)
 
-lines_from : (front before more : List StartLine) → AreLinesAfter front (before ++ more) → AreLinesAfter (front ++ before) more
-lines_from front [] more are = subst (λ (ls : List StartLine). AreLinesAfter ls more) (sym (append-nil front)) are
-lines_from front (b ∷ before) more are = subst (λ (ls : List StartLine). AreLinesAfter ls more) (append_assoc front (b ∷ []) before) (lines_from (front ++ b ∷ []) before more are.1)
+lines_from : (state : State) (before more : List StartLine) → AreLinesFrom state (before ++ more) → AreLinesFrom (state_after state before) more
+lines_from state [] more are = are
+lines_from state (b ∷ before) more are = lines_from (added state b) before more are.1
 
 -- only the two lines are left
-two_lines : (before more : List StartLine) → last_place before ≡ 8 → AreLinesAfter before more → last_or None (before ++ more) ≡ Some End → (count : ℕ) × (more ≡ Sessions count ∷ End ∷ []) × (count ≤ 64)
+two_lines : (before more : List StartLine) → (state_of before).last ≡ 8 → AreLinesFrom (state_of before) more → last_or None (before ++ more) ≡ Some End → (count : ℕ) × (more ≡ Sessions count ∷ End ∷ []) × (count ≤ 64)
 two_lines before [] last are ended = absurd (open_within before (omega arith) (subst (λ (ls : List StartLine). last_or None ls ≡ Some End) (append-nil before) ended))
 two_lines before (l ∷ []) last are ended =
-    let first = after_next_row before l last are.0 in
+    let first = after_next_row (state_of before) l last are.0 in
     let is = first.1 in
     let pushed = last_pushed None before l in
     absurd (let all = sym pushed ∙ ended in cc)
 two_lines before (l ∷ second ∷ []) last are ended =
-    let first = after_next_row before l last are.0 in
-    let at : last_place (before ++ l ∷ []) ≡ 9 = last_place_more before l ∙ ap place first.1 in
-    let is_end = after_sessions (before ++ l ∷ []) second at are.1.0 in
+    let first = after_next_row (state_of before) l last are.0 in
+    let is_end = after_sessions (added (state_of before) l) second (ap place first.1) are.1.0 in
     (first.0, ap (λ (x : StartLine). x ∷ second ∷ []) first.1 ∙ ap (λ (x : StartLine). Sessions first.0 ∷ x ∷ []) is_end, first.2)
 two_lines before (l ∷ second ∷ third ∷ more) last are ended =
-    let first = after_next_row before l last are.0 in
-    let at : last_place (before ++ l ∷ []) ≡ 9 = last_place_more before l ∙ ap place first.1 in
-    let is_end = after_sessions (before ++ l ∷ []) second at are.1.0 in
-    let end_at : last_place ((before ++ l ∷ []) ++ second ∷ []) ≡ 10 = last_place_more (before ++ l ∷ []) second ∙ ap place is_end in
-    absurd (after_end ((before ++ l ∷ []) ++ second ∷ []) third end_at are.1.1.0)
+    let first = after_next_row (state_of before) l last are.0 in
+    let is_end = after_sessions (added (state_of before) l) second (ap place first.1) are.1.0 in
+    absurd (after_end (added (added (state_of before) l) second) third (ap place is_end) are.1.1.0)
 
 -- what the whole says, where it is a file
 pub record IsFile (start : StartView) (rest : List ℕ) (file : StartFile) : Type 0 where
@@ -170,14 +170,14 @@ pub record IsFile (start : StartView) (rest : List ℕ) (file : StartFile) : Typ
 
 file_of_left : (whole : List ℕ) (start : StartView) (rest : List ℕ) (lines : List StartLine) (is : IsDeclared whole start rest) → IsStartFile whole lines → IsLeft whole is.before rest lines → IsFile start rest (file_of lines)
 file_of_left whole start rest lines is file remains =
-    let are : AreLinesAfter is.before remains.more = lines_from [] is.before remains.more (subst (λ (ls : List StartLine). AreLines ls) remains.are file.lines_are) in
+    let are : AreLinesFrom (state_of is.before) remains.more = lines_from nothing is.before remains.more (subst (λ (ls : List StartLine). AreLines ls) remains.are file.lines_are) in
     let two = two_lines is.before remains.more is.last are (subst (λ (ls : List StartLine). last_or None ls ≡ Some End) remains.are file.ended) in
     let count = two.0 in
     let lines_is : lines ≡ (is.before ++ Sessions count ∷ []) ++ End ∷ [] = remains.are ∙ ap (λ (ls : List StartLine). is.before ++ ls) two.1 ∙ sym (append_assoc is.before (Sessions count ∷ []) (End ∷ [])) in
-    let sessions : sessions_of lines ≡ count = ap sessions_of lines_is ∙ sessions_end (is.before ++ Sessions count ∷ []) ∙ sessions_last count is.before in
+    let after : state_of lines ≡ added (added (state_of is.before) (Sessions count)) End = ap state_of lines_is ∙ after_two is.before count in
     record {
-      tail = ap tail_of (remains.text ∙ ap lines_text two.1) ∙ tail_again count two.2 ∙ ap (λ (n : ℕ). Some n) (sym sessions);
-      start_is = is.start_is ∙ sym (ap start_of lines_is ∙ same_start End end_other (is.before ++ Sessions count ∷ []) ∙ same_start (Sessions count) (sessions_other count) is.before);
+      tail = ap tail_of (remains.text ∙ ap lines_text two.1) ∙ tail_again count two.2 ∙ ap (λ (s : State). Some s.sessions) (sym after);
+      start_is = is.start_is ∙ sym (ap (λ (s : State). s.start) after);
     }
 
 pub file_is : (whole : List ℕ) (start : StartView) (rest : List ℕ) (file : StartFile) → IsDeclared whole start rest → SpellsStart whole file → IsFile start rest file

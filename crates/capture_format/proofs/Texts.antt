@@ -1,7 +1,7 @@
 -- The readers of lines undo their writers.
 use Rattle.desk_values.proofs.Readers.{IsReader}
-use Rattle.desk_values.proofs.CallTexts.{call_reader}
-use Rattle.desk_values.proofs.ReplyTexts.{reply_reader}
+use Rattle.capture_format.proofs.CallTexts.{call_reader}
+use Rattle.capture_format.proofs.ReplyTexts.{reply_reader}
 use Rattle.capture_format.specs.SessionFile.{IsSessionLine, session_line_text}
 use Rattle.capture_format.specs.SessionReading.{session_line_of}
 use Rattle.capture_format.proofs.SessionReader.{session_lines}

@@ -1,5 +1,7 @@
 pub mod Cuts
 pub mod NameReading
+pub mod CallReading
+pub mod ReplyReading
 pub mod Reading
 pub mod SessionFile
 pub mod SessionReading

@@ -4,7 +4,9 @@ use Rattle.std.specs.Option.{option_map}
 use Rattle.std.specs.List.{starts_with}
 use Rattle.std.specs.Str.{bytes_eq}
 use Rattle.desk_values.specs.Fields.{cut_at}
-use Rattle.desk_values.specs.Reading.{◌>>=◌, number_of, number_below, call_of, reply_of}
+use Rattle.desk_values.specs.Reading.{◌>>=◌, number_of, number_below}
+use Rattle.capture_format.specs.CallReading.{call_of}
+use Rattle.capture_format.specs.ReplyReading.{reply_of}
 use Rattle.capture_format.specs.declared.session_line.CallLine.{CallLine}
 use Rattle.capture_format.specs.declared.session_line.Exchange.{Exchange}
 use Rattle.capture_format.specs.declared.session_line.SessionLine.{SessionLine}

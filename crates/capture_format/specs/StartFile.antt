@@ -9,8 +9,8 @@ use Rattle.desk_schema.specs.declared.line.ColumnKind.{ColumnKind}
 use Rattle.desk_schema.specs.declared.line.ColumnKind.TheVariants.{Int, Text, Seq}
 use Rattle.desk_schema.specs.Name.{IsName}
 use Rattle.desk_schema.specs.Line.{lines_text}
+use Rattle.desk_schema.specs.State.{state_of}
 use Rattle.desk_schema.specs.Rules.{AreLines}
-use Rattle.desk_schema.specs.Start.{start_of}
 use Rattle.capture_format.specs.declared.start.StartFile.{StartFile}
 
 -- the parts of a column's kind are within the limits of their types
@@ -39,19 +39,9 @@ pub record IsStartFile (bytes : List ℕ) (lines : List StartLine) : Type 0 wher
   pub text : bytes ≡ lines_text lines
   pub ended : last_or None lines ≡ Some End
 
--- the number of sessions of the last such line, this one where there is none
-abbrev pub sessions_from : ℕ → List StartLine → ℕ
-sessions_from count [] = count
-sessions_from count (Sessions next ∷ lines) = sessions_from next lines
-sessions_from count (other ∷ lines) = sessions_from count lines
-
--- the number of sessions that the lines say, 0 where they say none
-abbrev pub sessions_of : List StartLine → ℕ
-sessions_of lines = sessions_from 0 lines
-
 -- what the lines say
 abbrev pub file_of : List StartLine → StartFile
-file_of lines = record { start = start_of lines; sessions = sessions_of lines }
+file_of lines = let state = state_of lines in record { start = state.start; sessions = state.sessions }
 
 -- the bytes are the start file that says this
 abbrev pub SpellsStart : List ℕ → StartFile → Type 0

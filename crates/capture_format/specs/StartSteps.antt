@@ -9,8 +9,9 @@ use Rattle.desk_schema.specs.declared.line.StartLine.TheVariants.{Sessions, End}
 use Rattle.desk_schema.specs.declared.draft.DraftErr.{DraftErr}
 use Rattle.desk_schema.specs.declared.draft.DraftErr.TheVariants as draft
 use Rattle.desk_schema.specs.Line.{lines_text}
-use Rattle.desk_schema.specs.Rules.{place, last_place, IsWithin, AreLines}
-use Rattle.desk_schema.specs.Start.{StartView, start_of}
+use Rattle.desk_schema.specs.Start.{StartView}
+use Rattle.desk_schema.specs.State.{State, place, state_of}
+use Rattle.desk_schema.specs.Rules.{IsWithin, AreLines}
 use Rattle.capture_format.specs.declared.form.FormErr.{FormErr}
 use Rattle.capture_format.specs.declared.form.FormErr.TheVariants.{NotYet, Memory}
 use Rattle.capture_format.specs.StartFile.{IsStartLine, IsStartFile}
@@ -68,9 +69,16 @@ pub record StartSoFar (whole : List ℕ) (before : List StartLine) (rest : List 
 abbrev pub IsNoStart : List ℕ → Type 0
 IsNoStart bytes = (lines : List StartLine) → IsStartFile bytes lines → ⊥
 
+-- the lines so far lead to this state
+pub record DraftSoFar (whole : List ℕ) (state : State) (rest : List ℕ) : Type 0 where
+  pub before : List StartLine
+  pub so_far : StartSoFar whole before rest
+  pub are_lines : AreLines before
+  pub leads : state_of before ≡ state
+
 -- the lines are past the level, and the next row is still to come
-abbrev pub IsUnderWay : List StartLine → Type 0
-IsUnderWay lines = IsWithin 2 7 (last_place lines)
+abbrev pub IsUnderWay : State → Type 0
+IsUnderWay state = IsWithin 2 7 state.last
 
 -- the line is that of the next row
 abbrev pub IsNextRow : StartLine → Type 0
@@ -81,5 +89,5 @@ pub record IsDeclared (whole : List ℕ) (start : StartView) (rest : List ℕ) :
   pub before : List StartLine
   pub so_far : StartSoFar whole before rest
   pub are_lines : AreLines before
-  pub last : last_place before ≡ 8
-  pub start_is : start ≡ start_of before
+  pub last : (state_of before).last ≡ 8
+  pub start_is : start ≡ (state_of before).start

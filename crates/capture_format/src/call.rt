@@ -4,7 +4,8 @@ ghost use Rattle.std.specs.Prelude.{◌≡◌, ◌++◌, Some, IfOk, OnOk, OnErr
 ghost use Rattle.desk_values.specs.declared.call.Call.{Call};
 ghost use Rattle.desk_values.specs.Good.{IsCall};
 ghost use Rattle.desk_values.specs.Text.{call_text};
-ghost use Rattle.desk_values.specs.Reading.{Reads, sql_of, call_of};
+ghost use Rattle.desk_values.specs.Reading.{Reads};
+ghost use Rattle.capture_format.specs.CallReading.{sql_of, call_of};
 
 use desk_values::fields::{append_text, cut, read_text};
 use desk_values::{
@@ -23,7 +24,7 @@ pub fn read_call(alloc: Global, bytes: &[u8]) -> Result<Call, ReadErr>
     call(alloc, bytes)
 }
 
-#[tactic(auto, unfolding(desk_values::specs::Reading::call_of))]
+#[tactic(auto, unfolding(crate::specs::CallReading::call_of))]
 fn call(alloc: Global, bytes: &[u8]) -> Result<Call, ReadErr>
     ensures { Reads result (call_of bytes.now) }
 {
@@ -41,7 +42,7 @@ fn call(alloc: Global, bytes: &[u8]) -> Result<Call, ReadErr>
 }
 
 // A statement's text and the values of its binds.
-#[tactic(auto, unfolding(desk_values::specs::Reading::sql_of))]
+#[tactic(auto, unfolding(crate::specs::CallReading::sql_of))]
 fn sql(alloc: Global, bytes: &[u8]) -> Result<Call, ReadErr>
     ensures { Reads result (sql_of bytes.now) }
 {

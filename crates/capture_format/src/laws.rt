@@ -1,7 +1,11 @@
-//! The bytes of a file are the file of one thing alone.
+//! The bytes of a file are the file of one thing alone, and so are those of a call and of a reply.
 
 ghost use Rattle.std.specs.Prelude.{◌≡◌, ◌<◌, ◌^◌, ℕ, List};
+ghost use Rattle.desk_values.specs.declared.call.Call.{Call};
+ghost use Rattle.desk_values.specs.declared.call.Reply.{Reply};
 ghost use Rattle.desk_values.specs.declared.capture.Captured.{Captured};
+ghost use Rattle.desk_values.specs.Good.{IsCall, IsGoodReply};
+ghost use Rattle.desk_values.specs.Text.{call_text, reply_text};
 ghost use Rattle.capture_format.specs.declared.start.StartFile.{StartFile};
 ghost use Rattle.capture_format.specs.StartFile.{SpellsStart};
 ghost use Rattle.capture_format.specs.SessionFile.{SpellsSession};
@@ -14,4 +18,14 @@ pub fn one_start()
 /// Bytes are the file of a session with at most one list of calls.
 pub fn one_session()
     ensures { (session : ℕ) (bytes : List ℕ) (calls others : List Captured) → SpellsSession session bytes calls → SpellsSession session bytes others → calls ≡ others }
+{}
+
+/// A text is the text of at most one call.
+pub fn one_call_text()
+    ensures { (a b : Call) → IsCall a → IsCall b → call_text a ≡ call_text b → a ≡ b }
+{}
+
+/// A text is the text of at most one good reply.
+pub fn one_reply_text()
+    ensures { (a b : Reply) → IsGoodReply a → IsGoodReply b → reply_text a ≡ reply_text b → a ≡ b }
 {}

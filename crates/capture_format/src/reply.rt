@@ -6,7 +6,8 @@ ghost use Rattle.desk_values.specs.declared.call.Reply.{Reply};
 ghost use Rattle.desk_values.specs.Fields.{pieces};
 ghost use Rattle.desk_values.specs.Good.{IsGoodReply};
 ghost use Rattle.desk_values.specs.Text.{values_text, rows_text, left_text, image_text, images_text, outcome_text, made_text, reply_text};
-ghost use Rattle.desk_values.specs.Reading.{Reads, ReadsAs, number_below, fault_of, each_of, filled_of, open_rows_of, rows_of, left_of, image_of, images_of, word_outcome_of, field_outcome_of, outcome_of, draws_of, made_of, reply_of};
+ghost use Rattle.desk_values.specs.Reading.{Reads, number_below, each_of};
+ghost use Rattle.capture_format.specs.ReplyReading.{ReadsAs, fault_of, filled_of, open_rows_of, rows_of, left_of, image_of, images_of, word_outcome_of, field_outcome_of, outcome_of, draws_of, made_of, reply_of};
 
 use crate::pieces::{Piece, read_pieces};
 use desk_values::fields::{append_u64, cut, read_u32, read_u64};
@@ -32,7 +33,7 @@ pub fn read_reply(alloc: Global, bytes: &[u8]) -> Result<Reply, ReadErr>
     reply(alloc, bytes)
 }
 
-#[tactic(auto, unfolding(desk_values::specs::Reading::reply_of))]
+#[tactic(auto, unfolding(crate::specs::ReplyReading::reply_of))]
 fn reply(alloc: Global, bytes: &[u8]) -> Result<Reply, ReadErr>
     ensures { Reads result (reply_of bytes.now) }
 {
@@ -48,7 +49,7 @@ fn reply(alloc: Global, bytes: &[u8]) -> Result<Reply, ReadErr>
 }
 
 // The outcome at the front, and what is left behind a space.
-#[tactic(auto, unfolding(desk_values::specs::Reading::outcome_of))]
+#[tactic(auto, unfolding(crate::specs::ReplyReading::outcome_of))]
 fn outcome(alloc: Global, bytes: &[u8]) -> Result<(Outcome, &[u8]), ReadErr>
     ensures { ReadsAs (λ front. (front.0, front.1.now)) result (outcome_of bytes.now) }
 {
@@ -60,7 +61,7 @@ fn outcome(alloc: Global, bytes: &[u8]) -> Result<(Outcome, &[u8]), ReadErr>
     Ok((field_outcome(alloc, word, field)?, rest))
 }
 
-#[tactic(auto, unfolding(desk_values::specs::Reading::word_outcome_of))]
+#[tactic(auto, unfolding(crate::specs::ReplyReading::word_outcome_of))]
 fn word_outcome(word: &[u8]) -> Option<Outcome>
     ensures { result ≡ word_outcome_of word.now }
 {
@@ -77,7 +78,7 @@ fn word_outcome(word: &[u8]) -> Option<Outcome>
     }
 }
 
-#[tactic(auto, unfolding(desk_values::specs::Reading::field_outcome_of))]
+#[tactic(auto, unfolding(crate::specs::ReplyReading::field_outcome_of))]
 fn field_outcome(alloc: Global, word: &[u8], field: &[u8]) -> Result<Outcome, ReadErr>
     ensures { Reads result (field_outcome_of word.now field.now) }
 {
@@ -100,7 +101,7 @@ fn fault(field: &[u8]) -> Option<Fault>
     Fault::from_number(read_u32(field)?)
 }
 
-#[tactic(auto, unfolding(desk_values::specs::Reading::rows_of))]
+#[tactic(auto, unfolding(crate::specs::ReplyReading::rows_of))]
 fn rows(alloc: Global, bytes: &[u8]) -> Result<RowList, ReadErr>
     ensures { Reads result (rows_of bytes.now) }
 {
@@ -129,7 +130,7 @@ fn rows_in(alloc: Global, bytes: &[u8]) -> Result<RowList, ReadErr>
 }
 
 // Values, at least one.
-#[tactic(auto, unfolding(desk_values::specs::Reading::filled_of))]
+#[tactic(auto, unfolding(crate::specs::ReplyReading::filled_of))]
 fn nonempty_values(alloc: Global, bytes: &[u8]) -> Result<Values, ReadErr>
     ensures { Reads result (filled_of bytes.now) }
 {
@@ -140,7 +141,7 @@ fn nonempty_values(alloc: Global, bytes: &[u8]) -> Result<Values, ReadErr>
     Ok(values)
 }
 
-#[tactic(auto, unfolding(desk_values::specs::Reading::images_of))]
+#[tactic(auto, unfolding(crate::specs::ReplyReading::images_of))]
 fn images(alloc: Global, bytes: &[u8]) -> Result<Images, ReadErr>
     ensures { Reads result (images_of bytes.now) }
 {
@@ -155,7 +156,7 @@ fn images(alloc: Global, bytes: &[u8]) -> Result<Images, ReadErr>
     }
 }
 
-#[tactic(auto, unfolding(desk_values::specs::Reading::image_of))]
+#[tactic(auto, unfolding(crate::specs::ReplyReading::image_of))]
 fn image(alloc: Global, bytes: &[u8]) -> Result<Image, ReadErr>
     ensures { Reads result (image_of bytes.now) }
 {
@@ -168,7 +169,7 @@ fn image(alloc: Global, bytes: &[u8]) -> Result<Image, ReadErr>
 }
 
 impl Piece for Image {
-    ghost use Rattle.desk_values.specs.Reading.{image_of as image_spelled};
+    ghost use Rattle.capture_format.specs.ReplyReading.{image_of as image_spelled};
 
     ghost reading = { image_spelled };
 
@@ -190,7 +191,7 @@ fn table_in(bytes: &[u8]) -> Option<u32>
     }
 }
 
-#[tactic(auto, unfolding(desk_values::specs::Reading::left_of))]
+#[tactic(auto, unfolding(crate::specs::ReplyReading::left_of))]
 fn left_in(alloc: Global, bytes: &[u8]) -> Result<Option<Values>, ReadErr>
     ensures { Reads result (left_of bytes.now) }
 {
@@ -200,7 +201,7 @@ fn left_in(alloc: Global, bytes: &[u8]) -> Result<Option<Values>, ReadErr>
     }
 }
 
-#[tactic(auto, unfolding(desk_values::specs::Reading::draws_of))]
+#[tactic(auto, unfolding(crate::specs::ReplyReading::draws_of))]
 fn draws_in(alloc: Global, bytes: &[u8]) -> Result<Values, ReadErr>
     ensures { Reads result (draws_of bytes.now) }
 {
@@ -212,7 +213,7 @@ fn draws_in(alloc: Global, bytes: &[u8]) -> Result<Values, ReadErr>
 }
 
 // The made row, or `None` in the option for none.
-#[tactic(auto, unfolding(desk_values::specs::Reading::made_of))]
+#[tactic(auto, unfolding(crate::specs::ReplyReading::made_of))]
 fn made_in(bytes: &[u8]) -> Option<Option<u64>>
     ensures { result ≡ made_of bytes.now }
 {

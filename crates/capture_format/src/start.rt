@@ -1,12 +1,13 @@
 //! Start files, read from their bytes.
 
-ghost use Rattle.std.specs.Prelude.{◌≡◌, ◌⊎◌, ◌++◌, ◌∷◌, [], IfOk, OnOk, IfSome, IfNone, IsErrOf};
-ghost use Rattle.desk_schema.specs.Line.{sequence_names, with_name};
+ghost use Rattle.std.specs.Prelude.{◌≡◌, ◌⊎◌, IfOk, OnOk, IfSome, IfNone, IsErrOf};
+ghost use Rattle.desk_schema.specs.Line.{with_name};
+ghost use Rattle.desk_schema.specs.State.{added, nothing};
 ghost use Rattle.desk_schema.specs.Rules.{IsKind, MayFollow};
 ghost use Rattle.capture_format.specs.declared.start.StartFile.{StartFile as AnyFile};
 ghost use Rattle.capture_format.specs.Reading.{ReadsFile};
 ghost use Rattle.capture_format.specs.StartFile.{SpellsStart};
-ghost use Rattle.capture_format.specs.StartSteps.{ReadsNext, ReadsPart, StartSoFar, IsNoStart, IsDeclared, IsUnderWay, IsNextRow, next_line_of, tail_of};
+ghost use Rattle.capture_format.specs.StartSteps.{ReadsNext, ReadsPart, DraftSoFar, IsNoStart, IsDeclared, IsUnderWay, IsNextRow, next_line_of, tail_of};
 
 use crate::form::FormErr;
 use crate::start_line::read_start_line;
@@ -59,7 +60,7 @@ fn read_declarations(alloc: Global, bytes: &[u8]) -> Result<(Start, &[u8]), Form
 
 // A draft with the first two lines, and the bytes after them.
 fn read_opening(alloc: Global, bytes: &[u8]) -> Result<(Draft, &[u8]), FormErr>
-    ensures ok { IfOk result (λ x. StartSoFar bytes.now x.0 x.1.now × (x.0 ≡ StartLine.Head ∷ StartLine.Level 1 ∷ [])) }
+    ensures ok { IfOk result (λ x. DraftSoFar bytes.now x.0 x.1.now × (x.0 ≡ added (added nothing StartLine.Head) (StartLine.Level 1))) }
     ensures not_yet { IsErrOf result FormErr.NotYet → IsNoStart bytes.now }
 {
     let (first, rest) = next_line(alloc, bytes)?;
@@ -108,7 +109,8 @@ fn read_tail(alloc: Global, bytes: &[u8]) -> Result<u32, FormErr>
 // Adds a line that is not that of the next row.
 fn add_line(draft: &mut Draft, line: StartLine) -> Result<(), FormErr>
     requires under_way { IsUnderWay draft.old }
-    ensures ok { OnOk result (draft.new ≡ draft.old ++ line ∷ []) }
+    ensures ok { OnOk result (draft.new ≡ added draft.old line) }
+    ensures rule { OnOk result (MayFollow draft.old line) }
     ensures under_way { OnOk result (IsUnderWay draft.new) }
     ensures not_yet { IsErrOf result FormErr.NotYet → IsNextRow line ⊎ (¬ (MayFollow draft.old line)) }
 {
@@ -132,8 +134,8 @@ fn add_line(draft: &mut Draft, line: StartLine) -> Result<(), FormErr>
 
 // The kind with the sequence's number in place of its name.
 fn numbered(draft: &Draft, kind: ColumnKind) -> Option<Kind>
-    ensures some { IfSome result (λ found. with_name (sequence_names draft.now) found ≡ kind) }
-    ensures none { IfNone result (¬ (IsKind (sequence_names draft.now) kind)) }
+    ensures some { IfSome result (λ found. with_name draft.now.start.schema.sequences found ≡ kind) }
+    ensures none { IfNone result (¬ (IsKind draft.now.start.schema.sequences kind)) }
 {
     match kind {
         ColumnKind::Int(low, high) => Some(Kind::Int(low, high)),

@@ -1,3 +1,4 @@
 pub mod StoredLemmas
 pub mod FileLaws
 pub mod DeviceLaws
+pub mod WriteLaws

@@ -1,4 +1,5 @@
 pub mod Outside
 pub mod Answers
+pub mod Writes
 pub mod Memory
 pub mod Stored

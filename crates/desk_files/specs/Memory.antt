@@ -1,9 +1,9 @@
 -- What contracts see of the devices in memory.
-use Rattle.std.specs.Prelude.{ℕ, ◌+◌, Bool, List, ◌==◌, if◌then◌else◌, refl}
+use Rattle.std.specs.Prelude.{ℕ, ◌+◌, Bool, ◌||◌, nat_lt, List, length, ◌==◌, if◌then◌else◌, refl}
 use Rattle.std.specs.List.{list_any}
 use Rattle.std.specs.Coded.{Coded, code_by, coded×, coded_ℕ, coded_list}
 use Rattle.std.specs.FinMap.{code}
-use Rattle.desk_files.specs.Outside.{FileMap, last_count}
+use Rattle.desk_files.specs.Outside.{FileMap, raised}
 
 -- the calls of a device: the numbers of those that fail, how many there were, and how many of them failed
 pub record Calls : Type 0 where
@@ -14,10 +14,6 @@ pub record Calls : Type 0 where
 -- no call so far
 abbrev pub no_calls : List ℕ → Calls
 no_calls fails = record { fails = fails; made = 0; faults = 0 }
-
--- one more, unless the count stands still
-abbrev pub raised : ℕ → ℕ
-raised n = if n == last_count then n else n + 1
 
 -- whether the next call is one that is to fail
 abbrev pub fails_now : Calls → Bool
@@ -37,6 +33,10 @@ pub record MemorySink : Type 0 where
   pub held : List ℕ
   pub room : ℕ
   pub calls : Calls
+
+-- a write of these bytes fails: it is one that is to fail, or they do not fit into what is left of the room
+abbrev pub refuses : MemorySink → List ℕ → Bool
+refuses sink bytes = fails_now sink.calls || nat_lt sink.room (length sink.held + length bytes)
 
 -- how the values above are stored
 abbrev pub calls_code : Coded Calls

@@ -3,21 +3,27 @@ ghost use Rattle.desk_files.specs.declared.fault.FileErr.TheVariants.{Memory as 
 ghost use Rattle.desk_files.specs.declared.fault.WriteErr.TheVariants.{Memory as WriteMemory};
 
 use desk_values::Memory;
+use thiserror::Error;
 
 /// A call of the outside failed.
-#[derive(Clone, Copy, Debug, PartialEq, Eq)]
+#[derive(Clone, Copy, Debug, Error, PartialEq, Eq)]
+#[error("the device failed")]
 pub struct Failed;
 
 /// Why a file was not read.
-#[derive(Clone, Copy, Debug, PartialEq, Eq)]
+#[derive(Clone, Copy, Debug, Error, PartialEq, Eq)]
 pub enum FileErr {
     /// There is no file of that name.
+    #[error("there is no such file")]
     Missing,
     /// It has more than [`FILE_LIMIT`](crate::FILE_LIMIT) bytes.
+    #[error("the file is too long")]
     TooLong,
     /// The device failed.
+    #[error("the device failed")]
     Failed,
     /// Want of memory.
+    #[error("out of memory")]
     Memory,
 }
 
@@ -30,11 +36,13 @@ impl From<Memory> for FileErr {
 }
 
 /// Why a file was not written.
-#[derive(Clone, Copy, Debug, PartialEq, Eq)]
+#[derive(Clone, Copy, Debug, Error, PartialEq, Eq)]
 pub enum WriteErr {
     /// The device failed.
+    #[error("the device failed")]
     Failed,
     /// Want of memory.
+    #[error("out of memory")]
     Memory,
 }
 

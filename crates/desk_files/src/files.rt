@@ -1,7 +1,7 @@
-ghost use Rattle.std.specs.Prelude.{◌≡◌, ℕ, ◌≤◌, Option, Some, length, IfOk, OnOk, IsSomeAnd, IsErrOf};
+ghost use Rattle.std.specs.Prelude.{◌≡◌, ℕ, ◌≤◌, Option, Some, length, IfOk, OnOk, IsSomeAnd};
 ghost use Rattle.std.specs.FinMap as map;
-ghost use Rattle.desk_files.specs.Outside.{FileMap, Told, HasRisen, KeepsOthers};
-ghost use Rattle.desk_files.specs.Answers.{ReadSays};
+ghost use Rattle.desk_files.specs.Outside.{FileMap, Told, KeepsOthers, Leaves};
+ghost use Rattle.desk_files.specs.Answers.{ReadSays, read_ending, write_ending};
 
 use crate::fault::{FileErr, WriteErr};
 use desk_values::{Bytes, Txt};
@@ -23,10 +23,7 @@ pub trait Files {
         ensures says { Told (content self.old) (λ files. ReadSays (map.get files name.now) result) }
         ensures limit { IfOk result (λ bytes. length bytes ≤ FILE_LIMIT) }
         ensures content { content self.new ≡ content self.old }
-        ensures failed { IsErrOf result FileErr.Failed →
-            HasRisen (faults self.old) (faults self.new) }
-        ensures unfailed { ¬ IsErrOf result FileErr.Failed → faults self.new ≡ faults self.old }
-        ensures count { faults self.old ≤ faults self.new };
+        ensures leaves { Leaves (read_ending result) (content self.old) (content self.new) (faults self.old) (faults self.new) };
 
     /// Sets the bytes of a file. After `Failed` the file of that name may hold anything, or be
     /// absent; `Memory` comes before anything is changed.
@@ -35,9 +32,5 @@ pub trait Files {
             content self.new ≡ Some (map.insert files name.now bytes.now))) }
         ensures others { Told (content self.old) (λ files.
             IsSomeAnd (content self.new) (KeepsOthers name.now files)) }
-        ensures memory { IsErrOf result WriteErr.Memory → content self.new ≡ content self.old }
-        ensures failed { IsErrOf result WriteErr.Failed →
-            HasRisen (faults self.old) (faults self.new) }
-        ensures unfailed { ¬ IsErrOf result WriteErr.Failed → faults self.new ≡ faults self.old }
-        ensures count { faults self.old ≤ faults self.new };
+        ensures leaves { Leaves (write_ending result) (content self.old) (content self.new) (faults self.old) (faults self.new) };
 }

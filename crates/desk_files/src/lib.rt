@@ -13,14 +13,13 @@ mod mem_sink;
 mod real_files;
 mod sink;
 mod std_sink;
+mod writes;
 
 pub use fault::{Failed, FileErr, WriteErr};
 pub use files::{FILE_LIMIT, Files};
 pub use mem_files::MemFiles;
 pub use mem_sink::MemSink;
-pub use real_files::RealFiles;
+pub use real_files::{RealFiles, SUFFIX};
 pub use sink::Sink;
 pub use std_sink::StdSink;
-
-#[cfg(test)]
-mod tests;
+pub use writes::{Write, write_all};

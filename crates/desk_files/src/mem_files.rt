@@ -1,7 +1,8 @@
-ghost use Rattle.std.specs.Prelude.{◌≡◌, ◌↔◌, OnOk, OnErr, IfOk, IsErrOf, IsTrue, false, Some, length, ◌≤◌};
+ghost use Rattle.std.specs.Prelude.{◌≡◌, ◌↔◌, OnOk, OnErr, IfOk, IsErrOf, IsTrue, Some, length, ◌≤◌};
 ghost use Rattle.std.specs.Option.{option_copied};
 ghost use Rattle.std.specs.FinMap as map;
-ghost use Rattle.desk_files.specs.Answers.{ReadSays};
+ghost use Rattle.desk_files.specs.Outside.{is_failed};
+ghost use Rattle.desk_files.specs.Answers.{ReadSays, read_ending, write_ending};
 ghost use Rattle.desk_files.specs.Memory.{no_calls, fails_now, after_call};
 
 use crate::calls::Calls;
@@ -74,9 +75,8 @@ impl Files for MemFiles {
         ensures failed { IsErrOf result FileErr.Failed ↔ IsTrue (fails_now self.old.calls) }
         ensures says { ReadSays (map.get self.old.files name.now) result }
         ensures limit { IfOk result (λ bytes. length bytes ≤ FILE_LIMIT) }
-        ensures after { self.new ≡ record self.old {
-          calls = after_call self.old.calls (fails_now self.old.calls);
-        } }
+        ensures files { self.new.files ≡ self.old.files }
+        ensures calls { self.new.calls ≡ after_call self.old.calls (is_failed (read_ending result)) }
     {
         if self.calls.fails_now() {
             self.calls.count(true);
@@ -94,13 +94,9 @@ impl Files for MemFiles {
 
     fn write(&mut self, name: &Txt, bytes: &[u8]) -> Result<(), WriteErr>
         ensures failed { IsErrOf result WriteErr.Failed ↔ IsTrue (fails_now self.old.calls) }
-        ensures ok { OnOk result (self.new ≡ record {
-          files = map.insert self.old.files name.now bytes.now;
-          calls = after_call self.old.calls false;
-        }) }
-        ensures err { OnErr result (self.new ≡ record self.old {
-          calls = after_call self.old.calls (fails_now self.old.calls);
-        }) }
+        ensures ok { OnOk result (self.new.files ≡ map.insert self.old.files name.now bytes.now) }
+        ensures err { OnErr result (self.new.files ≡ self.old.files) }
+        ensures calls { self.new.calls ≡ after_call self.old.calls (is_failed (write_ending result)) }
     {
         if self.calls.fails_now() {
             self.calls.count(true);

@@ -1,19 +1,21 @@
-ghost use Rattle.std.specs.Prelude.{◌≡◌, ◌+◌, ◌<◌, ◌++◌, [], length, IfOk, OnOk, OnErr, IsErr, IsTrue, true, false, Some};
-ghost use Rattle.desk_files.specs.Memory.{no_calls, fails_now, after_call};
+ghost use Rattle.std.specs.Prelude.{◌≡◌, ◌↔◌, ◌+◌, ◌≤◌, ◌++◌, [], length, IfOk, OnOk, OnErr, IsErr, IsTrue, Some};
+ghost use Rattle.desk_files.specs.Outside.{is_failed};
+ghost use Rattle.desk_files.specs.Answers.{print_ending};
+ghost use Rattle.desk_files.specs.Memory.{no_calls, after_call, refuses};
 
 use crate::calls::Calls;
 use crate::fault::Failed;
 use crate::sink::Sink;
-use desk_values::{Bytes, Memory, Stamps};
+use desk_values::{Memory, Reserved, Stamps};
 use std::alloc::Global;
 use std::marker::Model;
 
-/// A sink in memory, which tells its bytes. Its writes are numbered from 0. A write fails where its
-/// number was given to [`MemSink::new`], and where its bytes do not fit into the room; it then changes
-/// nothing but the count of faults. Any other write takes no memory, since `new` took it.
+/// A sink in memory, which tells its bytes. Its writes are numbered from 0. A write fails exactly where
+/// its number was given to [`MemSink::new`] or its bytes do not fit into what is left of the room; it
+/// then changes nothing but the count of faults. No write takes memory, since `new` took it.
 #[derive(Drop)]
 pub struct MemSink {
-    held: Bytes,
+    held: Reserved<u8>,
     room: u32,
     calls: Calls,
 }
@@ -25,11 +27,11 @@ impl Model for MemSink {
 
     ghost coded = { memory_sink_code };
 
-    ghost use Rattle.std.specs.Prelude.{◌≤◌, length};
+    ghost use Rattle.std.specs.Prelude.{◌≤◌, ◌+◌, length};
 
-    ghost invariant = { λ a. length a.held ≤ a.room };
+    ghost invariant = { λ a. (length a.held.items ≤ a.room) × (a.room ≤ length a.held.items + a.held.spare) };
 
-    ghost view = { λ a. record { held = a.held; room = a.room; calls = a.calls } };
+    ghost view = { λ a. record { held = a.held.items; room = a.room; calls = a.calls } };
 }
 
 impl MemSink {
@@ -38,36 +40,20 @@ impl MemSink {
     pub fn new(alloc: Global, room: u32, fails: Stamps) -> Result<MemSink, Memory>
         ensures { IfOk result (λ sink. sink ≡ record { held = []; room = room; calls = no_calls fails }) }
     {
+        let mut held = Reserved::new(alloc);
+        held.reserve(room)?;
         Ok(MemSink {
-            held: Bytes::from_vec(Vec::with_capacity(alloc, room as usize)?),
+            held,
             room,
             calls: Calls::new(fails),
         })
     }
 
     /// The bytes so far.
-    pub fn held(&self) -> &Bytes
-        ensures { result.now ≡ self.now.held }
+    pub fn held(&self) -> &Reserved<u8>
+        ensures { result.now.items ≡ self.now.held }
     {
         &self.held
-    }
-
-    // Appends the bytes, where the call is to succeed and they fit. It counts nothing.
-    fn append(&mut self, bytes: &[u8]) -> Result<(), Failed>
-        ensures planned { IsTrue (fails_now self.old.calls) → IsErr result }
-        ensures full { self.old.room < length self.old.held + length bytes.now → IsErr result }
-        ensures ok { OnOk result (self.new ≡ record self.old { held = self.old.held ++ bytes.now }) }
-        ensures err { OnErr result (self.new ≡ self.old) }
-    {
-        if self.calls.fails_now() || bytes.len() > self.room as usize - self.held.len() {
-            return Err(Failed);
-        }
-        match self.held.append(bytes) {
-            Ok(()) => Ok(()),
-            // It does not come, since `new` took the memory. Contracts do not see a list's capacity, so
-            // a test shows that a write within the room succeeds, and no clause says it.
-            Err(Memory) => Err(Failed),
-        }
     }
 }
 
@@ -77,18 +63,29 @@ impl Sink for MemSink {
     ghost faults = { λ s. s.calls.faults };
 
     fn write(&mut self, bytes: &[u8]) -> Result<(), Failed>
-        ensures planned { IsTrue (fails_now self.old.calls) → IsErr result }
-        ensures full { self.old.room < length self.old.held + length bytes.now → IsErr result }
-        ensures ok { OnOk result (self.new ≡ record self.old {
-          held = self.old.held ++ bytes.now;
-          calls = after_call self.old.calls false;
-        }) }
-        ensures err { OnErr result (self.new ≡ record self.old {
-          calls = after_call self.old.calls true;
-        }) }
+        ensures failed { IsErr result ↔ IsTrue (refuses self.old bytes.now) }
+        ensures ok { OnOk result (self.new.held ≡ self.old.held ++ bytes.now) }
+        ensures err { OnErr result (self.new.held ≡ self.old.held) }
+        ensures calls { self.new.calls ≡ after_call self.old.calls (is_failed (print_ending result)) }
+        ensures room { self.new.room ≡ self.old.room }
     {
-        let result = self.append(bytes);
-        self.calls.count(result.is_err());
-        result
+        if self.calls.fails_now() || bytes.len() > self.room as usize - self.held.len() {
+            self.calls.count(true);
+            return Err(Failed);
+        }
+        self.calls.count(false);
+        append(bytes, &mut self.held);
+        Ok(())
+    }
+}
+
+// Appends the bytes into the room that is there for them.
+fn append(bytes: &[u8], to: &mut Reserved<u8>)
+    requires { length bytes.now ≤ to.old.spare }
+    ensures items { to.new.items ≡ to.old.items ++ bytes.now }
+    ensures spare { to.old.spare ≤ to.new.spare + length bytes.now }
+{
+    for byte in bytes {
+        to.push(*byte).unwrap();
     }
 }

@@ -1,17 +1,24 @@
-ghost use Rattle.std.specs.Prelude.{◌≡◌, ◌≢◌, ◌↔◌, ◌≤◌, None, length, IfOk, IfErr, IfSome, OnOk, OnErr, if◌then◌else◌};
+ghost use Rattle.std.specs.Prelude.{◌≡◌, ◌≢◌, ◌↔◌, ◌≤◌, ◌++◌, None, Err, length, IfOk, IfErr, IfSome};
 ghost use Rattle.std.specs.IoError.{error_kind};
-ghost use Rattle.desk_files.specs.Answers.{is_read_failed};
-ghost use Rattle.desk_files.specs.Memory.{raised};
+ghost use Rattle.desk_files.specs.Outside.{counted};
+ghost use Rattle.desk_files.specs.Answers.{read_ending, write_ending};
 
 use crate::fault::{FileErr, WriteErr};
 use crate::files::{FILE_LIMIT, Files};
+use arrayvec::ArrayString;
 use desk_values::{Bytes, Txt};
 use std::alloc::Global;
 use std::fs::OpenFile;
-use std::io::{ErrorKind, Read};
+use std::io::{ErrorKind, Read, Write};
 use std::marker::Model;
 use std::path::Path;
 use std::{fs, io, rt};
+
+/// What the name ends with under which a file is written before it is renamed.
+pub const SUFFIX: &str = ".desk-part";
+
+/// Room for the longest name and the suffix.
+const NAME_ROOM: usize = 1024;
 
 /// The files of the system, which it does not tell. A relative name starts at the folder where the
 /// program runs. Contracts see the count of faults.
@@ -49,8 +56,7 @@ impl<R> RealFiles<'_, R> {
         ensures missing { (result ≡ FileErr.Missing) ↔ (error_kind error.now ≡ ErrorKind.NotFound) }
         ensures memory { (result ≡ FileErr.Memory) ↔ (error_kind error.now ≡ ErrorKind.OutOfMemory) }
         ensures short { result ≢ FileErr.TooLong }
-        ensures failed { result ≡ FileErr.Failed → self.new ≡ raised self.old }
-        ensures unfailed { result ≢ FileErr.Failed → self.new ≡ self.old }
+        ensures count { self.new ≡ counted (read_ending (Err result)) self.old }
     {
         match error.kind() {
             ErrorKind::NotFound => FileErr::Missing,
@@ -70,7 +76,7 @@ impl<R: rt::Files> Files for RealFiles<'_, R> {
 
     fn read(&mut self, name: &Txt) -> Result<Bytes, FileErr>
         ensures limit { IfOk result (λ bytes. length bytes ≤ FILE_LIMIT) }
-        ensures count { self.new ≡ (if is_read_failed result then raised self.old else self.old) }
+        ensures count { self.new ≡ counted (read_ending result) self.old }
     {
         match read_file(self.system, self.alloc, name.as_str()) {
             Ok(Some(bytes)) => Ok(bytes),
@@ -79,13 +85,14 @@ impl<R: rt::Files> Files for RealFiles<'_, R> {
         }
     }
 
-    /// Makes the folders above the file where they are missing. It never answers `Memory`.
+    /// Makes the folders above the file where they are missing, writes the bytes beside it under its
+    /// name with [`SUFFIX`] at the end, and renames. So a file that stood there stands until the whole
+    /// new one does, whatever fails in between. It never answers `Memory`.
     fn write(&mut self, name: &Txt, bytes: &[u8]) -> Result<(), WriteErr>
-        ensures ok { OnOk result (self.new ≡ self.old) }
         ensures err { IfErr result (λ error. error ≡ WriteErr.Failed) }
-        ensures failed { OnErr result (self.new ≡ raised self.old) }
+        ensures count { self.new ≡ counted (write_ending result) self.old }
     {
-        if write_file(self.system, name.as_str(), bytes).is_err() {
+        if write_file(self.system, name, bytes).is_err() {
             self.faults = self.faults.saturating_add(1);
             return Err(WriteErr::Failed);
         }
@@ -111,9 +118,33 @@ fn read_file<R: rt::Files>(system: &R, alloc: Global, name: &str) -> io::Result<
     Ok(Some(Bytes::from_vec(bytes)))
 }
 
-fn write_file(system: &impl rt::Files, name: &str, bytes: &[u8]) -> io::Result<()> {
-    if let Some(folder) = Path::new(name).parent() {
+fn write_file(system: &impl rt::Files, name: &Txt, bytes: &[u8]) -> io::Result<()> {
+    if let Some(folder) = Path::new(name.as_str()).parent() {
         fs::create_dir_all(system, folder)?;
     }
-    fs::write(system, name, bytes)
+    let beside = name_beside(name);
+    let file = fs::create(system, beside.as_str())?;
+    let written = write_synced(file, bytes)
+        .and_then(|()| fs::rename(system, beside.as_str(), name.as_str()));
+    if written.is_err() {
+        // Where this fails too, the next write of the file begins with what is left.
+        let _ = fs::remove_file(system, beside.as_str());
+    }
+    written
+}
+
+// The file is whole on the disk when this succeeds.
+fn write_synced<W: Write + OpenFile + Drop>(mut file: W, bytes: &[u8]) -> io::Result<()> {
+    file.write_all(bytes)?;
+    file.sync_all()
+}
+
+// The name and the suffix.
+fn name_beside(name: &Txt) -> ArrayString<NAME_ROOM>
+    ensures { result.bytes ≡ name.now ++ SUFFIX.now }
+{
+    let mut beside = ArrayString::new();
+    beside.push_str(name.as_str());
+    beside.push_str(SUFFIX);
+    beside
 }

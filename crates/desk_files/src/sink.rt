@@ -1,5 +1,6 @@
-ghost use Rattle.std.specs.Prelude.{◌≡◌, ℕ, ◌≤◌, ◌++◌, List, Option, Some, OnOk, OnErr, IsSomeAnd};
-ghost use Rattle.desk_files.specs.Outside.{Told, HasRisen, AppendsPart};
+ghost use Rattle.std.specs.Prelude.{ℕ, List, Option, OnOk};
+ghost use Rattle.desk_files.specs.Outside.{Appends, AppendsPart, Leaves};
+ghost use Rattle.desk_files.specs.Answers.{print_ending};
 
 use crate::fault::Failed;
 
@@ -14,10 +15,7 @@ pub trait Sink {
 
     /// Appends all bytes. After `Failed` the first few of them may have been appended.
     fn write(&mut self, bytes: &[u8]) -> Result<(), Failed>
-        ensures ok { OnOk result (Told (content self.old) (λ before.
-            content self.new ≡ Some (before ++ bytes.now))) }
-        ensures part { Told (content self.old) (λ before.
-            IsSomeAnd (content self.new) (AppendsPart bytes.now before)) }
-        ensures failed { OnErr result (HasRisen (faults self.old) (faults self.new)) }
-        ensures count { faults self.old ≤ faults self.new };
+        ensures ok { OnOk result (Appends bytes.now (content self.old) (content self.new)) }
+        ensures part { AppendsPart bytes.now (content self.old) (content self.new) }
+        ensures leaves { Leaves (print_ending result) (content self.old) (content self.new) (faults self.old) (faults self.new) };
 }

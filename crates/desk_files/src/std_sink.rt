@@ -1,5 +1,6 @@
-ghost use Rattle.std.specs.Prelude.{◌≡◌, None, OnOk, OnErr};
-ghost use Rattle.desk_files.specs.Memory.{raised};
+ghost use Rattle.std.specs.Prelude.{◌≡◌, None};
+ghost use Rattle.desk_files.specs.Outside.{counted};
+ghost use Rattle.desk_files.specs.Answers.{print_ending};
 
 use crate::fault::Failed;
 use crate::sink::Sink;
@@ -35,8 +36,7 @@ impl<R: Print> Sink for StdSink<'_, R> {
     ghost faults = { λ count. count };
 
     fn write(&mut self, bytes: &[u8]) -> Result<(), Failed>
-        ensures ok { OnOk result (self.new ≡ self.old) }
-        ensures err { OnErr result (self.new ≡ raised self.old) }
+        ensures { self.new ≡ counted (print_ending result) self.old }
     {
         if self.system.write_all(bytes).is_err() {
             self.faults = self.faults.saturating_add(1);

@@ -4,25 +4,21 @@ use Rattle.std.specs.Option.{option_map}
 use Rattle.std.specs.List.{AllByRecursion, Contains}
 use Rattle.std.specs.Str.{bytes_eq}
 use Rattle.std.proofs.lemmas.Bool.{cases_lt}
-use Rattle.std.proofs.lemmas.List.Elements.{Contains-push_cases}
 use Rattle.std.proofs.lemmas.Slice.Eq.{bytes_eq-Decides}
 use Rattle.desk_values.specs.declared.value.Value.{Value}
 use Rattle.desk_values.specs.declared.value.Image.{Image}
+use Rattle.desk_values.specs.Comparison.{same_key}
 use Rattle.desk_values.specs.Good.{Ascend}
 use Rattle.desk_schema.specs.Schema.{place_of}
 use Rattle.desk_schema.specs.Line.{name_of}
-use Rattle.desk_schema.specs.Rules.{AreBelow}
+use Rattle.desk_schema.specs.Rules.{IsNewKey, AreBelow}
 use Rattle.desk_schema.specs.Sound.{AreDistinct, AreApart}
-use Rattle.desk_schema.proofs.Members.{Contains-none, Contains-here, Contains-there}
+use Rattle.desk_schema.proofs.Members.{Contains-here, Contains-there}
 use Rattle.desk_schema.proofs.Places.{refuted}
 
 pub all-push : {X : Type 0} (P : X → Type 0) (xs : List X) (x : X) → AllByRecursion P xs → P x → AllByRecursion P (xs ++ x ∷ [])
 all-push P [] x all p = (p, tt)
 all-push P (y ∷ ys) x all p = (all.0, all-push P ys x all.1 p)
-
-pub all-weaker : {X : Type 0} (P Q : X → Type 0) → ((x : X) → P x → Q x) → (xs : List X) → AllByRecursion P xs → AllByRecursion Q xs
-all-weaker P Q weaker [] all = tt
-all-weaker P Q weaker (x ∷ xs) all = (weaker x all.0, all-weaker P Q weaker xs all.1)
 
 name_of-front : (names : List (List ℕ)) (name : List ℕ) (place : ℕ) → place < length names → name_of (names ++ name ∷ []) place ≡ name_of names place
 name_of-front [] name place h = absurd (omega arith)
@@ -60,16 +56,9 @@ distinct-push names name distinct fresh place h = ⊎_elim
     ∙ place_of-end names name fresh ∙ ap Some (sym e))
     (cases_lt place (length names))
 
-pub apart-push : (values : List Value) (value : Value) → AreApart values → (Contains values value → ⊥) → AreApart (values ++ value ∷ [])
-apart-push [] value apart fresh = (Contains-none value, tt)
-apart-push (x ∷ xs) value apart fresh = (
-  λ c. ⊎_elim (λ in_front. apart.0 in_front) (λ e. let P : Value → Type 0 = λ v. Contains (x ∷ xs) v in fresh (subst P (sym e) (Contains-here x xs)))
-      (at_end xs value x c),
-  apart-push xs value apart.1 (λ c. fresh (Contains-there x xs value c)),
-)
-  where
-    at_end : (vs : List Value) (v x : Value) → Contains (vs ++ v ∷ []) x → Contains vs x ⊎ (v ≡ x)
-    at_end vs v x c = Contains-push_cases vs v x c
+pub apart-push : (level : ℕ) (values : List Value) (value : Value) → AreApart level values → IsNewKey level values value → AreApart level (values ++ value ∷ [])
+apart-push level [] value apart fresh = (tt, tt)
+apart-push level (first ∷ others) value apart fresh = (all-push (λ other. same_key level first other ≡ false) others value apart.0 fresh.0, apart-push level others value apart.1 fresh.1)
 
 -- rows that ascend, and one above them all
 pub ascend-push : (rows : List Image) (row : Image) → Ascend rows → AreBelow row.row rows → Ascend (rows ++ row ∷ [])

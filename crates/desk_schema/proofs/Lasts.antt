@@ -2,12 +2,10 @@
 use Rattle.std.proofs.Common.{◌≡◌, ℕ, zero, suc, ◌+◌, ◌-◌, ◌<◌, List, [], ◌∷◌, ◌++◌, length, get_or, set, Some, refl, ap, arith}
 use Rattle.std.specs.List.{slice_get}
 use Rattle.std.proofs.lemmas.Option.{slice_get_within}
-use Rattle.desk_values.specs.declared.value.Image.{Image}
-use Rattle.desk_schema.specs.declared.schema.Service.{Service}
 use Rattle.desk_schema.specs.declared.schema.Table.{Table}
 use Rattle.desk_schema.specs.declared.schema.Column.{Column}
-use Rattle.desk_schema.specs.Line.{last_columns}
-use Rattle.desk_schema.specs.Draft.{if_any, ending, with_column}
+use Rattle.desk_schema.specs.State.{with_column}
+use Rattle.desk_schema.specs.Rules.{last_columns}
 
 last_columns-at : (tables : List Table) (place : ℕ) (table : Table) → place + 1 ≡ length tables → slice_get tables place ≡ Some table → last_columns tables ≡ table.columns
 last_columns-at [] place table end is = absurd (omega arith)
@@ -19,13 +17,6 @@ last_columns-at (first ∷ next ∷ tables) (suc place) table end is = last_colu
 -- the last table has the last columns
 pub last_columns-last : (tables : List Table) (table : Table) → slice_get tables (length tables - 1) ≡ Some table → last_columns tables ≡ table.columns
 last_columns-last tables table is = last_columns-at tables (length tables - 1) table (omega (arith, slice_get_within tables (length tables - 1) table is)) is
-
--- tables with no row after them end in the last table
-pub ending_in : (sequences : List (List ℕ)) (services : List Service) (tables : List Table) (rows : List Image) (table : Table) → length rows ≡ 0
-    → slice_get tables (length tables - 1) ≡ Some table → ending sequences services tables rows ≡ if_any table.columns 5 6
-ending_in sequences services [] [] table none is = cc
-ending_in sequences services (first ∷ tables) [] table none is = ap (λ columns. if_any columns 5 6) (last_columns-last (first ∷ tables) table is)
-ending_in sequences services tables (row ∷ rows) table none is = absurd (omega arith)
 
 with_column-at : (tables : List Table) (place : ℕ) (table : Table) (column : Column) → place + 1 ≡ length tables → table ≡ get_or tables place table
     → set tables place (record { name = table.name; columns = table.columns ++ column ∷ [] }) ≡ with_column tables column
@@ -39,11 +30,3 @@ with_column-at (first ∷ next ∷ tables) (suc place) table column end is = ap 
 pub with_column-set : (tables : List Table) (table : Table) (column : Column) → 0 < length tables → table ≡ get_or tables (length tables - 1) table
     → set tables (length tables - 1) (record { name = table.name; columns = table.columns ++ column ∷ [] }) ≡ with_column tables column
 with_column-set tables table column some is = with_column-at tables (length tables - 1) table column (omega arith) is
-
-pub if_any-none : {X : Type 0} (xs : List X) (before after : ℕ) → length xs ≡ 0 → if_any xs before after ≡ before
-if_any-none [] before after none = refl
-if_any-none (x ∷ xs) before after none = absurd (omega arith)
-
-pub if_any-some : {X : Type 0} (xs : List X) (before after : ℕ) → (length xs ≡ 0 → ⊥) → if_any xs before after ≡ after
-if_any-some [] before after some = absurd (some refl)
-if_any-some (x ∷ xs) before after some = refl

@@ -1,5 +1,5 @@
--- What holds of the parts of a start holds with one more part, where its line may follow.
-use Rattle.std.proofs.Common.{◌⊎◌, ◌≤◌, inl, inr, ◌≡◌, ℕ, suc, ◌<◌, Bool, true, false, cond, eqb, List, [], ◌∷◌, ◌++◌, length, None, Some, refl, sym, ap, subst, arith, length-append, ⊎_elim, IfSome}
+-- What holds of a state holds with one more line that may follow.
+use Rattle.std.proofs.Common.{◌≡◌, ℕ, suc, ◌<◌, ◌≤◌, Bool, true, false, cond, eqb, List, [], ◌∷◌, ◌++◌, length, map, None, Some, refl, sym, ap, subst, arith, length-append, ⊎_elim, IfSome}
 use Rattle.std.specs.Option.{unwrap_or}
 use Rattle.std.specs.List.{AllByRecursion, Contains, slice_get, cons_option}
 use Rattle.std.proofs.lemmas.Bool.{cases_lt, eqb-true}
@@ -8,128 +8,35 @@ use Rattle.std.proofs.lemmas.List.Elements.{filter_map-append, All-contains, All
 use Rattle.std.proofs.lemmas.Option.{slice_get_past}
 use Rattle.desk_values.specs.declared.value.Value.{Value}
 use Rattle.desk_values.specs.declared.value.Image.{Image}
+use Rattle.desk_schema.specs.declared.line.StartLine.{StartLine}
+use Rattle.desk_schema.specs.declared.line.StartLine.TheVariants.{Head, Level as LevelLine, Seq as SeqLine, Service as ServiceLine, Table as TableLine, Column as ColumnLine, Row as RowLine, NextRow, Sessions, End}
+use Rattle.desk_schema.specs.declared.line.ColumnKind.{ColumnKind}
 use Rattle.desk_schema.specs.declared.schema.Kind.{Kind}
 use Rattle.desk_schema.specs.declared.schema.Kind.TheVariants.{Int, Text, Seq}
 use Rattle.desk_schema.specs.declared.schema.Service.{Service}
 use Rattle.desk_schema.specs.declared.schema.Table.{Table}
 use Rattle.desk_schema.specs.declared.schema.Column.{Column}
 use Rattle.desk_schema.specs.Name.{IsName, is_name}
-use Rattle.desk_schema.specs.Schema.{table_names, column_names, service_names}
-use Rattle.desk_schema.specs.Line.{with_name, name_of, last_columns}
-use Rattle.desk_schema.specs.Rules.{IsKind, key_of, key_in, keys_of, SequenceMayFollow, ServiceMayFollow, TableMayFollow, ColumnMayFollow, RowMayFollow}
-use Rattle.desk_schema.specs.Sound.{HaveColumnsButLast, AreDistinct, AreApart, IsKnownKind, IsSoundTable, IsSoundRow, AreSoundRows, IsSound}
+use Rattle.desk_schema.specs.Schema.{SchemaView, table_names, column_names, service_names}
+use Rattle.desk_schema.specs.Line.{with_name, with_number, name_of}
+use Rattle.desk_schema.specs.Start.{StartView}
+use Rattle.desk_schema.specs.State.{State, nothing, place, with_column, sessions_with, start_with, added}
+use Rattle.desk_schema.specs.Rules.{IsKind, IsNewKey, key_of, key_in, keys_of, last_columns, MayFollow}
+use Rattle.desk_schema.specs.Sound.{HaveColumnsButLast, AreDistinct, AreApart, IsKnownKind, IsSoundTable, IsSoundRow, AreSoundRows, IsSound, IsInOrder, IsSoundNextRow, IsSoundState}
 use Rattle.desk_schema.proofs.Distinct.{all-push, distinct-push, apart-push, ascend-push}
-use Rattle.desk_schema.specs.Draft.{if_any, ending, with_column}
-use Rattle.desk_schema.proofs.Endings.{table_ending-least}
-use Rattle.desk_schema.proofs.Growth.{parts}
+use Rattle.desk_schema.proofs.Sequences.{with_name-with_number}
 
-no_rows : (tables : List Table) (nexts : List ℕ) → AreSoundRows tables nexts []
-no_rows tables nexts = record { most = omega arith; rising = tt; each = tt; apart = λ table. tt; whole = λ some. absurd (omega arith) }
-
-pub sound_sequence : (level : ℕ) (names : List (List ℕ)) (nexts : List ℕ) (name : List ℕ) (next : ℕ) (services : List Service) (tables : List Table) (rows : List Image)
-    → IsSound (parts level names services tables) nexts rows → SequenceMayFollow (ending names services tables rows) names name next
-    → IsSound (parts level (names ++ name ∷ []) services tables) (nexts ++ next ∷ []) rows
-sound_sequence level names nexts name next [] [] [] s rule = record {
-  sequences = record {
-    most = (let c = rule.count in omega (arith, length-append names (name ∷ [])));
-    counts = (let c = s.sequences.counts in omega (arith, length-append names (name ∷ []), length-append nexts (next ∷ [])));
-    are_names = all-push IsName names name s.sequences.are_names rule.is_name;
-    distinct = distinct-push names name s.sequences.distinct rule.distinct;
-    limits = all-push _ nexts next s.sequences.limits (rule.least, rule.most);
+pub sound_nothing : IsSoundState nothing
+sound_nothing = record {
+  order = record { level = λ h. absurd (omega arith); no_sequences = λ _. refl; no_services = λ _. refl; no_tables = λ _. refl; some_table = λ h k. absurd (omega arith); no_rows = λ _. refl; begun = tt; whole = λ _. tt };
+  sound = record {
+    sequences = record { most = omega arith; counts = refl; are_names = tt; distinct = λ place h. absurd (omega arith); limits = tt };
+    is_schema = record { services = omega arith; services_named = tt; services_distinct = λ place h. absurd (omega arith); tables = omega arith; tables_sound = tt; tables_distinct = λ place h. absurd (omega arith) };
+    sound_rows = record { most = omega arith; rising = tt; each = tt; apart = λ table. tt };
   };
-  is_schema = record {
-    level = s.is_schema.level;
-    services = s.is_schema.services;
-    services_named = s.is_schema.services_named;
-    services_distinct = s.is_schema.services_distinct;
-    tables = s.is_schema.tables;
-    tables_sound = tt;
-    tables_distinct = s.is_schema.tables_distinct;
-    begun = tt;
-  };
-  sound_rows = no_rows [] _;
+  next_row = λ h. absurd (omega arith);
+  sessions = omega arith;
 }
-sound_sequence level names nexts name next (v ∷ vs) [] [] s rule = let h = rule.order.to in absurd (omega arith)
-sound_sequence level names nexts name next services (t ∷ ts) [] s rule = let h = rule.order.to in absurd (omega (arith, table_ending-least (t ∷ ts)))
-sound_sequence level names nexts name next services tables (r ∷ rs) s rule = let h = rule.order.to in absurd (omega arith)
-
-pub sound_service : (level : ℕ) (names : List (List ℕ)) (nexts : List ℕ) (services : List Service) (service : Service) (tables : List Table) (rows : List Image)
-    → IsSound (parts level names services tables) nexts rows → ServiceMayFollow (ending names services tables rows) services service.name
-    → IsSound (parts level names (services ++ service ∷ []) tables) nexts rows
-sound_service level names nexts services service [] [] s rule =
-    let e : service_names (services ++ service ∷ []) ≡ service_names services ++ service.name ∷ [] = map-append _ services (service ∷ []) in record {
-      sequences = s.sequences;
-      is_schema = record {
-        level = s.is_schema.level;
-        services = (let c = rule.count in omega (arith, length-append services (service ∷ [])));
-        services_named = (let P : List (List ℕ) → Type 0 = λ xs. AllByRecursion IsName xs in subst P (sym e) (all-push IsName (service_names services) service.name s.is_schema.services_named rule.is_name));
-        services_distinct = (let P : List (List ℕ) → Type 0 = λ xs. AreDistinct xs in subst P (sym e) (distinct-push (service_names services) service.name s.is_schema.services_distinct rule.distinct));
-        tables = s.is_schema.tables;
-        tables_sound = tt;
-        tables_distinct = s.is_schema.tables_distinct;
-        begun = tt;
-      };
-      sound_rows = no_rows [] _;
-    }
-sound_service level names nexts services service (t ∷ ts) [] s rule = let h = rule.order.to in absurd (omega (arith, table_ending-least (t ∷ ts)))
-sound_service level names nexts services service tables (r ∷ rs) s rule = let h = rule.order.to in absurd (omega arith)
-
--- the last table has columns where the last line is not its own
-last_begun : (names : List (List ℕ)) (services : List Service) (tables : List Table) → (ending names services tables [] ≡ 5 → ⊥) → (tables ≡ []) ⊎ (1 ≤ length (last_columns tables))
-last_begun names services [] whole = inl refl
-last_begun names services (t ∷ ts) whole = inr (some (last_columns (t ∷ ts)) whole)
-  where
-    some : (columns : List Column) → (if_any columns 5 6 ≡ 5 → ⊥) → 1 ≤ length columns
-    some [] other = absurd (other refl)
-    some (c ∷ cs) other = omega arith
-
-begun-push : (tables : List Table) (table : Table) → HaveColumnsButLast tables → (tables ≡ []) ⊎ (1 ≤ length (last_columns tables)) → HaveColumnsButLast (tables ++ table ∷ [])
-begun-push [] table begun last = tt
-begun-push (t ∷ []) table begun last = (⊎_elim (λ none. cc) (λ some. some) last, tt)
-begun-push (t ∷ u ∷ ts) table begun last = (begun.0, begun-push (u ∷ ts) table begun.1 (⊎_elim (λ none. cc) (λ some. inr some) last))
-
-begun-with_column : (tables : List Table) (column : Column) → HaveColumnsButLast tables → HaveColumnsButLast (with_column tables column)
-begun-with_column [] column begun = tt
-begun-with_column (t ∷ []) column begun = tt
-begun-with_column (t ∷ u ∷ []) column begun = (begun.0, tt)
-begun-with_column (t ∷ u ∷ v ∷ ts) column begun = (begun.0, begun-with_column (u ∷ v ∷ ts) column begun.1)
-
--- every table has columns where a column or a row is the last line
-all_begun : (names : List (List ℕ)) (services : List Service) (tables : List Table) (rows : List Image) → 6 ≤ ending names services tables rows
-    → (0 < length rows → 1 ≤ length (last_columns tables)) → 1 ≤ length (last_columns tables)
-all_begun names services tables (r ∷ rs) late known = known (omega arith)
-all_begun [] [] [] [] late known = absurd (omega arith)
-all_begun (n ∷ ns) [] [] [] late known = absurd (omega arith)
-all_begun names (v ∷ vs) [] [] late known = absurd (omega arith)
-all_begun names services (t ∷ ts) [] late known = some (last_columns (t ∷ ts)) late
-  where
-    some : (columns : List Column) → 6 ≤ if_any columns 5 6 → 1 ≤ length columns
-    some [] h = absurd (omega arith)
-    some (c ∷ cs) h = omega arith
-
-new_table : (sequences : ℕ) (name : List ℕ) → IsName name → IsSoundTable sequences (record { name = name; columns = [] })
-new_table sequences name is = record { is_name = is; most = omega arith; columns = tt; distinct = λ place h. absurd (omega arith); key = tt }
-
-pub sound_table : (level : ℕ) (names : List (List ℕ)) (nexts : List ℕ) (services : List Service) (tables : List Table) (name : List ℕ) (rows : List Image)
-    → IsSound (parts level names services tables) nexts rows → TableMayFollow (ending names services tables rows) tables name
-    → IsSound (parts level names services (tables ++ record { name = name; columns = [] } ∷ [])) nexts rows
-sound_table level names nexts services tables name [] s rule =
-    let table : Table = record { name = name; columns = [] } in
-    let e : table_names (tables ++ table ∷ []) ≡ table_names tables ++ name ∷ [] = map-append _ tables (table ∷ []) in record {
-      sequences = s.sequences;
-      is_schema = record {
-        level = s.is_schema.level;
-        services = s.is_schema.services;
-        services_named = s.is_schema.services_named;
-        services_distinct = s.is_schema.services_distinct;
-        tables = (let c = rule.count in omega (arith, length-append tables (table ∷ [])));
-        tables_sound = all-push _ tables table s.is_schema.tables_sound (new_table (length names) name rule.is_name);
-        tables_distinct = (let P : List (List ℕ) → Type 0 = λ xs. AreDistinct xs in subst P (sym e) (distinct-push (table_names tables) name s.is_schema.tables_distinct rule.distinct));
-        begun = begun-push tables table s.is_schema.begun (last_begun names services tables rule.whole);
-      };
-      sound_rows = no_rows _ _;
-    }
-sound_table level names nexts services tables name (r ∷ rs) s rule = let h = rule.order.to in absurd (omega arith)
 
 -- the text of no bytes is no name
 pub empty_is_no_name : IsName [] → ⊥
@@ -144,6 +51,27 @@ known_kind names (Seq sequence) named is = ⊎_elim (λ below. below)
     (λ past. let P : List ℕ → Type 0 = IsName in
     absurd (empty_is_no_name (subst P (ap (λ o. unwrap_or o []) (slice_get_past names sequence past)) (All-contains IsName names (name_of names sequence) (All-from_recursion IsName names named) is))))
     (cases_lt sequence (length names))
+
+-- ---- tables and their columns
+
+have_columns-but_last : (tables : List Table) → AllByRecursion (λ table. 1 ≤ length table.columns) tables → HaveColumnsButLast tables
+have_columns-but_last [] have = tt
+have_columns-but_last (table ∷ []) have = tt
+have_columns-but_last (table ∷ next ∷ tables) have = (have.0, have_columns-but_last (next ∷ tables) have.1)
+
+begun-push : (tables : List Table) (table : Table) → AllByRecursion (λ table. 1 ≤ length table.columns) tables → HaveColumnsButLast (tables ++ table ∷ [])
+begun-push [] table have = tt
+begun-push (first ∷ []) table have = (have.0, tt)
+begun-push (first ∷ next ∷ tables) table have = (have.0, begun-push (next ∷ tables) table have.1)
+
+-- with one more column each table has some
+whole-with_column : (tables : List Table) (column : Column) → HaveColumnsButLast tables → AllByRecursion (λ table. 1 ≤ length table.columns) (with_column tables column)
+whole-with_column [] column begun = tt
+whole-with_column (table ∷ []) column begun = (omega (arith, length-append table.columns (column ∷ [])), tt)
+whole-with_column (table ∷ next ∷ tables) column begun = (begun.0, whole-with_column (next ∷ tables) column begun.1)
+
+new_table : (sequences : ℕ) (name : List ℕ) → IsName name → IsSoundTable sequences (record { name = name; columns = [] })
+new_table sequences name is = record { is_name = is; most = omega arith; columns = tt; distinct = λ place h. absurd (omega arith); key = tt }
 
 -- the first column is not null
 abbrev pub IfFirst : List Column → Type 0
@@ -183,49 +111,215 @@ length-with_column [] column = refl
 length-with_column (table ∷ []) column = refl
 length-with_column (table ∷ next ∷ tables) column = ap suc (length-with_column (next ∷ tables) column)
 
-pub sound_column : (level : ℕ) (names : List (List ℕ)) (nexts : List ℕ) (services : List Service) (tables : List Table) (column : Column) (rows : List Image)
-    → IsSound (parts level names services tables) nexts rows
-    → ColumnMayFollow (ending names services tables rows) names (last_columns tables) column.name (with_name names column.kind) column.not_null
-    → IsSound (parts level names services (with_column tables column)) nexts rows
-sound_column level names nexts services tables column [] s rule = record {
-  sequences = s.sequences;
-  is_schema = record {
-    level = s.is_schema.level;
-    services = s.is_schema.services;
-    services_named = s.is_schema.services_named;
-    services_distinct = s.is_schema.services_distinct;
-    tables = (let c = s.is_schema.tables in omega (arith, length-with_column tables column));
-    tables_sound = tables_sound-with_column (length names) tables column s.is_schema.tables_sound rule.count rule.is_name rule.distinct
-        (known_kind names column.kind s.sequences.are_names rule.is_kind) rule.key;
-    tables_distinct = (let P : List (List ℕ) → Type 0 = λ xs. AreDistinct xs in subst P (sym (table_names-with_column tables column)) s.is_schema.tables_distinct);
-    begun = begun-with_column tables column s.is_schema.begun;
-  };
-  sound_rows = no_rows _ _;
-}
-sound_column level names nexts services tables column (r ∷ rs) s rule = let h = rule.order.to in absurd (omega arith)
+-- ---- the order
+
+order_added : (state : State) (line : StartLine) → IsSoundState state → MayFollow state line → IsInOrder (place line) (start_with state.start line)
+order_added state Head is rule =
+    let o = is.order in
+    record { level = λ h. absurd (omega arith); no_sequences = λ _. o.no_sequences (omega (arith, rule)); no_services = λ _. o.no_services (omega (arith, rule)); no_tables = λ _. o.no_tables (omega (arith, rule));
+      some_table = λ h k. absurd (omega arith); no_rows = λ _. o.no_rows (omega (arith, rule)); begun = o.begun; whole = λ _. o.whole (λ h. omega (arith, rule)) }
+order_added state (LevelLine level) is rule =
+    let o = is.order in
+    record { level = λ _. rule.1; no_sequences = λ _. o.no_sequences (omega (arith, rule.0)); no_services = λ _. o.no_services (omega (arith, rule.0)); no_tables = λ _. o.no_tables (omega (arith, rule.0));
+      some_table = λ h k. absurd (omega arith); no_rows = λ _. o.no_rows (omega (arith, rule.0)); begun = o.begun; whole = λ _. o.whole (λ h. omega (arith, rule.0)) }
+order_added state (SeqLine name next) is rule =
+    let o = is.order in
+    let low = rule.order.from in
+    let high = rule.order.to in
+    record { level = λ _. o.level low; no_sequences = λ h. absurd (omega arith); no_services = λ _. o.no_services high; no_tables = λ _. o.no_tables (omega arith);
+      some_table = λ h k. absurd (omega arith); no_rows = λ _. o.no_rows (omega arith); begun = o.begun; whole = λ _. o.whole (λ h. omega arith) }
+order_added state (ServiceLine name rights) is rule =
+    let o = is.order in
+    let low = rule.order.from in
+    let high = rule.order.to in
+    record { level = λ _. o.level low; no_sequences = λ h. absurd (omega arith); no_services = λ h. absurd (omega arith); no_tables = λ _. o.no_tables high;
+      some_table = λ h k. absurd (omega arith); no_rows = λ _. o.no_rows (omega arith); begun = o.begun; whole = λ _. o.whole (λ h. omega arith) }
+order_added state (TableLine name) is rule =
+    let o = is.order in
+    let tables = state.start.schema.tables in
+    record { level = λ _. o.level rule.order.from; no_sequences = λ h. absurd (omega arith); no_services = λ h. absurd (omega arith); no_tables = λ h. absurd (omega arith);
+      some_table = λ _ _. omega (arith, length-append tables (record { name = name; columns = [] } ∷ [])); no_rows = λ _. o.no_rows rule.order.to;
+      begun = begun-push tables _ (o.whole rule.whole); whole = λ h. absurd (h refl) }
+order_added state (ColumnLine name kind not_null) is rule =
+    let o = is.order in
+    let low = rule.order.from in
+    let tables = state.start.schema.tables in
+    let column : Column = record { name = name; kind = with_number state.start.schema.sequences kind; not_null = not_null } in
+    let whole : AllByRecursion (λ table. 1 ≤ length table.columns) (with_column tables column) = whole-with_column tables column o.begun in
+    record { level = λ _. o.level (omega arith); no_sequences = λ h. absurd (omega arith); no_services = λ h. absurd (omega arith); no_tables = λ h. absurd (omega arith);
+      some_table = λ _ _. (let some = o.some_table low rule.order.to in omega (arith, length-with_column tables column)); no_rows = λ _. o.no_rows rule.order.to;
+      begun = have_columns-but_last _ whole; whole = λ _. whole }
+order_added state (RowLine row table values) is rule =
+    let o = is.order in
+    let low = rule.fits.order.from in
+    record { level = λ _. o.level (omega arith); no_sequences = λ h. absurd (omega arith); no_services = λ h. absurd (omega arith); no_tables = λ h. absurd (omega arith);
+      some_table = λ h k. absurd (omega arith); no_rows = λ h. absurd (omega arith); begun = o.begun; whole = λ _. o.whole (λ h. omega arith) }
+order_added state (NextRow next) is rule =
+    let o = is.order in
+    record { level = λ _. o.level rule.order.from; no_sequences = λ h. absurd (omega arith); no_services = λ h. absurd (omega arith); no_tables = λ h. absurd (omega arith);
+      some_table = λ h k. absurd (omega arith); no_rows = λ h. absurd (omega arith); begun = o.begun; whole = λ _. o.whole rule.whole }
+order_added state (Sessions count) is rule =
+    let o = is.order in
+    record { level = λ _. o.level (omega (arith, rule.0)); no_sequences = λ h. absurd (omega arith); no_services = λ h. absurd (omega arith); no_tables = λ h. absurd (omega arith);
+      some_table = λ h k. absurd (omega arith); no_rows = λ h. absurd (omega arith); begun = o.begun; whole = λ _. o.whole (λ h. omega (arith, rule.0)) }
+order_added state End is rule =
+    let o = is.order in
+    record { level = λ _. o.level (omega (arith, rule)); no_sequences = λ h. absurd (omega arith); no_services = λ h. absurd (omega arith); no_tables = λ h. absurd (omega arith);
+      some_table = λ h k. absurd (omega arith); no_rows = λ h. absurd (omega arith); begun = o.begun; whole = λ _. o.whole (λ h. omega (arith, rule)) }
+
+-- ---- the parts
+
+no_rows : (schema : SchemaView) (nexts : List ℕ) (rows : List Image) → rows ≡ [] → AreSoundRows schema nexts rows
+no_rows schema nexts rows none = rw none (record { most = omega arith; rising = tt; each = tt; apart = λ table. tt })
 
 -- the keys of a table with one more row
-keys_apart : (rows : List Image) (table other : ℕ) (values : List Value) (same : Bool) → (same ≡ true → other ≡ table) → AreApart (keys_of table rows)
-    → (Contains (keys_of other rows) (key_of values) → ⊥) → AreApart (keys_of table rows ++ cons_option (cond same (Some (key_of values)) None) [])
-keys_apart rows table other values true is apart fresh =
-    apart-push (keys_of table rows) (key_of values) apart (let P : ℕ → Type 0 = λ t. Contains (keys_of t rows) (key_of values) → ⊥ in subst P (is refl) fresh)
-keys_apart rows table other values false is apart fresh = let P : List Value → Type 0 = AreApart in subst P (sym (append-nil (keys_of table rows))) apart
+keys_apart : (level : ℕ) (rows : List Image) (table other : ℕ) (values : List Value) (same : Bool) → (same ≡ true → table ≡ other) → AreApart level (keys_of other rows)
+    → IsNewKey level (keys_of table rows) (key_of values) → AreApart level (keys_of other rows ++ cons_option (cond same (Some (key_of values)) None) [])
+keys_apart level rows table other values true is apart fresh =
+    apart-push level (keys_of other rows) (key_of values) apart (let P : ℕ → Type 0 = λ t. IsNewKey level (keys_of t rows) (key_of values) in subst P (is refl) fresh)
+keys_apart level rows table other values false is apart fresh = let P : List Value → Type 0 = AreApart level in subst P (sym (append-nil (keys_of other rows))) apart
 
-pub sound_row : (level : ℕ) (names : List (List ℕ)) (nexts : List ℕ) (services : List Service) (tables : List Table) (rows : List Image) (row table : ℕ) (values : List Value)
-    → IsSound (parts level names services tables) nexts rows → RowMayFollow (ending names services tables rows) tables nexts rows row table values
-    → IsSound (parts level names services tables) nexts (rows ++ record { row = row; table = table; left = Some values } ∷ [])
-sound_row level names nexts services tables rows row table values s rule =
-    let image : Image = record { row = row; table = table; left = Some values } in record {
-      sequences = s.sequences;
-      is_schema = s.is_schema;
+-- the names of items with one more
+module _ {X : Type 0} (name_in : X → List ℕ) (items : List X) (item : X) where
+  all_named : AllByRecursion IsName (map name_in items) → IsName (name_in item) → AllByRecursion IsName (map name_in (items ++ item ∷ []))
+  all_named all is = rw map-append (all-push IsName (map name_in items) (name_in item) all is)
+
+  all_distinct : AreDistinct (map name_in items) → (Contains (map name_in items) (name_in item) → ⊥) → AreDistinct (map name_in (items ++ item ∷ []))
+  all_distinct distinct fresh = let P : List (List ℕ) → Type 0 = AreDistinct in subst P (sym (map-append name_in items (item ∷ []))) (distinct-push (map name_in items) (name_in item) distinct fresh)
+
+parts_added : (state : State) (line : StartLine) → IsSoundState state → MayFollow state line → IsSound (start_with state.start line)
+parts_added state Head is rule = is.sound
+parts_added state (LevelLine level) is rule = let old = is.sound in record {
+  sequences = old.sequences;
+  is_schema = record {
+    services = old.is_schema.services;
+    services_named = old.is_schema.services_named;
+    services_distinct = old.is_schema.services_distinct;
+    tables = old.is_schema.tables;
+    tables_sound = old.is_schema.tables_sound;
+    tables_distinct = old.is_schema.tables_distinct;
+  };
+  sound_rows = no_rows _ _ _ (is.order.no_rows (omega (arith, rule.0)));
+}
+parts_added state (SeqLine name next) is rule =
+    let old = is.sound in
+    let names = state.start.schema.sequences in
+    let nexts = state.start.next_values in
+    let high = rule.order.to in
+    record {
+      sequences = record {
+        most = (let c = rule.count in omega (arith, length-append names (name ∷ [])));
+        counts = (let c = old.sequences.counts in omega (arith, length-append names (name ∷ []), length-append nexts (next ∷ [])));
+        are_names = all-push IsName names name old.sequences.are_names rule.is_name;
+        distinct = distinct-push names name old.sequences.distinct rule.distinct;
+        limits = all-push _ nexts next old.sequences.limits (rule.least, rule.most);
+      };
+      is_schema = record {
+        services = old.is_schema.services;
+        services_named = old.is_schema.services_named;
+        services_distinct = old.is_schema.services_distinct;
+        tables = old.is_schema.tables;
+        tables_sound = rw (is.order.no_tables (omega arith)) tt;
+        tables_distinct = old.is_schema.tables_distinct;
+      };
+      sound_rows = no_rows _ _ _ (is.order.no_rows (omega arith));
+    }
+parts_added state (ServiceLine name rights) is rule =
+    let old = is.sound in
+    let services = state.start.schema.services in
+    let service : Service = record { name = name; rights = rights } in
+    let high = rule.order.to in
+    record {
+      sequences = old.sequences;
+      is_schema = record {
+        services = (let c = rule.count in omega (arith, length-append services (service ∷ [])));
+        services_named = all_named (λ service. service.name) services service old.is_schema.services_named rule.is_name;
+        services_distinct = all_distinct (λ service. service.name) services service old.is_schema.services_distinct rule.distinct;
+        tables = old.is_schema.tables;
+        tables_sound = old.is_schema.tables_sound;
+        tables_distinct = old.is_schema.tables_distinct;
+      };
+      sound_rows = no_rows _ _ _ (is.order.no_rows (omega arith));
+    }
+parts_added state (TableLine name) is rule =
+    let old = is.sound in
+    let tables = state.start.schema.tables in
+    let table : Table = record { name = name; columns = [] } in
+    record {
+      sequences = old.sequences;
+      is_schema = record {
+        services = old.is_schema.services;
+        services_named = old.is_schema.services_named;
+        services_distinct = old.is_schema.services_distinct;
+        tables = (let c = rule.count in omega (arith, length-append tables (table ∷ [])));
+        tables_sound = all-push _ tables table old.is_schema.tables_sound (new_table (length state.start.schema.sequences) name rule.is_name);
+        tables_distinct = all_distinct (λ table. table.name) tables table old.is_schema.tables_distinct rule.distinct;
+      };
+      sound_rows = no_rows _ _ _ (is.order.no_rows rule.order.to);
+    }
+parts_added state (ColumnLine name kind not_null) is rule =
+    let old = is.sound in
+    let names = state.start.schema.sequences in
+    let tables = state.start.schema.tables in
+    let column : Column = record { name = name; kind = with_number names kind; not_null = not_null } in
+    let known : IsKnownKind (length names) column.kind =
+    (let P : ColumnKind → Type 0 = IsKind names in known_kind names column.kind old.sequences.are_names (subst P (sym (with_name-with_number names kind rule.is_kind)) rule.is_kind)) in
+    record {
+      sequences = old.sequences;
+      is_schema = record {
+        services = old.is_schema.services;
+        services_named = old.is_schema.services_named;
+        services_distinct = old.is_schema.services_distinct;
+        tables = (let c = old.is_schema.tables in omega (arith, length-with_column tables column));
+        tables_sound = tables_sound-with_column (length names) tables column old.is_schema.tables_sound rule.count rule.is_name rule.distinct known rule.key;
+        tables_distinct = (let P : List (List ℕ) → Type 0 = AreDistinct in subst P (sym (table_names-with_column tables column)) old.is_schema.tables_distinct);
+      };
+      sound_rows = no_rows _ _ _ (is.order.no_rows rule.order.to);
+    }
+parts_added state (RowLine row table values) is rule =
+    let old = is.sound in
+    let start = state.start in
+    let image : Image = record { row = row; table = table; left = Some values } in
+    let fits = rule.fits in
+    record {
+      sequences = old.sequences;
+      is_schema = old.is_schema;
       sound_rows = record {
-        most = (let c = rule.fits.count in omega (arith, length-append rows (image ∷ [])));
-        rising = ascend-push rows image s.sound_rows.rising rule.fits.rising;
-        each = all-push (IsSoundRow tables nexts) rows image s.sound_rows.each
-            (record { least = rule.fits.least; most = rule.fits.most; is_table = rule.fits.is_table; allowed = rule.fits.allowed });
-        apart = λ other. let P : List Value → Type 0 = AreApart in
-            subst P (sym (filter_map-append (key_in other) rows (image ∷ [])))
-            (keys_apart rows other table values (eqb table other) (eqb-true table other) (s.sound_rows.apart other) rule.key);
-        whole = λ some. all_begun names services tables rows rule.fits.order.from s.sound_rows.whole;
+        most = (let c = fits.count in omega (arith, length-append start.rows (image ∷ [])));
+        rising = ascend-push start.rows image old.sound_rows.rising fits.rising;
+        each = all-push (IsSoundRow start.schema.tables start.next_values) start.rows image old.sound_rows.each (record { least = fits.least; most = fits.most; is_table = fits.is_table; allowed = fits.allowed });
+        apart = λ other. let P : List Value → Type 0 = AreApart start.schema.level in
+            subst P (sym (filter_map-append (key_in other) start.rows (image ∷ [])))
+            (keys_apart start.schema.level start.rows table other values (eqb table other) (eqb-true table other) (old.sound_rows.apart other) rule.key);
       };
     }
+parts_added state (NextRow next) is rule = let old = is.sound in record { sequences = old.sequences; is_schema = old.is_schema; sound_rows = old.sound_rows }
+parts_added state (Sessions count) is rule = is.sound
+parts_added state End is rule = is.sound
+
+next_row_added : (state : State) (line : StartLine) → IsSoundState state → MayFollow state line → 8 ≤ place line → IsSoundNextRow (start_with state.start line)
+next_row_added state Head is rule late = absurd (omega arith)
+next_row_added state (LevelLine level) is rule late = absurd (omega arith)
+next_row_added state (SeqLine name next) is rule late = absurd (omega arith)
+next_row_added state (ServiceLine name rights) is rule late = absurd (omega arith)
+next_row_added state (TableLine name) is rule late = absurd (omega arith)
+next_row_added state (ColumnLine name kind not_null) is rule late = absurd (omega arith)
+next_row_added state (RowLine row table values) is rule late = absurd (omega arith)
+next_row_added state (NextRow next) is rule late = record { least = rule.least; most = rule.most; above = rule.above }
+next_row_added state (Sessions count) is rule late = is.next_row (omega (arith, rule.0))
+next_row_added state End is rule late = is.next_row (omega (arith, rule))
+
+sessions_added : (state : State) (line : StartLine) → IsSoundState state → MayFollow state line → sessions_with state.sessions line ≤ 64
+sessions_added state Head is rule = is.sessions
+sessions_added state (LevelLine level) is rule = is.sessions
+sessions_added state (SeqLine name next) is rule = is.sessions
+sessions_added state (ServiceLine name rights) is rule = is.sessions
+sessions_added state (TableLine name) is rule = is.sessions
+sessions_added state (ColumnLine name kind not_null) is rule = is.sessions
+sessions_added state (RowLine row table values) is rule = is.sessions
+sessions_added state (NextRow next) is rule = is.sessions
+sessions_added state (Sessions count) is rule = rule.1
+sessions_added state End is rule = is.sessions
+
+pub sound_added : (state : State) (line : StartLine) → IsSoundState state → MayFollow state line → IsSoundState (added state line)
+sound_added state line is rule = record { order = order_added state line is rule; sound = parts_added state line is rule; next_row = next_row_added state line is rule; sessions = sessions_added state line is rule }

@@ -1,41 +1,54 @@
--- The parts of a draft, and their last line.
-use Rattle.std.specs.Prelude.{ℕ, ◌↔◌, List, [], ◌∷◌, ◌++◌}
+-- A draft of a start, and what its calls answer.
+use Rattle.std.specs.Prelude.{ℕ, ◌≡◌, ◌↔◌, List, Result, Ok, Err}
 use Rattle.std.specs.List.{Contains}
 use Rattle.desk_values.specs.declared.value.Value.{Value}
 use Rattle.desk_values.specs.declared.value.Image.{Image}
-use Rattle.desk_schema.specs.declared.schema.Service.{Service}
-use Rattle.desk_schema.specs.declared.schema.Table.{Table}
-use Rattle.desk_schema.specs.declared.schema.Column.{Column}
+use Rattle.desk_schema.specs.declared.line.StartLine.{StartLine}
+use Rattle.desk_schema.specs.declared.draft.DraftErr.{DraftErr}
+use Rattle.desk_schema.specs.declared.draft.DraftErr.TheVariants.{Rule, Memory}
+use Rattle.desk_schema.specs.declared.rules.Last.{Last}
+use Rattle.desk_schema.specs.declared.rules.Last.TheVariants.{Level, Sequence, Service, Table, Column, Row}
 use Rattle.desk_schema.specs.Schema.{SchemaView}
-use Rattle.desk_schema.specs.Line.{last_columns}
+use Rattle.desk_schema.specs.State.{State, state_of}
 use Rattle.desk_schema.specs.Rules.{keys_of, AreLines}
-use Rattle.desk_schema.specs.Start.{part_lines}
-use Rattle.desk_schema.specs.Sound.{IsSound}
+use Rattle.desk_schema.specs.Sound.{IsSoundState}
 
--- the last place after lines of one kind, if there are any
-abbrev pub if_any : {X : Type 0} → List X → ℕ → ℕ → ℕ
-if_any [] before after = before
-if_any (x ∷ xs) before after = after
+-- the place of the last line in the order of a file
+abbrev pub place_of_last : Last → ℕ
+place_of_last Level = 2
+place_of_last Sequence = 3
+place_of_last Service = 4
+place_of_last Table = 5
+place_of_last Column = 6
+place_of_last Row = 7
 
--- where tables end: at a table with no column, or at a column
-abbrev pub table_ending : List Table → ℕ
-table_ending tables = if_any (last_columns tables) 5 6
+-- the state of a draft: neither the next row nor the sessions are declared yet
+abbrev pub drafted : Last → SchemaView → List ℕ → List Image → State
+drafted last schema nexts rows = record { last = place_of_last last; start = record { schema = schema; rows = rows; next_row = 0; next_values = nexts }; sessions = 0 }
 
--- the place of the last line of these parts
-abbrev pub ending : List (List ℕ) → List Service → List Table → List Image → ℕ
-ending sequences services tables rows = if_any rows (if_any tables (if_any services (if_any sequences 2 3) 4) (table_ending tables)) 7
-
--- the last table with one more column
-abbrev pub with_column : List Table → Column → List Table
-with_column [] column = []
-with_column (table ∷ []) column = record { name = table.name; columns = table.columns ++ column ∷ [] } ∷ []
-with_column (table ∷ next ∷ tables) column = table ∷ with_column (next ∷ tables) column
+-- lines that keep the rules lead to this state
+pub record IsReached (state : State) : Type 0 where
+  pub lines : List StartLine
+  pub are_lines : AreLines lines
+  pub leads : state_of lines ≡ state
 
 -- the keys are those of the rows
 abbrev pub AreKeys : List (ℕ × Value) → List Image → Type 0
 AreKeys keys rows = (table : ℕ) (value : Value) → Contains keys (table, value) ↔ Contains (keys_of table rows) value
 
-pub record IsDraft (schema : SchemaView) (nexts : List ℕ) (rows : List Image) (keys : List (ℕ × Value)) : Type 0 where
-  pub lines : AreLines (part_lines schema nexts rows)
-  pub sound : IsSound schema nexts rows
-  pub are_keys : AreKeys keys rows
+pub record IsDraft (state : State) (keys : List (ℕ × Value)) : Type 0 where
+  pub reached : IsReached state
+  pub sound : IsSoundState state
+  pub are_keys : AreKeys keys state.start.rows
+
+-- `Rule` just where the rule is broken
+abbrev pub Judges : {T : Type 0} → Result T DraftErr → Type 0 → Type 0
+Judges (Ok _) Kept = Kept
+Judges (Err Rule) Kept = ¬ Kept
+Judges (Err Memory) Kept = Kept
+
+-- the same, where want of memory may come before the judgement
+abbrev pub JudgesUnlessMemory : {T : Type 0} → Result T DraftErr → Type 0 → Type 0
+JudgesUnlessMemory (Ok _) Kept = Kept
+JudgesUnlessMemory (Err Rule) Kept = ¬ Kept
+JudgesUnlessMemory (Err Memory) Kept = Unit {0}

@@ -1,10 +1,10 @@
 pub mod Name
 pub mod Schema
 pub mod Line
-pub mod Rules
 pub mod Start
+pub mod State
+pub mod Rules
 pub mod Sound
 pub mod Keys
-pub mod Last
 pub mod Draft
-pub mod Laws
+pub mod File

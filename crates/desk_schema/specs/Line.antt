@@ -1,8 +1,7 @@
--- The lines of a start file: their texts, and what they declare.
-use Rattle.std.specs.Prelude.{ℕ, Bool, true, false, List, [], ◌∷◌, ◌++◌, Option, None, Some, slice_get, unwrap_or, codes}
-use Rattle.std.specs.List.{filter_map, flat_map}
+-- The lines of a start file: their texts.
+use Rattle.std.specs.Prelude.{ℕ, Bool, true, false, List, [], ◌∷◌, ◌++◌, slice_get, unwrap_or, codes}
+use Rattle.std.specs.List.{flat_map}
 use Rattle.std.specs.Fmt.{decimal, signed_decimal}
-use Rattle.desk_values.specs.declared.value.Image.{Image}
 use Rattle.desk_values.specs.Text.{values_text}
 use Rattle.desk_schema.specs.declared.line.StartLine.{StartLine}
 use Rattle.desk_schema.specs.declared.line.StartLine.TheVariants.{Head, Level as LevelLine, Seq as SeqLine, Service as ServiceLine, Table as TableLine, Column as ColumnLine, Row as RowLine, NextRow, Sessions, End}
@@ -10,16 +9,7 @@ use Rattle.desk_schema.specs.declared.line.ColumnKind.{ColumnKind}
 use Rattle.desk_schema.specs.declared.line.ColumnKind.TheVariants as written
 use Rattle.desk_schema.specs.declared.schema.Kind.{Kind}
 use Rattle.desk_schema.specs.declared.schema.Kind.TheVariants as numbered
-use Rattle.desk_schema.specs.declared.schema.Rights.{Rights}
-use Rattle.desk_schema.specs.declared.schema.Rights.TheVariants.{ReadWrite, ReadOnly}
-use Rattle.desk_schema.specs.declared.schema.Service.{Service}
-use Rattle.desk_schema.specs.declared.schema.Table.{Table}
-use Rattle.desk_schema.specs.declared.schema.Column.{Column}
-use Rattle.desk_schema.specs.Schema.{place_of}
-
-abbrev pub rights_text : Rights → List ℕ
-rights_text ReadWrite = codes "rw"
-rights_text ReadOnly = codes "ro"
+use Rattle.desk_schema.specs.Schema.{place_of, rights_word}
 
 abbrev pub nulls_text : Bool → List ℕ
 nulls_text true = codes "notnull"
@@ -35,7 +25,7 @@ abbrev pub line_text : StartLine → List ℕ
 line_text Head = codes "start 1"
 line_text (LevelLine level) = codes "level " ++ decimal level
 line_text (SeqLine name next) = codes "seq " ++ (name ++ 32 ∷ decimal next)
-line_text (ServiceLine name rights) = codes "svc " ++ (name ++ 32 ∷ rights_text rights)
+line_text (ServiceLine name rights) = codes "svc " ++ (name ++ 32 ∷ rights_word rights)
 line_text (TableLine name) = codes "table " ++ name
 line_text (ColumnLine name kind not_null) = codes "col " ++ (name ++ 32 ∷ (kind_text kind ++ 32 ∷ nulls_text not_null))
 line_text (RowLine row table values) = codes "row " ++ (decimal row ++ 32 ∷ (decimal table ++ 32 ∷ values_text values))
@@ -65,79 +55,3 @@ abbrev pub with_number : List (List ℕ) → ColumnKind → Kind
 with_number names (written.Int low high) = numbered.Int low high
 with_number names (written.Text most) = numbered.Text most
 with_number names (written.Seq sequence) = numbered.Seq (number_of names sequence)
-
--- what one line declares
-abbrev pub sequence_name_in : StartLine → Option (List ℕ)
-sequence_name_in (SeqLine name next) = Some name
-sequence_name_in other = None
-
-abbrev pub next_value_in : StartLine → Option ℕ
-next_value_in (SeqLine name next) = Some next
-next_value_in other = None
-
-abbrev pub service_in : StartLine → Option Service
-service_in (ServiceLine name rights) = Some (record { name = name; rights = rights })
-service_in other = None
-
-abbrev pub row_in : StartLine → Option Image
-row_in (RowLine row table values) = Some (record { row = row; table = table; left = Some values })
-row_in other = None
-
--- what the lines declare
-abbrev pub sequence_names : List StartLine → List (List ℕ)
-sequence_names lines = filter_map sequence_name_in lines
-
-abbrev pub next_values : List StartLine → List ℕ
-next_values lines = filter_map next_value_in lines
-
-abbrev pub services_of : List StartLine → List Service
-services_of lines = filter_map service_in lines
-
-abbrev pub rows_of : List StartLine → List Image
-rows_of lines = filter_map row_in lines
-
--- the columns that the lines begin with
-abbrev pub first_columns : List (List ℕ) → List StartLine → List Column
-first_columns names (ColumnLine name kind not_null ∷ lines) = record { name = name; kind = with_number names kind; not_null = not_null } ∷ first_columns names lines
-first_columns names other = []
-
--- a table has the columns of the lines right after its own
-abbrev pub tables_with : List (List ℕ) → List StartLine → List Table
-tables_with names [] = []
-tables_with names (TableLine name ∷ lines) = record { name = name; columns = first_columns names lines } ∷ tables_with names lines
-tables_with names (other ∷ lines) = tables_with names lines
-
-abbrev pub tables_of : List StartLine → List Table
-tables_of lines = tables_with (sequence_names lines) lines
-
--- the columns so far of the last table
-abbrev pub last_columns : List Table → List Column
-last_columns [] = []
-last_columns (table ∷ []) = table.columns
-last_columns (table ∷ next ∷ tables) = last_columns (next ∷ tables)
-
--- the first number, 0 where there is none
-abbrev pub first_number : List ℕ → ℕ
-first_number [] = 0
-first_number (number ∷ numbers) = number
-
-abbrev pub level_in : StartLine → Option ℕ
-level_in (LevelLine level) = Some level
-level_in other = None
-
-abbrev pub next_row_in : StartLine → Option ℕ
-next_row_in (NextRow row) = Some row
-next_row_in other = None
-
-abbrev pub sessions_in : StartLine → Option ℕ
-sessions_in (Sessions count) = Some count
-sessions_in other = None
-
-abbrev pub level_of : List StartLine → ℕ
-level_of lines = first_number (filter_map level_in lines)
-
-abbrev pub next_row_of : List StartLine → ℕ
-next_row_of lines = first_number (filter_map next_row_in lines)
-
-abbrev pub sessions_of : List StartLine → ℕ
-sessions_of lines = first_number (filter_map sessions_in lines)

@@ -1,11 +1,12 @@
--- What a line needs of those in front of it.
-use Rattle.std.specs.Prelude.{ℕ, ℤ, ◌≡◌, ◌<◌, ◌≤◌, ◌≤ℤ◌, ◌^◌, Bool, true, false, ◌==◌, if◌then◌else◌, List, [], ◌∷◌, ◌++◌, length, Option, None, IsSomeAnd, slice_get, FitsSigned}
+-- What a line needs of what those in front of it declared.
+use Rattle.std.specs.Prelude.{ℕ, ℤ, ◌≡◌, ◌<◌, ◌≤◌, ◌≤ℤ◌, ◌^◌, Bool, true, false, ◌==◌, if◌then◌else◌, List, [], ◌∷◌, length, Option, None, IsSomeAnd, slice_get, FitsSigned}
 use Rattle.std.specs.Int.{w64}
 use Rattle.std.specs.Option.{option_map}
-use Rattle.std.specs.List.{AllByRecursion, AllZip, Contains, filter_map, fold}
+use Rattle.std.specs.List.{AllByRecursion, AllZip, Contains, filter_map}
 use Rattle.desk_values.specs.declared.value.Value.{Value}
 use Rattle.desk_values.specs.declared.value.Value.TheVariants as value
 use Rattle.desk_values.specs.declared.value.Image.{Image}
+use Rattle.desk_values.specs.Comparison.{same_key}
 use Rattle.desk_values.specs.Good.{IsTxt}
 use Rattle.desk_schema.specs.declared.line.StartLine.{StartLine}
 use Rattle.desk_schema.specs.declared.line.StartLine.TheVariants.{Head, Level as LevelLine, Seq as SeqLine, Service as ServiceLine, Table as TableLine, Column as ColumnLine, Row as RowLine, NextRow, Sessions, End}
@@ -17,25 +18,14 @@ use Rattle.desk_schema.specs.declared.schema.Service.{Service}
 use Rattle.desk_schema.specs.declared.schema.Table.{Table}
 use Rattle.desk_schema.specs.declared.schema.Column.{Column}
 use Rattle.desk_schema.specs.Name.{IsName}
-use Rattle.desk_schema.specs.Schema.{table_names, column_names, service_names, columns_of}
-use Rattle.desk_schema.specs.Line.{sequence_names, next_values, services_of, tables_of, rows_of, last_columns}
+use Rattle.desk_schema.specs.Schema.{SchemaView, table_names, column_names, service_names, columns_of}
+use Rattle.desk_schema.specs.State.{State, nothing, added}
 
--- the place of each kind of line in the order of a file
-abbrev pub place : StartLine → ℕ
-place Head = 1
-place (LevelLine level) = 2
-place (SeqLine name next) = 3
-place (ServiceLine name rights) = 4
-place (TableLine name) = 5
-place (ColumnLine name kind not_null) = 6
-place (RowLine row table values) = 7
-place (NextRow row) = 8
-place (Sessions count) = 9
-place End = 10
-
--- the place of the last line, 0 where there is none
-abbrev pub last_place : List StartLine → ℕ
-last_place lines = fold (λ _ line. place line) 0 lines
+-- the columns so far of the last table
+abbrev pub last_columns : List Table → List Column
+last_columns [] = []
+last_columns (table ∷ []) = table.columns
+last_columns (table ∷ next ∷ tables) = last_columns (next ∷ tables)
 
 -- from the one place to the other
 pub record IsWithin (low high last : ℕ) : Type 0 where
@@ -111,6 +101,10 @@ key_in table row = if row.table == table then option_map key_of row.left else No
 abbrev pub keys_of : ℕ → List Image → List Value
 keys_of table rows = filter_map (key_in table) rows
 
+-- none of the keys is this one at the level
+abbrev pub IsNewKey : ℕ → List Value → Value → Type 0
+IsNewKey level keys key = AllByRecursion (λ other. same_key level other key ≡ false) keys
+
 -- each row has a number below this one
 abbrev pub AreBelow : ℕ → List Image → Type 0
 AreBelow number rows = AllByRecursion (λ row. row.row < number) rows
@@ -126,9 +120,9 @@ pub record RowFits (last : ℕ) (tables : List Table) (nexts : List ℕ) (rows :
   pub allowed : AllZip (IsAllowed nexts) (columns_of tables table) values
 
 -- and a first value that its table does not have yet
-pub record RowMayFollow (last : ℕ) (tables : List Table) (nexts : List ℕ) (rows : List Image) (row table : ℕ) (values : List Value) : Type 0 where
-  pub fits : RowFits last tables nexts rows row table values
-  pub key : ¬ Contains (keys_of table rows) (key_of values)
+pub record RowMayFollow (last : ℕ) (schema : SchemaView) (nexts : List ℕ) (rows : List Image) (row table : ℕ) (values : List Value) : Type 0 where
+  pub fits : RowFits last schema.tables nexts rows row table values
+  pub key : IsNewKey schema.level (keys_of table rows) (key_of values)
 
 -- `nextrow`, after anything from `level` to `row`, since a table has columns: over every row
 pub record NextRowMayFollow (last : ℕ) (rows : List Image) (next : ℕ) : Type 0 where
@@ -139,23 +133,22 @@ pub record NextRowMayFollow (last : ℕ) (rows : List Image) (next : ℕ) : Type
   pub above : AreBelow next rows
 
 -- the line has what it needs
-abbrev pub MayFollow : List StartLine → StartLine → Type 0
-MayFollow before Head = before ≡ []
-MayFollow before (LevelLine level) = (last_place before ≡ 1) × (level ≡ 1)
-MayFollow before (SeqLine name next) = SequenceMayFollow (last_place before) (sequence_names before) name next
-MayFollow before (ServiceLine name rights) = ServiceMayFollow (last_place before) (services_of before) name
-MayFollow before (TableLine name) = TableMayFollow (last_place before) (tables_of before) name
-MayFollow before (ColumnLine name kind not_null) = ColumnMayFollow (last_place before) (sequence_names before) (last_columns (tables_of before)) name kind not_null
-MayFollow before (RowLine row table values) = RowMayFollow (last_place before) (tables_of before) (next_values before) (rows_of before) row table values
-MayFollow before (NextRow next) = NextRowMayFollow (last_place before) (rows_of before) next
-MayFollow before (Sessions count) = (last_place before ≡ 8) × (count ≤ 64)
-MayFollow before End = last_place before ≡ 9
+abbrev pub MayFollow : State → StartLine → Type 0
+MayFollow state Head = state.last ≡ 0
+MayFollow state (LevelLine level) = (state.last ≡ 1) × (level ≡ 1)
+MayFollow state (SeqLine name next) = SequenceMayFollow state.last state.start.schema.sequences name next
+MayFollow state (ServiceLine name rights) = ServiceMayFollow state.last state.start.schema.services name
+MayFollow state (TableLine name) = TableMayFollow state.last state.start.schema.tables name
+MayFollow state (ColumnLine name kind not_null) = ColumnMayFollow state.last state.start.schema.sequences (last_columns state.start.schema.tables) name kind not_null
+MayFollow state (RowLine row table values) = RowMayFollow state.last state.start.schema state.start.next_values state.start.rows row table values
+MayFollow state (NextRow next) = NextRowMayFollow state.last state.start.rows next
+MayFollow state (Sessions count) = (state.last ≡ 8) × (count ≤ 64)
+MayFollow state End = state.last ≡ 9
 
--- after the lines before, each of these may follow
-abbrev pub AreLinesAfter : List StartLine → List StartLine → Type 0
-AreLinesAfter before [] = Unit {0}
-AreLinesAfter before (line ∷ lines) = MayFollow before line × AreLinesAfter (before ++ line ∷ []) lines
+-- each line has what it needs in the state that those before it lead to
+abbrev pub AreLinesFrom : State → List StartLine → Type 0
+AreLinesFrom state [] = Unit {0}
+AreLinesFrom state (line ∷ lines) = MayFollow state line × AreLinesFrom (added state line) lines
 
--- each line has what it needs
 abbrev pub AreLines : List StartLine → Type 0
-AreLines lines = AreLinesAfter [] lines
+AreLines lines = AreLinesFrom nothing lines

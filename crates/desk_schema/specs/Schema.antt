@@ -1,13 +1,15 @@
 -- A schema as contracts see it, and what is looked up in it.
-use Rattle.std.specs.Prelude.{ℕ, ◌≡◌, ◌+◌, ◌≤◌, Bool, if◌then◌else◌, List, [], ◌∷◌, length, map, Option, None, Some, slice_get}
+use Rattle.std.specs.Prelude.{ℕ, ◌≡◌, ◌+◌, ◌≤◌, Bool, if◌then◌else◌, List, [], ◌∷◌, length, map, Option, None, Some, slice_get, codes, refl}
 use Rattle.std.specs.Option.{option_map}
 use Rattle.std.specs.List.{AllByRecursion}
 use Rattle.std.specs.Str.{bytes_eq, str_to_ascii_lowercase, str_eq_ignore_ascii_case}
+use Rattle.desk_values.specs.Word.{HasOwnWords, member_with_word}
 use Rattle.desk_schema.specs.declared.schema.Service.{Service}
 use Rattle.desk_schema.specs.declared.schema.Table.{Table}
 use Rattle.desk_schema.specs.declared.schema.Column.{Column}
 use Rattle.desk_schema.specs.declared.schema.Kind.{Kind}
 use Rattle.desk_schema.specs.declared.schema.Rights.{Rights}
+use Rattle.desk_schema.specs.declared.schema.Rights.TheVariants.{ReadWrite, ReadOnly}
 
 pub record SchemaView : Type 0 where
   pub level : ℕ
@@ -28,6 +30,20 @@ pub record IsSchema (schema : SchemaView) : Type 0 where
   pub services : length schema.services ≤ 16
   pub tables : length schema.tables ≤ 32
   pub columns : AllByRecursion HasColumns schema.tables
+
+-- the word of a service's rights
+abbrev pub rights_word : Rights → List ℕ
+rights_word ReadWrite = codes "rw"
+rights_word ReadOnly = codes "ro"
+
+abbrev pub all_rights : List Rights
+all_rights = ReadWrite ∷ ReadOnly ∷ []
+
+-- each is found by its word
+pub rights_have_own_words : HasOwnWords rights_word all_rights
+unfolding member_with_word
+rights_have_own_words ReadWrite = refl
+rights_have_own_words ReadOnly = refl
 
 -- the place of the first name that passes the test
 abbrev pub place_where : (List ℕ → Bool) → List (List ℕ) → Option ℕ

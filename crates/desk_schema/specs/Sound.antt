@@ -1,16 +1,19 @@
--- What holds of the parts of every start that keeps the rules.
-use Rattle.std.specs.Prelude.{ℕ, ◌≡◌, ◌<◌, ◌≤◌, ◌^◌, true, List, [], ◌∷◌, length, Some, IfSome, IsSomeAnd, slice_get}
-use Rattle.std.specs.List.{AllByRecursion, AllZip, Contains}
+-- What holds of every start that keeps the rules, and of every state on the way to one.
+use Rattle.std.specs.Prelude.{ℕ, ◌≡◌, ◌<◌, ◌≤◌, ◌^◌, true, false, List, [], ◌∷◌, length, Some, IfSome, IsSomeAnd, slice_get}
+use Rattle.std.specs.List.{AllByRecursion, AllZip}
 use Rattle.desk_values.specs.declared.value.Value.{Value}
 use Rattle.desk_values.specs.declared.value.Image.{Image}
+use Rattle.desk_values.specs.Comparison.{same_key}
 use Rattle.desk_values.specs.Good.{Ascend}
 use Rattle.desk_schema.specs.declared.schema.Kind.{Kind}
 use Rattle.desk_schema.specs.declared.schema.Kind.TheVariants.{Int, Text, Seq}
 use Rattle.desk_schema.specs.declared.schema.Table.{Table}
 use Rattle.desk_schema.specs.Name.{IsName}
-use Rattle.desk_schema.specs.Schema.{SchemaView, place_of, table_names, column_names, service_names, columns_of}
-use Rattle.desk_schema.specs.Line.{name_of, last_columns}
-use Rattle.desk_schema.specs.Rules.{IsRange, IsAllowed, keys_of}
+use Rattle.desk_schema.specs.Schema.{SchemaView, IsSchema, place_of, table_names, column_names, service_names, columns_of}
+use Rattle.desk_schema.specs.Line.{name_of}
+use Rattle.desk_schema.specs.Start.{StartView}
+use Rattle.desk_schema.specs.State.{State}
+use Rattle.desk_schema.specs.Rules.{IsRange, IsAllowed, AreBelow, keys_of}
 
 -- no name stands twice: each is found at its own place
 abbrev pub AreDistinct : List (List ℕ) → Type 0
@@ -37,10 +40,10 @@ pub record IsSoundRow (tables : List Table) (nexts : List ℕ) (row : Image) : T
   pub is_table : row.table < length tables
   pub allowed : IsSomeAnd row.left (λ values. AllZip (IsAllowed nexts) (columns_of tables row.table) values)
 
--- no value stands twice
-abbrev pub AreApart : List Value → Type 0
-AreApart [] = Unit {0}
-AreApart (first ∷ others) = (¬ Contains others first) × AreApart others
+-- no two of the keys are the same at the level
+abbrev pub AreApart : ℕ → List Value → Type 0
+AreApart level [] = Unit {0}
+AreApart level (first ∷ others) = AllByRecursion (λ other. same_key level first other ≡ false) others × AreApart level others
 
 -- each table but the last has columns, which may still be coming
 abbrev pub HaveColumnsButLast : List Table → Type 0
@@ -56,24 +59,52 @@ pub record AreSoundSequences (sequences : List (List ℕ)) (nexts : List ℕ) : 
   pub limits : AllByRecursion (λ next. (1 ≤ next) × (next ≤ 549755813888)) nexts
 
 pub record IsSoundSchema (schema : SchemaView) : Type 0 where
-  pub level : schema.level ≡ 1
   pub services : length schema.services ≤ 16
   pub services_named : AllByRecursion IsName (service_names schema.services)
   pub services_distinct : AreDistinct (service_names schema.services)
   pub tables : length schema.tables ≤ 32
   pub tables_sound : AllByRecursion (IsSoundTable (length schema.sequences)) schema.tables
   pub tables_distinct : AreDistinct (table_names schema.tables)
-  pub begun : HaveColumnsButLast schema.tables
 
-pub record AreSoundRows (tables : List Table) (nexts : List ℕ) (rows : List Image) : Type 0 where
+pub record AreSoundRows (schema : SchemaView) (nexts : List ℕ) (rows : List Image) : Type 0 where
   pub most : length rows ≤ 100000
   pub rising : Ascend rows
-  pub each : AllByRecursion (IsSoundRow tables nexts) rows
-  pub apart : (table : ℕ) → AreApart (keys_of table rows)
-  -- rows come after the columns of every table
-  pub whole : 0 < length rows → 1 ≤ length (last_columns tables)
+  pub each : AllByRecursion (IsSoundRow schema.tables nexts) rows
+  pub apart : (table : ℕ) → AreApart schema.level (keys_of table rows)
 
-pub record IsSound (schema : SchemaView) (nexts : List ℕ) (rows : List Image) : Type 0 where
-  pub sequences : AreSoundSequences schema.sequences nexts
-  pub is_schema : IsSoundSchema schema
-  pub sound_rows : AreSoundRows schema.tables nexts rows
+pub record IsSound (start : StartView) : Type 0 where
+  pub sequences : AreSoundSequences start.schema.sequences start.next_values
+  pub is_schema : IsSoundSchema start.schema
+  pub sound_rows : AreSoundRows start.schema start.next_values start.rows
+
+-- what has its turn later than the last line is not there yet
+pub record IsInOrder (last : ℕ) (start : StartView) : Type 0 where
+  pub level : 2 ≤ last → start.schema.level ≡ 1
+  pub no_sequences : last ≤ 2 → start.schema.sequences ≡ []
+  pub no_services : last ≤ 3 → start.schema.services ≡ []
+  pub no_tables : last ≤ 4 → start.schema.tables ≡ []
+  pub some_table : 5 ≤ last → last ≤ 6 → 0 < length start.schema.tables
+  pub no_rows : last ≤ 6 → start.rows ≡ []
+  -- the columns of the last table come right after it
+  pub begun : HaveColumnsButLast start.schema.tables
+  pub whole : ¬ (last ≡ 5) → AllByRecursion (λ table. 1 ≤ length table.columns) start.schema.tables
+
+-- the number of the next row is over every row
+pub record IsSoundNextRow (start : StartView) : Type 0 where
+  pub least : 1 ≤ start.next_row
+  pub most : start.next_row ≤ 549755813888
+  pub above : AreBelow start.next_row start.rows
+
+-- what holds in every state that lines lead to
+pub record IsSoundState (state : State) : Type 0 where
+  pub order : IsInOrder state.last state.start
+  pub sound : IsSound state.start
+  pub next_row : 8 ≤ state.last → IsSoundNextRow state.start
+  pub sessions : state.sessions ≤ 64
+
+-- what holds of every start that keeps the rules
+pub record IsSoundStart (start : StartView) : Type 0 where
+  pub level : start.schema.level ≡ 1
+  pub is_schema : IsSchema start.schema
+  pub sound : IsSound start
+  pub next_row : IsSoundNextRow start

@@ -1,31 +1,34 @@
-ghost use Rattle.std.specs.Prelude.{◌≡◌, ◌++◌, ◌∷◌, [], ◌↔◌, IfOk, IfSome, IfNone, IsTrue, OnOk, OnErr};
+ghost use Rattle.std.specs.Prelude.{◌≡◌, IfOk, IfSome, IfNone, OnOk, OnErr};
 ghost use Rattle.std.specs.List.{Contains};
 ghost use Rattle.desk_schema.specs.declared.line.StartLine.{StartLine};
-ghost use Rattle.desk_schema.specs.Last.{place_of_last};
-ghost use Rattle.desk_schema.specs.Line.{name_of, next_values, rows_of, sequence_names, tables_of, with_name};
-ghost use Rattle.desk_schema.specs.Rules.{AreLines, last_place, MayFollow, RowFits};
-ghost use Rattle.desk_schema.specs.Schema.{place_of};
-ghost use Rattle.desk_schema.specs.Start.{start_of, Judges, JudgesUnlessMemory};
 ghost use Rattle.desk_schema.specs.declared.draft.DraftErr.TheVariants.{Memory as OutOfMemory};
+ghost use Rattle.desk_schema.specs.Schema.{place_of};
+ghost use Rattle.desk_schema.specs.Line.{name_of, with_name};
+ghost use Rattle.desk_schema.specs.State.{added, nothing};
+ghost use Rattle.desk_schema.specs.Rules.{MayFollow};
+ghost use Rattle.desk_schema.specs.Draft.{IsReached, Judges, JudgesUnlessMemory};
 
 use crate::keys::{KeySet, row_key};
 use crate::named::place_in;
-use crate::parts::{last_columns, last_line, push_column, push_row, push_sequence};
+use crate::parts::{last_columns, push_column, push_row, push_sequence};
 use crate::rules::{
     Last, fits_row, may_add_column, may_add_sequence, may_add_service, may_add_table, may_finish,
 };
 use crate::schema::{Column, Kind, Rights, Schema, Service, Table};
 use crate::start::Start;
-use desk_values::{Copied, Image, List, Memory, Txt, Value, Values};
+use desk_values::{Copied, Image, List, Memory, Txt, Values};
 use std::alloc::{AllocFailed, Global};
 use std::marker::Model;
+use thiserror::Error;
 
 /// Why a line was not added to a [`Draft`].
-#[derive(Clone, Copy, Debug, PartialEq, Eq)]
+#[derive(Clone, Copy, Debug, PartialEq, Eq, Error)]
 pub enum DraftErr {
     /// It would break a rule of the lines of a start file. Each call of [`Draft`] says which.
+    #[error("a line that breaks a rule of start files")]
     Rule,
     /// Want of memory.
+    #[error("out of memory")]
     Memory,
 }
 
@@ -49,10 +52,11 @@ impl<T: Drop> From<AllocFailed<T>> for DraftErr {
 const LEVEL: u32 = 1;
 
 /// A start whose lines come one after the other, in the order of a start file: the level, sequences, services, tables
-/// each with its columns, rows, and the number of the next row. Contracts see the lines so far. A call answers `Rule`
-/// exactly where its line breaks a rule, and `Memory` where memory is wanting.
+/// each with its columns, rows, and the number of the next row. Contracts see the state that the lines so far lead to. A
+/// call answers `Rule` exactly where its line breaks a rule, and `Memory` where memory is wanting.
 #[derive(Drop)]
 pub struct Draft {
+    last: Last,
     level: u32,
     sequences: Vec<Txt>,
     next_values: Vec<u64>,
@@ -63,29 +67,28 @@ pub struct Draft {
 }
 
 impl Model for Draft {
-    ghost use Rattle.std.specs.Prelude.{List as Sequence};
-    ghost use Rattle.desk_schema.specs.declared.line.StartLine.{StartLine};
-    ghost use Rattle.desk_schema.specs.Draft.{IsDraft};
-    ghost use Rattle.desk_schema.specs.Start.{part_lines};
+    ghost use Rattle.desk_schema.specs.State.{State};
+    ghost use Rattle.desk_schema.specs.Draft.{drafted, IsDraft};
 
-    ghost Value = { Sequence StartLine };
+    ghost Value = { State };
 
-    ghost view = { λ a. part_lines (record { level = a.level; sequences = a.sequences.items; services = a.services; tables = a.tables.items }) a.next_values.items a.rows.items };
+    ghost view = { λ a. drafted a.last (record { level = a.level; sequences = a.sequences.items; services = a.services; tables = a.tables.items }) a.next_values.items a.rows.items };
 
-    ghost invariant = { λ a. IsDraft (record { level = a.level; sequences = a.sequences.items; services = a.services; tables = a.tables.items }) a.next_values.items a.rows.items a.keys };
+    ghost invariant = { λ a. IsDraft (drafted a.last (record { level = a.level; sequences = a.sequences.items; services = a.services; tables = a.tables.items }) a.next_values.items a.rows.items) a.keys };
 }
 
 impl Draft {
     /// A draft with its first two lines: the version of the format, and the level of the SQL rules. `Rule` where the level
     /// is not 1.
     pub fn new(alloc: Global, level: u32) -> Result<Draft, DraftErr>
-        ensures ok { IfOk result (λ draft. draft ≡ StartLine.Head ∷ StartLine.Level level ∷ []) }
-        ensures rule { Judges result (MayFollow (StartLine.Head ∷ []) (StartLine.Level level)) }
+        ensures ok { IfOk result (λ draft. draft ≡ added (added nothing StartLine.Head) (StartLine.Level level)) }
+        ensures rule { Judges result (MayFollow (added nothing StartLine.Head) (StartLine.Level level)) }
     {
         if level != LEVEL {
             return Err(DraftErr::Rule);
         }
         Ok(Draft {
+            last: Last::Level,
             level,
             sequences: Vec::new(alloc),
             next_values: Vec::new(alloc),
@@ -100,46 +103,49 @@ impl Draft {
     /// sequences; where `name` is no name (as `is_name` tells) or that of another one; or where `next` is not from 1 to
     /// 549,755,813,888, which is 2^39. An `Err` changes nothing.
     pub fn add_seq(&mut self, name: &Txt, next: u64) -> Result<(), DraftErr>
-        ensures ok { OnOk result (self.new ≡ self.old ++ StartLine.Seq name.now next ∷ []) }
+        ensures ok { OnOk result (self.new ≡ added self.old (StartLine.Seq name.now next)) }
         ensures rule { Judges result (MayFollow self.old (StartLine.Seq name.now next)) }
         ensures err { OnErr result (self.new ≡ self.old) }
     {
-        if !may_add_sequence(self.last(), self.sequences.as_slice(), name, next) {
+        if !may_add_sequence(self.last, self.sequences.as_slice(), name, next) {
             return Err(DraftErr::Rule);
         }
         let name = name.copy()?;
         push_sequence(&mut self.sequences, name, &mut self.next_values, next)?;
+        self.last = Last::Sequence;
         Ok(())
     }
 
     /// Adds a service. `Rule` where a table is there already; where there are 16 services; or where `name` is no name or
     /// that of another one. An `Err` changes nothing.
     pub fn add_service(&mut self, name: &Txt, rights: Rights) -> Result<(), DraftErr>
-        ensures ok { OnOk result (self.new ≡ self.old ++ StartLine.Service name.now rights ∷ []) }
+        ensures ok { OnOk result (self.new ≡ added self.old (StartLine.Service name.now rights)) }
         ensures rule { Judges result (MayFollow self.old (StartLine.Service name.now rights)) }
         ensures err { OnErr result (self.new ≡ self.old) }
     {
-        if !may_add_service(self.last(), self.services.as_slice(), name) {
+        if !may_add_service(self.last, self.services.as_slice(), name) {
             return Err(DraftErr::Rule);
         }
         let name = name.copy()?;
         self.services.push(Service { name, rights })?;
+        self.last = Last::Service;
         Ok(())
     }
 
     /// Adds a table. Its columns come next. `Rule` where a row is there already; where the table before it has no column;
     /// where there are 32 tables; or where `name` is no name or that of another one. An `Err` changes nothing.
     pub fn add_table(&mut self, name: &Txt) -> Result<(), DraftErr>
-        ensures ok { OnOk result (self.new ≡ self.old ++ StartLine.Table name.now ∷ []) }
+        ensures ok { OnOk result (self.new ≡ added self.old (StartLine.Table name.now)) }
         ensures rule { Judges result (MayFollow self.old (StartLine.Table name.now)) }
         ensures err { OnErr result (self.new ≡ self.old) }
     {
-        if !may_add_table(self.last(), self.tables.as_slice(), name) {
+        if !may_add_table(self.last, self.tables.as_slice(), name) {
             return Err(DraftErr::Rule);
         }
         let name = name.copy()?;
         let columns = List::new(*self.tables.allocator());
         self.tables.push(Table { name, columns })?;
+        self.last = Last::Table;
         Ok(())
     }
 
@@ -147,13 +153,13 @@ impl Draft {
     /// where `name` is no name or that of another column of the table; where `kind` has limits that it does not allow, or
     /// is that of no sequence; or where the first column of a table, its key, may be null. An `Err` changes nothing.
     pub fn add_col(&mut self, name: &Txt, kind: Kind, not_null: bool) -> Result<(), DraftErr>
-        ensures ok { OnOk result (self.new ≡ self.old ++ StartLine.Column name.now (with_name (sequence_names self.old) kind) not_null ∷ []) }
-        ensures rule { Judges result (MayFollow self.old (StartLine.Column name.now (with_name (sequence_names self.old) kind) not_null)) }
+        ensures ok { OnOk result (self.new ≡ added self.old (StartLine.Column name.now (with_name self.old.start.schema.sequences kind) not_null)) }
+        ensures rule { Judges result (MayFollow self.old (StartLine.Column name.now (with_name self.old.start.schema.sequences kind) not_null)) }
         ensures err { OnErr result (self.new ≡ self.old) }
     {
         let sequences = self.sequences.as_slice();
         let columns = last_columns(self.tables.as_slice());
-        if !may_add_column(self.last(), sequences, columns, name, kind, not_null) {
+        if !may_add_column(self.last, sequences, columns, name, kind, not_null) {
             return Err(DraftErr::Rule);
         }
         let name = name.copy()?;
@@ -165,6 +171,7 @@ impl Draft {
                 not_null,
             },
         )?;
+        self.last = Last::Column;
         Ok(())
     }
 
@@ -174,11 +181,19 @@ impl Draft {
     /// drawn; or where its first value, the key, is that of an earlier row of the table. Keys take memory, so `Memory` may
     /// come where the key is taken. An `Err` changes nothing.
     pub fn add_row(&mut self, row: u64, table: u32, values: Values) -> Result<(), DraftErr>
-        ensures ok { OnOk result (self.new ≡ self.old ++ StartLine.Row row table values ∷ []) }
+        ensures ok { OnOk result (self.new ≡ added self.old (StartLine.Row row table values)) }
         ensures rule { JudgesUnlessMemory result (MayFollow self.old (StartLine.Row row table values)) }
         ensures err { OnErr result (self.new ≡ self.old) }
     {
-        if !self.fits(row, table, values.as_slice()) {
+        if !fits_row(
+            self.last,
+            self.tables.as_slice(),
+            self.next_values.as_slice(),
+            self.rows.as_slice(),
+            row,
+            table,
+            values.as_slice(),
+        ) {
             return Err(DraftErr::Rule);
         }
         let key = row_key(*self.rows.allocator(), table, values.as_slice())?;
@@ -190,14 +205,15 @@ impl Draft {
         if !push_row(&mut self.rows, image, &mut self.keys, key)? {
             return Err(DraftErr::Rule);
         }
+        self.last = Last::Row;
         Ok(())
     }
 
     /// The number of the sequence of just this name, `None` where no line so far declares it. It takes no memory.
     pub fn sequence_named(&self, name: &Txt) -> Option<u32>
-        ensures value { result ≡ place_of (sequence_names self.now) name.now }
-        ensures some { IfSome result (λ number. name_of (sequence_names self.now) number ≡ name.now) }
-        ensures none { IfNone result (¬ Contains (sequence_names self.now) name.now) }
+        ensures value { result ≡ place_of self.now.start.schema.sequences name.now }
+        ensures some { IfSome result (λ number. name_of self.now.start.schema.sequences number ≡ name.now) }
+        ensures none { IfNone result (¬ Contains self.now.start.schema.sequences name.now) }
     {
         place_in(self.sequences.as_slice(), name)
     }
@@ -205,11 +221,11 @@ impl Draft {
     /// The start of the lines so far and of the number of the next row. `Rule` where the last table has no column, or
     /// where `next_row` is not above every row and from 1 to 549,755,813,888. It takes no memory. An `Err` drops the draft.
     pub fn finish(self, next_row: u64) -> Result<Start, DraftErr>
-        ensures ok { IfOk result (λ start. start ≡ start_of (self ++ StartLine.NextRow next_row ∷ [])) }
+        ensures ok { IfOk result (λ start. start ≡ (added self (StartLine.NextRow next_row)).start) }
         ensures rule { Judges result (MayFollow self (StartLine.NextRow next_row)) }
-        ensures lines { AreLines self }
+        ensures reached { IsReached self }
     {
-        if !may_finish(self.last(), self.rows.as_slice(), next_row) {
+        if !may_finish(self.last, self.rows.as_slice(), next_row) {
             return Err(DraftErr::Rule);
         }
         let schema = Schema::from_parts(
@@ -224,32 +240,5 @@ impl Draft {
             next_row,
             self.next_values,
         ))
-    }
-
-    /// The kind of the last line.
-    fn last(&self) -> Last
-        ensures { place_of_last result ≡ last_place self.now }
-    {
-        last_line(
-            self.sequences.as_slice(),
-            self.services.as_slice(),
-            self.tables.as_slice(),
-            self.rows.as_slice(),
-        )
-    }
-
-    /// Whether a row may come next but for its key.
-    fn fits(&self, row: u64, table: u32, values: &[Value]) -> bool
-        ensures { IsTrue result ↔ RowFits (last_place self.now) (tables_of self.now) (next_values self.now) (rows_of self.now) row table values.now }
-    {
-        fits_row(
-            self.last(),
-            self.tables.as_slice(),
-            self.next_values.as_slice(),
-            self.rows.as_slice(),
-            row,
-            table,
-            values,
-        )
     }
 }

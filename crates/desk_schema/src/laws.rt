@@ -3,21 +3,22 @@
 //! Nothing enters and nothing leaves: each call does nothing, and its clauses are the laws.
 ghost use Rattle.std.specs.Prelude.{ℕ, ◌≡◌, ◌≤◌, ◌++◌, ◌∷◌, [], List};
 ghost use Rattle.desk_schema.specs.declared.line.StartLine.{StartLine};
-ghost use Rattle.desk_schema.specs.Laws.{IsFile, IsFileOf, IsSoundStart};
-ghost use Rattle.desk_schema.specs.Line.{sessions_of};
+ghost use Rattle.desk_schema.specs.Start.{StartView, file_lines};
+ghost use Rattle.desk_schema.specs.State.{state_of};
 ghost use Rattle.desk_schema.specs.Rules.{AreLines, MayFollow};
-ghost use Rattle.desk_schema.specs.Start.{StartView, file_lines, start_of, IsStart};
+ghost use Rattle.desk_schema.specs.File.{IsFile, IsFileOf, IsStart};
+ghost use Rattle.desk_schema.specs.Sound.{IsSoundStart};
 
 /// A file is the lines of the start and of the number of sessions that it declares.
 pub fn files_are_starts()
-    ensures { (lines : List StartLine) → IsFile lines → IsFileOf lines (start_of lines) (sessions_of lines) }
+    ensures { (lines : List StartLine) → IsFile lines → IsFileOf lines (state_of lines).start (state_of lines).sessions }
 {}
 
 /// The lines of a start that keeps the rules are a file, which declares just that start.
 pub fn starts_are_files()
     ensures file { (start : StartView) (sessions : ℕ) → IsStart start → sessions ≤ 64 → IsFile (file_lines start sessions) }
-    ensures start { (start : StartView) (sessions : ℕ) → IsStart start → start_of (file_lines start sessions) ≡ start }
-    ensures sessions { (start : StartView) (sessions : ℕ) → sessions_of (file_lines start sessions) ≡ sessions }
+    ensures start { (start : StartView) (sessions : ℕ) → IsStart start → (state_of (file_lines start sessions)).start ≡ start }
+    ensures sessions { (start : StartView) (sessions : ℕ) → (state_of (file_lines start sessions)).sessions ≡ sessions }
 {}
 
 /// A start that keeps the rules has names, kinds and keys of their own, rows that fit their tables, and so on.
@@ -27,6 +28,6 @@ pub fn starts_are_sound()
 
 /// Lines grow by a line that may follow, and what they begin with is lines too.
 pub fn lines_grow()
-    ensures grown { (lines : List StartLine) (line : StartLine) → AreLines lines → MayFollow lines line → AreLines (lines ++ line ∷ []) }
+    ensures grown { (lines : List StartLine) (line : StartLine) → AreLines lines → MayFollow (state_of lines) line → AreLines (lines ++ line ∷ []) }
     ensures front { (front rest : List StartLine) → AreLines (front ++ rest) → AreLines front }
 {}

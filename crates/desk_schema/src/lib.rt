@@ -20,6 +20,3 @@ pub use line::{ColumnKind, StartLine};
 pub use names::is_name;
 pub use schema::{Column, Kind, Rights, Schema, Service, Table};
 pub use start::Start;
-
-#[cfg(test)]
-mod tests;

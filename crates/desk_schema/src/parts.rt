@@ -1,36 +1,13 @@
 ghost use Rattle.std.specs.Prelude.{◌≡◌, ◌-◌, ◌<◌, ◌++◌, ◌∷◌, [], IfOk, OnOk, OnErr, vec_len};
 ghost use Rattle.std.specs.Bool.{OnTrue, OnFalse};
 ghost use Rattle.std.specs.List.{Contains};
-ghost use Rattle.desk_schema.specs.Draft.{ending, with_column};
+ghost use Rattle.desk_schema.specs.State.{with_column};
 ghost use Rattle.desk_schema.specs.Keys.{row_key, IsWith};
-ghost use Rattle.desk_schema.specs.Last.{place_of_last};
-ghost use Rattle.desk_schema.specs.Line.{last_columns};
+ghost use Rattle.desk_schema.specs.Rules.{last_columns};
 
 use crate::keys::{KeySet, RowKey};
-use crate::rules::Last;
-use crate::schema::{Column, Service, Table};
+use crate::schema::{Column, Table};
 use desk_values::{Image, Memory, Txt};
-
-/// The kind of the last line of these parts.
-pub(crate) fn last_line(
-    sequences: &[Txt],
-    services: &[Service],
-    tables: &[Table],
-    rows: &[Image],
-) -> Last
-    ensures { place_of_last result ≡ ending sequences.now services.now tables.now rows.now }
-{
-    if !rows.is_empty() {
-        return Last::Row;
-    }
-    match tables.last() {
-        Some(table) if table.columns.is_empty() => Last::Table,
-        Some(_) => Last::Column,
-        None if !services.is_empty() => Last::Service,
-        None if !sequences.is_empty() => Last::Sequence,
-        None => Last::Level,
-    }
-}
 
 /// The columns so far of the last table.
 pub(crate) fn last_columns(tables: &[Table]) -> &[Column]

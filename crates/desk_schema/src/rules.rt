@@ -1,7 +1,7 @@
 ghost use Rattle.std.specs.Prelude.{◌≡◌, ◌↔◌, ◌<◌, IsTrue, IsSomeAnd, length, slice_get};
 ghost use Rattle.std.specs.List.{AllByRecursion, AllZip};
 ghost use Rattle.desk_values.specs.Good.{Ascend};
-ghost use Rattle.desk_schema.specs.Last.{place_of_last};
+ghost use Rattle.desk_schema.specs.Draft.{place_of_last};
 ghost use Rattle.desk_schema.specs.Line.{with_name};
 ghost use Rattle.desk_schema.specs.Name.{IsName};
 ghost use Rattle.desk_schema.specs.Schema.{columns_of};

@@ -4,7 +4,7 @@ ghost use Rattle.std.specs.Option.{option_map};
 ghost use Rattle.desk_schema.specs.Schema.{columns_of, column_names, IsNoName, IsSchema, place_ignoring_case, rights_of, service_names, shape_of, table_names};
 
 use crate::named::{Named, place_ignoring_case_in};
-use desk_values::{Copied, List, Memory, Same, Txt};
+use desk_values::{Copied, List, Memory, Same, Txt, Word};
 use std::marker::Model;
 
 /// What a column holds where it is not null.
@@ -25,6 +25,28 @@ pub enum Rights {
     ReadWrite,
     /// Reading alone: no INSERT, UPDATE, DELETE, FOR UPDATE or NEXTVAL.
     ReadOnly,
+}
+
+impl Word for Rights {
+    ghost use Rattle.desk_schema.specs.Schema.{rights_word, all_rights, rights_have_own_words};
+
+    ghost word_of = { rights_word };
+
+    ghost members_of = { all_rights };
+
+    ghost own_words = { rights_have_own_words };
+
+    fn members() -> &'static [Rights] {
+        &[Rights::ReadWrite, Rights::ReadOnly]
+    }
+
+    // The word of the rights in a service's line.
+    fn word(self) -> &'static str {
+        match self {
+            Rights::ReadWrite => "rw",
+            Rights::ReadOnly => "ro",
+        }
+    }
 }
 
 /// A service that clients connect to.

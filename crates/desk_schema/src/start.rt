@@ -1,5 +1,5 @@
 ghost use Rattle.std.specs.Prelude.{◌≡◌, slice_get, IfOk, IsTrue, ◌↔◌};
-ghost use Rattle.desk_schema.specs.Start.{IsStart};
+ghost use Rattle.desk_schema.specs.File.{IsStart};
 
 use crate::schema::Schema;
 use desk_values::{Copied, Images, Memory, Same};
@@ -15,7 +15,8 @@ pub struct Start {
 }
 
 impl Model for Start {
-    ghost use Rattle.desk_schema.specs.Start.{StartView, IsStart};
+    ghost use Rattle.desk_schema.specs.Start.{StartView};
+    ghost use Rattle.desk_schema.specs.File.{IsStart};
 
     ghost Value = { StartView };
 

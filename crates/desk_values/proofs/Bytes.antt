@@ -38,18 +38,6 @@ is_item byte = is_word byte || eqb byte 44
 abbrev pub is_listed : ℕ → Bool
 is_listed byte = is_item byte || (eqb byte 91 || eqb byte 93)
 
--- a byte of an image
-abbrev pub is_imaged : ℕ → Bool
-is_imaged byte = is_listed byte || eqb byte 58
-
--- a byte of a field of a line
-abbrev pub is_field : ℕ → Bool
-is_field byte = is_imaged byte || eqb byte 59
-
--- a byte of a call or a reply
-abbrev pub is_line : ℕ → Bool
-is_line byte = is_field byte || eqb byte 32
-
 decimal_consists : (test : ℕ → Bool) → ((digit : ℕ) → digit < 10 → test (48 + digit) ≡ true) → (n : ℕ) → n < 2 ^ 64 → Consists test (decimal n)
 decimal_consists test passes n lt = decimal_by_steps (λ n ds. Consists test ds) (λ n small. (passes n small, tt))
     (λ n ds large front. Consists-append test ds ((48 + n % 10) ∷ []) front (passes (n % 10) (omega arith), tt)) n lt

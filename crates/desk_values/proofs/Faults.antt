@@ -7,15 +7,7 @@ use Rattle.std.proofs.lemmas.Option.{same_Some, none-some}
 use Rattle.desk_values.specs.declared.fault.Fault.{Fault}
 use Rattle.desk_values.specs.declared.fault.Fault.TheVariants.{Syntax}
 use Rattle.desk_values.specs.Fault.{fault_number, all_faults, fault_numbered}
-use Rattle.desk_values.proofs.Options.{chosen}
-
-find_passes : {X : Type 0} (test : X → Bool) (xs : List X) (y : X) → find test xs ≡ Some y → test y ≡ true
-find_passes test [] y e = absurd (none-some y e)
-find_passes test (x ∷ xs) y e =
-    elim (chosen (test x) (Some x) (find test xs) (Some y) e) [
-      | inl hit ↦ sym (ap test (same_Some x y hit.1)) ∙ hit.0
-      | inr miss ↦ find_passes test xs y miss.1
-    ]
+use Rattle.desk_values.proofs.Words.{find_passes}
 
 pub numbered_taken : (n : ℕ) (fault : Fault) → fault_numbered n ≡ Some fault → fault_number fault ≡ n
 unfolding fault_numbered

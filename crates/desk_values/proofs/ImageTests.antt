@@ -7,7 +7,7 @@ use Rattle.desk_values.specs.declared.value.Value.{Value}
 use Rattle.desk_values.specs.declared.value.Value.TheVariants.{Null, Int, Text, Row, Draw}
 use Rattle.desk_values.specs.declared.value.Image.{Image}
 use Rattle.desk_values.specs.Good.{IsValue, IsValues, IsGoodDraw, Ascend}
-use Rattle.desk_values.specs.Reading.{ascend_above, rows_ascend, is_draw, all_draws}
+use Rattle.desk_values.specs.Good.{ascend_above, rows_ascend, is_draw, all_draws}
 
 ascend_above_is : (first : Image) (others : List Image) → (ascend_above first.row others ≡ true) ↔ Ascend (first ∷ others)
 ascend_above_is first [] = (λ e. tt, λ h. refl)

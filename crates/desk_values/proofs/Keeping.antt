@@ -1,11 +1,6 @@
 -- Bytes that begin as before.
 use Rattle.std.proofs.Common.{◌≡◌, ℕ, List, [], ◌∷◌, ◌++◌, length, take, refl, sym, ◌∙◌, ap}
-use Rattle.std.proofs.Math.Seq.{take-append_seam}
 use Rattle.desk_values.specs.Kept.{IsKept}
-
--- what is appended leaves what stands before
-pub kept_front : (old more : List ℕ) → IsKept old (old ++ more)
-kept_front old more = take-append_seam old more
 
 take_less : (bytes front more : List ℕ) → take (length (front ++ more)) bytes ≡ front ++ more → take (length front) bytes ≡ front
 take_less bytes [] more e = refl

@@ -6,8 +6,6 @@ pub mod ImageTests
 pub mod Escapes
 pub mod Bytes
 pub mod ValueTexts
+pub mod Words
 pub mod Faults
-pub mod ReplyTexts
-pub mod CallTexts
-pub mod Lines
 pub mod Keeping

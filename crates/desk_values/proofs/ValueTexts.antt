@@ -14,7 +14,7 @@ use Rattle.desk_values.specs.declared.value.Value.TheVariants.{Null, Int, Text, 
 use Rattle.desk_values.specs.Fields.{Lacks, cut_at}
 use Rattle.desk_values.specs.Good.{IsValue, IsValues, IsGoodRow}
 use Rattle.desk_values.specs.Text.{value_text, values_text}
-use Rattle.desk_values.specs.Reading.{number_of, number_below, integer_of, escaped_of, draw_of, value_of, items_of, inside_of, values_of, filled_of}
+use Rattle.desk_values.specs.Reading.{number_of, number_below, integer_of, escaped_of, draw_of, value_of, items_of, inside_of, values_of}
 use Rattle.desk_values.proofs.Options.{bind_some, map_some, unless_some, when_some, chosen, at_end_some}
 use Rattle.desk_values.proofs.Readers.{IsReader, first_of}
 use Rattle.desk_values.proofs.Cuts.{IsCut, cut_at-joined, cut_at_parts, joined_reader}
@@ -197,23 +197,3 @@ values_reader = record { takes = values_taken; again = values_again }
 pub values_listed : (values : List Value) → IsValues values → Consists is_listed (values_text values)
 values_listed values fits =
     (refl, Consists-append is_listed (items_text values) (93 ∷ []) (Consists-weaker is_item is_listed (λ byte e. or_left (is_item byte) _ e) (items_text values) (items values fits)) (refl, tt))
-
--- ---- at least one value in brackets
-
-filled_taken : (bytes : List ℕ) (values : List Value) → filled_of bytes ≡ Some values → IsGoodRow values × (bytes ≡ values_text values)
-unfolding filled_of
-filled_taken bytes values e =
-    let found = bind_some (values_of bytes) _ values e in
-    let some = unless_some (eqb (length found.0) 0) found.0 values found.2 in
-    let taken = values_taken bytes found.0 found.1 in
-    subst (λ (vs : List Value). IsGoodRow vs × (bytes ≡ values_text vs)) some.1 ((positive _ (eqb-false _ 0 some.0), taken.0), taken.1)
-  where
-    positive : (n : ℕ) → (n ≡ 0 → ⊥) → 0 < n
-    positive n h = omega arith
-
-pub filled_reader : IsReader filled_of IsGoodRow values_text
-unfolding filled_of
-filled_reader = record {
-  takes = filled_taken;
-  again = λ values fits. rw (values_again values fits.1, ne_eqb (length values) 0 (omega (arith, fits.0))) refl;
-}

@@ -1,8 +1,10 @@
 -- Which values and replies can be written as text.
-use Rattle.std.specs.Prelude.{ℕ, ◌<◌, ◌≤◌, ◌^◌, List, [], ◌∷◌, length, IfSome, FitsSigned}
+use Rattle.std.specs.Prelude.{ℕ, ◌<◌, ◌≤◌, ◌^◌, Bool, true, false, ◌&&◌, nat_lt, List, [], ◌∷◌, length, IfSome, FitsSigned}
 use Rattle.std.specs.Int.{w64}
 use Rattle.std.specs.Str.{IsUtf8}
 use Rattle.std.specs.List.{AllByRecursion}
+use Rattle.desk_values.specs.declared.text.TheConstants.{TEXT_LIMIT}
+use Rattle.desk_values.specs.declared.value.TheConstants.{BIND_LIMIT, TABLE_LIMIT}
 use Rattle.desk_values.specs.declared.value.Value.{Value}
 use Rattle.desk_values.specs.declared.value.Value.TheVariants.{Null, Int, Text, Row, Draw}
 use Rattle.desk_values.specs.declared.value.Image.{Image}
@@ -14,7 +16,7 @@ use Rattle.desk_values.specs.declared.call.Reply.{Reply}
 
 -- a text of the desk: at most 1,000 bytes of UTF-8
 pub record IsTxt (bytes : List ℕ) : Type 0 where
-  pub limit : length bytes ≤ 1000
+  pub limit : length bytes ≤ TEXT_LIMIT
   pub utf8 : IsUtf8 bytes
 
 -- a value whose parts are within the limits of their types
@@ -39,7 +41,7 @@ IsGoodDraw other = ⊥
 
 pub record IsGoodImage (image : Image) : Type 0 where
   pub row : image.row < 2 ^ 64
-  pub table : image.table ≤ 31
+  pub table : image.table < TABLE_LIMIT
   pub left : IfSome image.left IsGoodRow
 
 -- the rows of images ascend strictly
@@ -67,5 +69,26 @@ pub record IsGoodReply (reply : Reply) : Type 0 where
 -- a call that has a text
 abbrev pub IsCall : Call → Type 0
 IsCall (Connect service) = IsTxt service
-IsCall (Sql text binds) = IsTxt text × (length binds ≤ 16) × IsValues binds
+IsCall (Sql text binds) = IsTxt text × (length binds ≤ BIND_LIMIT) × IsValues binds
 IsCall Disconnect = Unit {0}
+
+-- ---- the same as tests
+
+-- the rows ascend, from above this one on
+abbrev pub ascend_above : ℕ → List Image → Bool
+ascend_above row [] = true
+ascend_above row (first ∷ others) = nat_lt row first.row && ascend_above first.row others
+
+-- each row is below the next
+abbrev pub rows_ascend : List Image → Bool
+rows_ascend [] = true
+rows_ascend (first ∷ others) = ascend_above first.row others
+
+abbrev pub is_draw : Value → Bool
+is_draw (Draw sequence n) = true
+is_draw other = false
+
+-- only draws
+abbrev pub all_draws : List Value → Bool
+all_draws [] = true
+all_draws (first ∷ others) = is_draw first && all_draws others

@@ -1,7 +1,7 @@
 -- The words of SQL that are no names.
-use Rattle.std.specs.Prelude.{ℕ, Bool, ◌==◌, List, [], ◌∷◌, codes}
-use Rattle.std.specs.List.{list_any}
-use Rattle.std.specs.Str.{bytes_eq}
+use Rattle.std.specs.Prelude.{ℕ, Bool, ◌==◌, List, [], ◌∷◌, codes, refl}
+use Rattle.std.specs.Option.{is_some}
+use Rattle.desk_values.specs.Word.{HasOwnWords, member_with_word}
 use Rattle.desk_values.specs.declared.keyword.Keyword.{Keyword}
 use Rattle.desk_values.specs.declared.keyword.Keyword.TheVariants as word
 
@@ -84,6 +84,12 @@ same_keyword a b = keyword_number a == keyword_number b
 abbrev pub all_keywords : List Keyword
 all_keywords = word.And ∷ word.Asc ∷ word.By ∷ word.Commit ∷ word.Count ∷ word.Delete ∷ word.Desc ∷ word.Dual ∷ word.For ∷ word.From ∷ word.Insert ∷ word.Into ∷ word.Is ∷ word.Max ∷ word.Min ∷ word.Nextval ∷ word.Not ∷ word.Null ∷ word.Only ∷ word.Or ∷ word.Order ∷ word.Read ∷ word.Rollback ∷ word.Rowid ∷ word.Savepoint ∷ word.Select ∷ word.Set ∷ word.Sum ∷ word.To ∷ word.Transaction ∷ word.Update ∷ word.Values ∷ word.Where ∷ []
 
+-- each is found by its word
+pub keywords_have_own_words : HasOwnWords keyword_word all_keywords
+unfolding member_with_word
+keywords_have_own_words word.And = refl
+keywords_have_own_words _ = refl
+
 -- the bytes are one of the words in lower case
 unfoldable pub is_keyword : List ℕ → Bool
-is_keyword bytes = list_any (λ keyword. bytes_eq (keyword_word keyword) bytes) all_keywords
+is_keyword bytes = is_some (member_with_word keyword_word all_keywords bytes)

@@ -1,4 +1,6 @@
 pub mod Room
+pub mod Word
+pub mod Answers
 pub mod Fault
 pub mod Keyword
 pub mod Good

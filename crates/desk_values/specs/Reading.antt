@@ -4,32 +4,24 @@ use Rattle.std.specs.Option.{option_map, option_and_then}
 use Rattle.std.specs.Fmt.{decimal}
 use Rattle.std.specs.Str.{is_utf8, bytes_eq}
 use Rattle.std.specs.Str.Parse.{digits_value}
+use Rattle.percent_encoding.specs.Percent.{percent_decode}
 use Rattle.desk_values.specs.declared.read_err.ReadErr.{ReadErr}
 use Rattle.desk_values.specs.declared.read_err.ReadErr.TheVariants.{Bad, Memory}
+use Rattle.desk_values.specs.declared.text.TheConstants.{TEXT_LIMIT}
 use Rattle.desk_values.specs.declared.value.Value.{Value}
 use Rattle.desk_values.specs.declared.value.Value.TheVariants.{Null, Int, Text, Row, Draw}
-use Rattle.desk_values.specs.declared.value.Image.{Image}
-use Rattle.desk_values.specs.declared.call.Outcome.{Outcome}
-use Rattle.desk_values.specs.declared.call.Outcome.TheVariants.{Rows, Count, Committed, RolledBack, Marked, Connected, Disconnected, Refused}
-use Rattle.desk_values.specs.declared.call.Call.{Call}
-use Rattle.desk_values.specs.declared.call.Call.TheVariants.{Connect, Sql, Disconnect}
-use Rattle.desk_values.specs.declared.call.Reply.{Reply}
-use Rattle.desk_values.specs.declared.fault.Fault.{Fault}
-use Rattle.desk_values.specs.Fault.{fault_numbered}
+use Rattle.desk_values.specs.Answers.{Answers}
 use Rattle.desk_values.specs.Fields.{cut_at, pieces}
-use Rattle.desk_values.specs.Text.{is_plain}
+use Rattle.desk_values.specs.Text.{escaped}
+
+-- what an error of a reader says of what there is to read: Bad that there is nothing, want of memory nothing at all
+abbrev pub unread : {T : Type 0} → ReadErr → Option (Option T)
+unread Bad = Some None
+unread Memory = None
 
 -- what a reader answers: what there is to read, or Bad where there is nothing; want of memory may come at any time
 abbrev pub Reads : {T : Type 0} → Result T ReadErr → Option T → Type 0
-Reads (Ok value) read = read ≡ Some value
-Reads (Err Bad) read = read ≡ None
-Reads (Err Memory) read = Unit {0}
-
--- the same of an answer that is seen through a view, as one that holds a reference
-abbrev pub ReadsAs : {X T : Type 0} → (X → T) → Result X ReadErr → Option T → Type 0
-ReadsAs view (Ok value) read = read ≡ Some (view value)
-ReadsAs view (Err Bad) read = read ≡ None
-ReadsAs view (Err Memory) read = Unit {0}
+Reads result read = Answers Some unread result read
 
 infixl 10 ◌>>=◌
 abbrev pub ◌>>=◌ : {A B : Type 0} → Option A → (A → Option B) → Option B
@@ -69,38 +61,13 @@ integer_of bytes = if slice_index bytes 0 == 45 then number_of (drop 1 bytes) >>
 
 -- ---- texts
 
--- what an upper-case hexadecimal digit stands for
-abbrev pub hex_value : ℕ → Option ℕ
-hex_value byte = if nat_le 48 byte && nat_le byte 57 then Some (byte - 48) else (if nat_le 65 byte && nat_le byte 70 then Some (byte - 55) else None)
+-- these bytes, where they are a text
+unfoldable pub txt_in : List ℕ → Option (List ℕ)
+txt_in bytes = if nat_le (length bytes) TEXT_LIMIT && is_utf8 bytes then Some bytes else None
 
--- the byte that two digits stand for, unless it stands for itself
-abbrev pub hex_byte : ℕ → ℕ → Option ℕ
-hex_byte high low = do
-  h ← hex_value high
-  l ← hex_value low
-  if is_plain (16 * h + l) then None else Some (16 * h + l)
-
--- the byte at the front of an escaped text, and what is left
-unfoldable pub first_byte : List ℕ → Option (ℕ × List ℕ)
-first_byte bytes = if is_plain (slice_index bytes 0) then Some (slice_index bytes 0, drop 1 bytes)
-    else (if slice_index bytes 0 == 37 then option_map (λ byte. (byte, drop 3 bytes)) (hex_byte (slice_index bytes 1) (slice_index bytes 2)) else None)
-
--- the bytes of an escaped text
-unfoldable mutual
-  pub unescaped : List ℕ → Option (List ℕ)
-  unescaped [] = Some []
-  unescaped (first ∷ rest) = if is_plain first then option_map (λ others. first ∷ others) (unescaped rest) else (if first == 37 then unescaped_code rest else None)
-
-  pub unescaped_code : List ℕ → Option (List ℕ)
-  unescaped_code [] = None
-  unescaped_code (high ∷ []) = None
-  unescaped_code (high ∷ low ∷ rest) = hex_byte high low >>= λ byte. option_map (λ others. byte ∷ others) (unescaped rest)
-
--- the text whose escaped text this is
+-- the text whose escaped text this is: what its escapes stand for, where that is escaped so again
 unfoldable pub escaped_of : List ℕ → Option (List ℕ)
-escaped_of bytes = do
-  text ← unescaped bytes
-  if nat_le (length text) 1000 && is_utf8 text then Some text else None
+escaped_of bytes = let text = percent_decode bytes in if bytes_eq (escaped text) bytes then txt_in text else None
 
 -- the text that follows a `t`
 unfoldable pub txt_of : List ℕ → Option (List ℕ)
@@ -148,132 +115,3 @@ unfoldable pub values_of : List ℕ → Option (List Value)
 values_of bytes = do
   inside ← inside_of bytes
   if length inside == 0 then Some [] else items_of inside
-
--- the same, where there is at least one
-unfoldable pub filled_of : List ℕ → Option (List Value)
-filled_of bytes = do
-  values ← values_of bytes
-  if length values == 0 then None else Some values
-
--- ---- replies
-
--- rows without their `]`, and behind the last one nothing
-unfoldable pub open_rows_of : List (List ℕ) → Option (List (List Value))
-open_rows_of [] = None
-open_rows_of (last ∷ []) = at_end last []
-open_rows_of (piece ∷ next ∷ others) = do
-  row ← filled_of (piece ++ 93 ∷ [])
-  rows ← open_rows_of (next ∷ others)
-  Some (row ∷ rows)
-
--- the rows whose text this is
-unfoldable pub rows_of : List ℕ → Option (List (List Value))
-rows_of bytes = if bytes_eq bytes (codes "-") then Some [] else (if length bytes == 0 then None else open_rows_of (pieces 93 bytes))
-
--- the values of an image, or None where the row is gone
-unfoldable pub left_of : List ℕ → Option (Option (List Value))
-left_of bytes = if bytes_eq bytes (codes "gone") then Some None else option_map Some (filled_of bytes)
-
--- the image whose text this is
-unfoldable pub image_of : List ℕ → Option Image
-image_of bytes = do
-  parts ← cut_at 58 bytes
-  row ← number_of parts.0
-  others ← cut_at 58 parts.1
-  table ← number_below 32 others.0
-  left ← left_of others.1
-  Some (record { row = row; table = table; left = left })
-
--- the rows ascend, from above this one on
-abbrev pub ascend_above : ℕ → List Image → Bool
-ascend_above row [] = true
-ascend_above row (first ∷ others) = nat_lt row first.row && ascend_above first.row others
-
--- each row is below the next
-abbrev pub rows_ascend : List Image → Bool
-rows_ascend [] = true
-rows_ascend (first ∷ others) = ascend_above first.row others
-
--- the images whose text this is
-unfoldable pub images_of : List ℕ → Option (List Image)
-images_of bytes = if bytes_eq bytes (codes "-") then Some [] else (do
-  images ← each_of image_of (pieces 59 bytes)
-  if rows_ascend images then Some images else None)
-
--- the fault whose number this is
-abbrev pub fault_of : List ℕ → Option Fault
-fault_of field = number_below (2 ^ 32) field >>= fault_numbered
-
--- the outcome of a word with a field behind it
-unfoldable pub field_outcome_of : List ℕ → List ℕ → Option Outcome
-field_outcome_of word field = if bytes_eq word (codes "rows") then option_map Rows (rows_of field)
-    else (if bytes_eq word (codes "count") then option_map Count (number_of field)
-    else (if bytes_eq word (codes "committed") then option_map Committed (images_of field)
-    else (if bytes_eq word (codes "refused") then option_map Refused (fault_of field)
-    else None)))
-
--- the outcome of a word alone
-unfoldable pub word_outcome_of : List ℕ → Option Outcome
-word_outcome_of word = if bytes_eq word (codes "rolledback") then Some RolledBack
-    else (if bytes_eq word (codes "marked") then Some Marked
-    else (if bytes_eq word (codes "connected") then Some Connected
-    else (if bytes_eq word (codes "disconnected") then Some Disconnected
-    else None)))
-
--- the outcome of a word that may stand alone, or else of the word and the field behind it; and what is left
-abbrev pub outcome_behind : List ℕ → List ℕ → Option Outcome → Option (Outcome × List ℕ)
-outcome_behind word rest (Some outcome) = Some (outcome, rest)
-outcome_behind word rest None = do
-  parts ← cut_at 32 rest
-  outcome ← field_outcome_of word parts.0
-  Some (outcome, parts.1)
-
--- the outcome at the front, and what is left behind a space
-unfoldable pub outcome_of : List ℕ → Option (Outcome × List ℕ)
-outcome_of bytes = do
-  parts ← cut_at 32 bytes
-  outcome_behind parts.0 parts.1 (word_outcome_of parts.0)
-
-abbrev pub is_draw : Value → Bool
-is_draw (Draw sequence n) = true
-is_draw other = false
-
--- only draws
-abbrev pub all_draws : List Value → Bool
-all_draws [] = true
-all_draws (first ∷ others) = is_draw first && all_draws others
-
--- the draws whose text this is
-unfoldable pub draws_of : List ℕ → Option (List Value)
-draws_of bytes = do
-  values ← values_of bytes
-  if all_draws values then Some values else None
-
--- the made row, or None
-unfoldable pub made_of : List ℕ → Option (Option ℕ)
-made_of bytes = if bytes_eq bytes (codes "-") then Some None else (if slice_index bytes 0 == 114 then option_map Some (number_of (drop 1 bytes)) else None)
-
--- the reply whose text this is
-unfoldable pub reply_of : List ℕ → Option Reply
-reply_of bytes = do
-  front ← outcome_of bytes
-  parts ← cut_at 32 front.1
-  draws ← draws_of parts.0
-  made ← made_of parts.1
-  Some (record { outcome = front.0; draws = draws; made = made })
-
--- ---- calls
-
--- the call of a text and the values of its binds
-unfoldable pub sql_of : List ℕ → Option Call
-sql_of bytes = do
-  parts ← cut_at 32 bytes
-  text ← txt_of parts.0
-  binds ← values_of parts.1
-  if nat_le (length binds) 16 then Some (Sql text binds) else None
-
--- the call whose text this is
-unfoldable pub call_of : List ℕ → Option Call
-call_of bytes = if bytes_eq bytes (codes "disconnect") then Some Disconnect else (do
-  parts ← cut_at 32 bytes
-  if bytes_eq parts.0 (codes "connect") then option_map Connect (txt_of parts.1) else (if bytes_eq parts.0 (codes "sql") then sql_of parts.1 else None))

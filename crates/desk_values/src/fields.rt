@@ -150,6 +150,3 @@ pub fn append_text(text: &Txt, to: &mut Bytes) -> Result<(), Memory>
     let written = push_text(text, to);
     to.cut_back_on_err(len, written)
 }
-
-#[cfg(test)]
-mod tests;

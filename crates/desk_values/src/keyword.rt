@@ -3,6 +3,8 @@
 ghost use Rattle.std.specs.Prelude.{◌≡◌};
 ghost use Rattle.desk_values.specs.Keyword.{keyword_word, same_keyword, is_keyword};
 
+use crate::word::{Word, find_word};
+
 /// The greatest number of bytes of a name.
 pub const NAME_LIMIT: usize = 30;
 
@@ -90,44 +92,63 @@ impl Keyword {
         self as u8 == other as u8
     }
 
-    /// The word in lower case.
+    /// The bytes of the word in lower case.
     pub fn word(self) -> &'static [u8]
         ensures { result.now ≡ keyword_word self }
     {
+        Word::word(self).as_bytes()
+    }
+}
+
+impl Word for Keyword {
+    ghost use Rattle.desk_values.specs.Keyword.{all_keywords, keywords_have_own_words};
+
+    ghost word_of = { keyword_word };
+
+    ghost members_of = { all_keywords };
+
+    ghost own_words = { keywords_have_own_words };
+
+    fn members() -> &'static [Keyword] {
+        &KEYWORDS
+    }
+
+    // The word in lower case.
+    fn word(self) -> &'static str {
         match self {
-            Keyword::And => b"and",
-            Keyword::Asc => b"asc",
-            Keyword::By => b"by",
-            Keyword::Commit => b"commit",
-            Keyword::Count => b"count",
-            Keyword::Delete => b"delete",
-            Keyword::Desc => b"desc",
-            Keyword::Dual => b"dual",
-            Keyword::For => b"for",
-            Keyword::From => b"from",
-            Keyword::Insert => b"insert",
-            Keyword::Into => b"into",
-            Keyword::Is => b"is",
-            Keyword::Max => b"max",
-            Keyword::Min => b"min",
-            Keyword::Nextval => b"nextval",
-            Keyword::Not => b"not",
-            Keyword::Null => b"null",
-            Keyword::Only => b"only",
-            Keyword::Or => b"or",
-            Keyword::Order => b"order",
-            Keyword::Read => b"read",
-            Keyword::Rollback => b"rollback",
-            Keyword::Rowid => b"rowid",
-            Keyword::Savepoint => b"savepoint",
-            Keyword::Select => b"select",
-            Keyword::Set => b"set",
-            Keyword::Sum => b"sum",
-            Keyword::To => b"to",
-            Keyword::Transaction => b"transaction",
-            Keyword::Update => b"update",
-            Keyword::Values => b"values",
-            Keyword::Where => b"where",
+            Keyword::And => "and",
+            Keyword::Asc => "asc",
+            Keyword::By => "by",
+            Keyword::Commit => "commit",
+            Keyword::Count => "count",
+            Keyword::Delete => "delete",
+            Keyword::Desc => "desc",
+            Keyword::Dual => "dual",
+            Keyword::For => "for",
+            Keyword::From => "from",
+            Keyword::Insert => "insert",
+            Keyword::Into => "into",
+            Keyword::Is => "is",
+            Keyword::Max => "max",
+            Keyword::Min => "min",
+            Keyword::Nextval => "nextval",
+            Keyword::Not => "not",
+            Keyword::Null => "null",
+            Keyword::Only => "only",
+            Keyword::Or => "or",
+            Keyword::Order => "order",
+            Keyword::Read => "read",
+            Keyword::Rollback => "rollback",
+            Keyword::Rowid => "rowid",
+            Keyword::Savepoint => "savepoint",
+            Keyword::Select => "select",
+            Keyword::Set => "set",
+            Keyword::Sum => "sum",
+            Keyword::To => "to",
+            Keyword::Transaction => "transaction",
+            Keyword::Update => "update",
+            Keyword::Values => "values",
+            Keyword::Where => "where",
         }
     }
 }
@@ -137,5 +158,5 @@ impl Keyword {
 pub fn is_keyword(bytes: &[u8]) -> bool
     ensures { result ≡ is_keyword bytes.now }
 {
-    KEYWORDS.iter().any(|keyword| keyword.word() == bytes)
+    find_word::<Keyword>(bytes).is_some()
 }

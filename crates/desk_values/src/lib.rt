@@ -18,11 +18,10 @@ mod read_err;
 mod reading;
 mod reserved;
 mod same;
-#[cfg(test)]
-mod tests;
 mod text;
 mod value;
 mod well_formed;
+mod word;
 mod writing;
 
 pub use call::{Call, Outcome, Reply};
@@ -40,4 +39,5 @@ pub use value::{
     BIND_LIMIT, BindErr, Binds, Bytes, Image, Images, RowList, Stamps, TABLE_LIMIT, Value, Values,
 };
 pub use well_formed::{all_draws, rows_ascend};
+pub use word::{Word, find_word};
 pub use writing::{write_value, write_values};

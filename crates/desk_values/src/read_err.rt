@@ -3,13 +3,16 @@ ghost use Rattle.desk_values.specs.declared.read_err.ReadErr.TheVariants.{Memory
 
 use crate::memory::Memory;
 use std::alloc::{AllocError, AllocFailed};
+use thiserror::Error;
 
 /// Why nothing was read.
-#[derive(Clone, Copy, Debug, PartialEq, Eq)]
+#[derive(Clone, Copy, Debug, PartialEq, Eq, Error)]
 pub enum ReadErr {
     /// The bytes are not the text of what is read.
+    #[error("not the text of what is read")]
     Bad,
     /// Want of memory.
+    #[error("out of memory")]
     Memory,
 }
 

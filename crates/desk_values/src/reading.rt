@@ -90,6 +90,3 @@ fn items(alloc: Global, bytes: &[u8]) -> Result<Values, ReadErr>
     values.push(value(alloc, rest)?)?;
     Ok(values)
 }
-
-#[cfg(test)]
-mod tests;

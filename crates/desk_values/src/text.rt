@@ -5,6 +5,7 @@ ghost use Rattle.desk_values.specs.declared.text.TxtErr.TheVariants.{Memory as O
 use crate::memory::{Copied, Memory};
 use std::alloc::{AllocError, Global};
 use std::marker::Model;
+use thiserror::Error;
 
 /// The greatest number of bytes of a [`Txt`].
 pub const TEXT_LIMIT: usize = 1000;
@@ -18,22 +19,26 @@ pub struct Txt {
 impl Model for Txt {
     ghost use Rattle.std.specs.Prelude.{List, ℕ, ◌≤◌};
     ghost use Rattle.std.specs.String.{string_bytes, string_len};
+    ghost use Rattle.desk_values.specs.declared.text.TheConstants.{TEXT_LIMIT};
 
     ghost Value = { List ℕ };
 
     ghost view = { λ a. string_bytes a.text };
 
-    ghost invariant = { λ a. string_len a.text ≤ 1000 };
+    ghost invariant = { λ a. string_len a.text ≤ TEXT_LIMIT };
 }
 
 /// Why bytes make no [`Txt`].
-#[derive(Clone, Copy, Debug, PartialEq, Eq)]
+#[derive(Clone, Copy, Debug, PartialEq, Eq, Error)]
 pub enum TxtErr {
     /// There are over 1,000.
+    #[error("a text of over {TEXT_LIMIT} bytes")]
     TooLong,
     /// They are not UTF-8.
+    #[error("a text that is not UTF-8")]
     NotUtf8,
     /// Want of memory.
+    #[error("out of memory")]
     Memory,
 }
 
@@ -50,8 +55,8 @@ impl Txt {
     /// UTF-8 (RFC 3629: no overlong form, no surrogate, nothing above U+10FFFF); else `Memory` where memory is wanting.
     pub fn from_bytes(alloc: Global, bytes: &[u8]) -> Result<Txt, TxtErr>
         ensures ok { IfOk result (λ text. text ≡ bytes.now) }
-        ensures too_long { IsErrOf result TxtErr.TooLong ↔ (1000 < length bytes.now) }
-        ensures not_utf8 { IsErrOf result TxtErr.NotUtf8 ↔ ((length bytes.now ≤ 1000) × (¬ (IsUtf8 bytes.now))) }
+        ensures too_long { IsErrOf result TxtErr.TooLong ↔ (TEXT_LIMIT < length bytes.now) }
+        ensures not_utf8 { IsErrOf result TxtErr.NotUtf8 ↔ ((length bytes.now ≤ TEXT_LIMIT) × (¬ (IsUtf8 bytes.now))) }
     {
         if bytes.len() > TEXT_LIMIT {
             return Err(TxtErr::TooLong);
@@ -67,7 +72,7 @@ impl Txt {
     /// The text itself.
     pub fn as_str(&self) -> &str
         ensures value { result.now ≡ self.now }
-        ensures limit { length self.now ≤ 1000 }
+        ensures limit { length self.now ≤ TEXT_LIMIT }
         ensures utf8 { IsUtf8 self.now }
     {
         self.text.as_str()

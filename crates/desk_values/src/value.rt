@@ -7,6 +7,7 @@ use crate::memory::{Copied, Memory};
 use crate::text::Txt;
 use std::alloc::Global;
 use std::marker::Model;
+use thiserror::Error;
 
 /// A value of SQL (ISO/IEC 9075-2): what a column, a bind or an item of a row holds. Rows and draws are ids: a client
 /// knows them only from what the server gave it, so that a replay has to put its own in their place.
@@ -74,20 +75,23 @@ pub struct Binds {
 impl Model for Binds {
     ghost use Rattle.std.specs.Prelude.{List, ◌≤◌, length};
     ghost use Rattle.desk_values.specs.declared.value.Value.{Value as Bind};
+    ghost use Rattle.desk_values.specs.declared.value.TheConstants.{BIND_LIMIT};
 
     ghost Value = { List Bind };
 
     ghost view = { λ a. a.values };
 
-    ghost invariant = { λ a. length a.values ≤ 16 };
+    ghost invariant = { λ a. length a.values ≤ BIND_LIMIT };
 }
 
 /// Why a bind was not added.
-#[derive(Clone, Copy, Debug, PartialEq, Eq)]
+#[derive(Clone, Copy, Debug, PartialEq, Eq, Error)]
 pub enum BindErr {
     /// There are 16 already.
+    #[error("over {BIND_LIMIT} binds")]
     Full,
     /// Want of memory.
+    #[error("out of memory")]
     Memory,
 }
 
@@ -111,7 +115,7 @@ impl Binds {
 
     /// The binds of a list of at most 16 values.
     pub fn from_values(values: Values) -> Self
-        requires { length values ≤ 16 }
+        requires { length values ≤ BIND_LIMIT }
         ensures { result ≡ values }
     {
         Binds { values }
@@ -120,7 +124,7 @@ impl Binds {
     /// How many binds there are.
     pub fn len(&self) -> usize
         ensures count { result ≡ length self.now }
-        ensures limit { result ≤ 16 }
+        ensures limit { result ≤ BIND_LIMIT }
     {
         self.values.len()
     }
@@ -143,7 +147,7 @@ impl Binds {
     /// The binds in order.
     pub fn as_slice(&self) -> &[Value]
         ensures value { result.now ≡ self.now }
-        ensures limit { length self.now ≤ 16 }
+        ensures limit { length self.now ≤ BIND_LIMIT }
     {
         self.values.as_slice()
     }
@@ -152,7 +156,7 @@ impl Binds {
     /// changes nothing.
     pub fn push(&mut self, value: Value) -> Result<(), BindErr>
         ensures ok { OnOk result (self.new ≡ self.old ++ value ∷ []) }
-        ensures full { IsErrOf result BindErr.Full ↔ (length self.old ≡ 16) }
+        ensures full { IsErrOf result BindErr.Full ↔ (length self.old ≡ BIND_LIMIT) }
         ensures err { OnErr result (self.new ≡ self.old) }
     {
         if self.values.len() == BIND_LIMIT {

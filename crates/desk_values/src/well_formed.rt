@@ -3,7 +3,7 @@
 ghost use Rattle.std.specs.Prelude.{◌≡◌, ◌↔◌, IsTrue};
 ghost use Rattle.std.specs.List.{AllByRecursion};
 ghost use Rattle.desk_values.specs.Good.{IsValue, IsValues, IsGoodRow, IsGoodImage, IsGoodDraw, IsGoodOutcome, Ascend};
-ghost use Rattle.desk_values.specs.Reading.{rows_ascend, is_draw, all_draws};
+ghost use Rattle.desk_values.specs.Good.{rows_ascend, is_draw, all_draws};
 
 use crate::call::Outcome;
 use crate::value::{Image, TABLE_LIMIT, Value, Values};
@@ -151,6 +151,3 @@ pub fn is_good_outcome(outcome: &Outcome) -> bool
         | Outcome::Refused(_) => true,
     }
 }
-
-#[cfg(test)]
-mod tests;

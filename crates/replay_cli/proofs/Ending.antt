@@ -7,7 +7,7 @@ use Rattle.replay_cli.specs.declared.failure.Failure.TheVariants.{BadCommand, No
 use Rattle.replay_cli.specs.Folder.{IsOutside}
 use Rattle.replay_cli.specs.Lines.{failure_status, failure_line, replayed_line}
 use Rattle.replay_cli.specs.Command.{RunSays, WrittenWhole, WrittenInPart, WrittenSoFar}
-use Rattle.replay_cli.specs.Status.{IsReason, IsGoodCapture, IsBadCapture, IsFileNotYet, IsFileMissing, Prints, EndsWith, Reports, status_of, line_of}
+use Rattle.replay_cli.specs.Status.{IsReason, IsGoodCapture, IsBadCapture, IsFileNotYet, IsFileMissing, Appends, EndsWith, Reports, status_of, line_of}
 use Rattle.replay_cli.proofs.Tested.{told}
 use Rattle.replay_cli.proofs.Loading.{some_and}
 use Rattle.replay_cli.proofs.Reasons.{one_reason, no_reason}
@@ -45,7 +45,7 @@ reason_ends words before after done failure result b a fb fa says (inr (inr faul
 reason_ends words before after (Ok count) failure result b a fb fa says (inl own) reason = absurd (no_reason words before failure (good_of words count before after says) reason)
 reason_ends words before after (Err other) failure result b a fb fa says (inl own) reason =
     elim (reason_of words before after other says) [
-      | inl is ↦ inl (subst (λ (f : Failure). (result ≡ failure_status f) × Prints (failure_line f) b a) (one_reason words before other failure is reason) own)
+      | inl is ↦ inl (subst (λ (f : Failure). (result ≡ failure_status f) × Appends (failure_line f) b a) (one_reason words before other failure is reason) own)
       | inr outside ↦ inr (outside_ends other result outside own.0)
     ]
 
@@ -96,7 +96,7 @@ never_zero DeviceFault e = omega (arith, e)
 never_zero OutOfMemory e = omega (arith, e)
 
 pub zero_means : (words : List (List ℕ)) (before after : FileMap) (done : Result ℕ Failure) (result : ℕ) (b a : Option (List ℕ)) (fb fa : ℕ)
-    → RunSays words before after done → Reports done result b a fb fa → result ≡ 0 → (count : ℕ) × WrittenWhole words count before after × Prints (replayed_line count) b a
+    → RunSays words before after done → Reports done result b a fb fa → result ≡ 0 → (count : ℕ) × WrittenWhole words count before after × Appends (replayed_line count) b a
 zero_means words before after (Ok count) result b a fb fa says (inl own) zero = (count, says, own.1)
 zero_means words before after (Err other) result b a fb fa says (inl own) zero = absurd (never_zero other (sym own.0 ∙ zero))
 zero_means words before after done result b a fb fa says (inr (inl short)) zero = absurd (omega (arith, short.0, zero))
@@ -109,7 +109,7 @@ two_means done result b a fb fa (inr (inl short)) is = absurd (omega (arith, sho
 two_means done result b a fb fa (inr (inr fault)) is = absurd (omega (arith, fault.0, is))
 
 pub command_ends : (done : Result ℕ Failure) (result : ℕ) (b a : Option (List ℕ)) (fb fa : ℕ) → Reports done result b a fb fa → IsErrOf done BadCommand → EndsWith 2 (failure_line BadCommand) result b a
-command_ends done result b a fb fa (inl own) is = inl (subst (λ (d : Result ℕ Failure). (result ≡ status_of d) × Prints (line_of d) b a) is own)
+command_ends done result b a fb fa (inl own) is = inl (subst (λ (d : Result ℕ Failure). (result ≡ status_of d) × Appends (line_of d) b a) is own)
 command_ends done result b a fb fa (inr (inl short)) is = inr (inr short.0)
 command_ends done result b a fb fa (inr (inr fault)) is = inr (inl fault.0)
 
@@ -149,15 +149,15 @@ five_means P (Err other) result b a fb fa (inl own) risen is = inl (risen (ap Er
 five_means P done result b a fb fa (inr (inl short)) risen is = absurd (omega (arith, short.0, is))
 five_means P done result b a fb fa (inr (inr fault)) risen is = inr fault.1
 
-pub five_prints : (done : Result ℕ Failure) (result : ℕ) (b a : Option (List ℕ)) (fb fa : ℕ) → Reports done result b a fb fa → result ≡ 5 → HasRisen fb fa ⊎ Prints (failure_line DeviceFault) b a
+pub five_prints : (done : Result ℕ Failure) (result : ℕ) (b a : Option (List ℕ)) (fb fa : ℕ) → Reports done result b a fb fa → result ≡ 5 → HasRisen fb fa ⊎ Appends (failure_line DeviceFault) b a
 five_prints (Ok count) result b a fb fa (inl own) is = absurd (omega (arith, own.0, is))
-five_prints (Err other) result b a fb fa (inl own) is = inr (subst (λ (f : Failure). Prints (failure_line f) b a) (five other (sym own.0 ∙ is)) own.1)
+five_prints (Err other) result b a fb fa (inl own) is = inr (subst (λ (f : Failure). Appends (failure_line f) b a) (five other (sym own.0 ∙ is)) own.1)
 five_prints done result b a fb fa (inr (inl short)) is = absurd (omega (arith, short.0, is))
 five_prints done result b a fb fa (inr (inr fault)) is = inl fault.1
 
-pub six_prints : (done : Result ℕ Failure) (result : ℕ) (b a : Option (List ℕ)) (fb fa : ℕ) → Reports done result b a fb fa → result ≡ 6 → Prints (failure_line OutOfMemory) b a
+pub six_prints : (done : Result ℕ Failure) (result : ℕ) (b a : Option (List ℕ)) (fb fa : ℕ) → Reports done result b a fb fa → result ≡ 6 → Appends (failure_line OutOfMemory) b a
 six_prints (Ok count) result b a fb fa (inl own) is = absurd (omega (arith, own.0, is))
-six_prints (Err other) result b a fb fa (inl own) is = subst (λ (f : Failure). Prints (failure_line f) b a) (six other (sym own.0 ∙ is)) own.1
+six_prints (Err other) result b a fb fa (inl own) is = subst (λ (f : Failure). Appends (failure_line f) b a) (six other (sym own.0 ∙ is)) own.1
 six_prints done result b a fb fa (inr (inl short)) is = short.1
 six_prints done result b a fb fa (inr (inr fault)) is = absurd (omega (arith, fault.0, is))
 

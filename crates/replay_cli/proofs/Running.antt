@@ -6,13 +6,15 @@ use Rattle.desk_values.specs.Room.{Room}
 use Rattle.desk_values.specs.declared.value.Image.{Image}
 use Rattle.desk_values.specs.declared.capture.Captured.{Captured}
 use Rattle.desk_values.specs.declared.capture.Event.{Event}
+use Rattle.desk_files.specs.declared.writes.Write.{Write}
 use Rattle.desk_files.specs.Outside.{FileMap, Told}
+use Rattle.desk_files.specs.Writes.{with_all}
 use Rattle.capture_format.specs.declared.start.StartFile.{StartFile}
 use Rattle.replay_cli.specs.declared.failure.Failure.{Failure}
 use Rattle.replay_cli.specs.declared.failure.Failure.TheVariants.{BadCommand, NotYet, BadCapture, Missing, DeviceFault, OutOfMemory}
 use Rattle.replay_cli.specs.OneSession.{IsLegalFrom, IsReplay}
 use Rattle.replay_cli.specs.Words.{IsRunOf, start_name, session_name}
-use Rattle.replay_cli.specs.Folder.{FileSays, ReadsStart, ReadsCalls, Holds, HoldsNone, IsOutside, Written, texts_of, with_all}
+use Rattle.replay_cli.specs.Folder.{FileSays, ReadsStart, ReadsCalls, Holds, HoldsNone, IsOutside, writes_of}
 use Rattle.replay_cli.specs.Command.{IsCapture, LeftWritten, RunSays, WrittenWhole, WrittenInPart, WrittenSoFar}
 use Rattle.replay_cli.proofs.Tested.{told}
 use Rattle.replay_cli.proofs.Loading.{some_and}
@@ -60,15 +62,15 @@ capture_told c0 c1 capture file calls start same session = told c0 _ _ (λ befor
   session = items_held _ calls (subst (λ (c : Option FileMap). Told c (λ files. Holds ReadsRoom (get files (session_name capture)) calls)) (same ∙ e) session);
 }) start
 
-pub all_says : (c0 c1 c2 c3 : Option FileMap) (words : List (List ℕ)) (capture out : List ℕ) (file : StartFile) (calls : Room Captured) (items : List Captured) (history : List Event) (tables : List Image) (count : ℕ) (written : Written)
+pub all_says : (c0 c1 c2 c3 : Option FileMap) (words : List (List ℕ)) (capture out : List ℕ) (file : StartFile) (calls : Room Captured) (items : List Captured) (history : List Event) (tables : List Image) (count : ℕ) (written : List Write)
     → IsRunOf words capture out → Told c0 (λ before. Holds ReadsStart (get before (start_name capture)) file) → c1 ≡ c0 → Told c1 (λ before. Holds ReadsRoom (get before (session_name capture)) calls) → c2 ≡ c1
-    → items ≡ calls.items → IsLegalFrom file.start items × IsReplay file.start items history tables → count ≡ length calls.items → written ≡ texts_of count history tables
-    → Told c2 (λ before. c3 ≡ Some (with_all out written before)) → Told c0 (λ before. IsSomeAnd c3 (λ after. WrittenWhole words count before after))
+    → items ≡ calls.items → IsLegalFrom file.start items × IsReplay file.start items history tables → count ≡ length calls.items → written ≡ writes_of out count history tables
+    → Told c2 (λ before. IsSomeAnd c3 (λ after. after ≡ with_all written before)) → Told c0 (λ before. IsSomeAnd c3 (λ after. WrittenWhole words count before after))
 all_says c0 c1 c2 c3 words capture out file calls items history tables count written words_are start same session last items_are replayed count_is written_is after =
     told c0 _ _ (λ before e capture_is.
-    let c3_is : c3 ≡ Some (with_all out written before) = subst (λ (c : Option FileMap). Told c (λ files. c3 ≡ Some (with_all out written files))) (last ∙ same ∙ e) after in
+    let c3_is : IsSomeAnd c3 (λ files. files ≡ with_all written before) = subst (λ (c : Option FileMap). Told c (λ files. IsSomeAnd c3 (λ after. after ≡ with_all written files))) (last ∙ same ∙ e) after in
     let is = subst (λ (cs : List Captured). IsLegalFrom file.start cs × IsReplay file.start cs history tables) items_are replayed in
-    subst (λ c. IsSomeAnd c (λ files. WrittenWhole words count before files)) (sym c3_is) (record {
+    some_and c3 _ _ (λ files all_written. record {
       capture = capture;
       out = out;
       file = file;
@@ -78,16 +80,16 @@ all_says c0 c1 c2 c3 words capture out file calls items history tables count wri
       words_are = words_are;
       replayed = record { capture_is = capture_is; legal = is.0; replay = is.1 };
       count_is = count_is;
-      written = ap (λ (w : Written). with_all out w before) (written_is ∙ ap (λ (n : ℕ). texts_of n history tables) count_is);
-    })) (capture_told c0 c1 capture file calls start same session)
+      written = all_written ∙ ap (λ (w : List Write). with_all w before) (written_is ∙ ap (λ (n : ℕ). writes_of out n history tables) count_is);
+    }) c3_is) (capture_told c0 c1 capture file calls start same session)
 
-pub part_says : (left : List ℕ → Written → FileMap → FileMap → Type 0) (c0 c1 c2 c3 : Option FileMap) (words : List (List ℕ)) (capture out : List ℕ) (file : StartFile) (calls : Room Captured) (items : List Captured) (history : List Event) (tables : List Image) (count : ℕ) (written : Written)
+pub part_says : (left : List Write → FileMap → FileMap → Type 0) (c0 c1 c2 c3 : Option FileMap) (words : List (List ℕ)) (capture out : List ℕ) (file : StartFile) (calls : Room Captured) (items : List Captured) (history : List Event) (tables : List Image) (count : ℕ) (written : List Write)
     → IsRunOf words capture out → Told c0 (λ before. Holds ReadsStart (get before (start_name capture)) file) → c1 ≡ c0 → Told c1 (λ before. Holds ReadsRoom (get before (session_name capture)) calls) → c2 ≡ c1
-    → items ≡ calls.items → IsLegalFrom file.start items × IsReplay file.start items history tables → count ≡ length calls.items → written ≡ texts_of count history tables
-    → Told c2 (λ before. IsSomeAnd c3 (left out written before)) → Told c0 (λ before. IsSomeAnd c3 (λ after. LeftWritten left words before after))
+    → items ≡ calls.items → IsLegalFrom file.start items × IsReplay file.start items history tables → count ≡ length calls.items → written ≡ writes_of out count history tables
+    → Told c2 (λ before. IsSomeAnd c3 (left written before)) → Told c0 (λ before. IsSomeAnd c3 (λ after. LeftWritten left words before after))
 part_says left c0 c1 c2 c3 words capture out file calls items history tables count written words_are start same session last items_are replayed count_is written_is after =
     told c0 _ _ (λ before e capture_is.
-    let c3_is : IsSomeAnd c3 (left out written before) = subst (λ (c : Option FileMap). Told c (λ files. IsSomeAnd c3 (left out written files))) (last ∙ same ∙ e) after in
+    let c3_is : IsSomeAnd c3 (left written before) = subst (λ (c : Option FileMap). Told c (λ files. IsSomeAnd c3 (left written files))) (last ∙ same ∙ e) after in
     let is = subst (λ (cs : List Captured). IsLegalFrom file.start cs × IsReplay file.start cs history tables) items_are replayed in
     some_and c3 _ _ (λ files is_left. record {
       capture = capture;
@@ -98,16 +100,16 @@ part_says left c0 c1 c2 c3 words capture out file calls items history tables cou
       tables = tables;
       words_are = words_are;
       replayed = record { capture_is = capture_is; legal = is.0; replay = is.1 };
-      is_left = subst (λ (w : Written). left out w before files) (written_is ∙ ap (λ (n : ℕ). texts_of n history tables) count_is) is_left;
+      is_left = subst (λ (w : List Write). left w before files) (written_is ∙ ap (λ (n : ℕ). writes_of out n history tables) count_is) is_left;
     }) c3_is) (capture_told c0 c1 capture file calls start same session)
 
 -- a write failed, or there was no memory to go on
 pub error_says : (c0 c1 : Option FileMap) (words : List (List ℕ)) (failure : Failure) → IsOutside failure
-    → Told c0 (λ before. IsSomeAnd c1 (λ after. WrittenInPart words before after)) → (failure ≡ OutOfMemory → Told c0 (λ before. IsSomeAnd c1 (λ after. WrittenSoFar words before after)))
+    → (failure ≡ DeviceFault → Told c0 (λ before. IsSomeAnd c1 (λ after. WrittenInPart words before after))) → (failure ≡ OutOfMemory → Told c0 (λ before. IsSomeAnd c1 (λ after. WrittenSoFar words before after)))
     → Told c0 (λ before. IsSomeAnd c1 (λ after. RunSays words before after (Err failure)))
 error_says c0 c1 words BadCommand outside part so_far = absurd outside
 error_says c0 c1 words (NotYet name) outside part so_far = absurd outside
 error_says c0 c1 words BadCapture outside part so_far = absurd outside
 error_says c0 c1 words (Missing name) outside part so_far = absurd outside
-error_says c0 c1 words DeviceFault outside part so_far = told c0 _ _ (λ before e some. some_and c1 _ _ (λ after p. inr p) some) part
+error_says c0 c1 words DeviceFault outside part so_far = told c0 _ _ (λ before e some. some_and c1 _ _ (λ after p. inr p) some) (part refl)
 error_says c0 c1 words OutOfMemory outside part so_far = told c0 _ _ (λ before e some. some_and c1 _ _ (λ after p. inr p) some) (so_far refl)

@@ -5,8 +5,10 @@ use Rattle.std.proofs.lemmas.List.{append-nil}
 use Rattle.desk_values.specs.declared.capture.Captured.{Captured}
 use Rattle.desk_schema.specs.declared.line.StartLine.{StartLine}
 use Rattle.desk_schema.specs.declared.line.StartLine.TheVariants.{NextRow}
-use Rattle.desk_schema.specs.Rules.{AreLinesAfter, MayFollow}
-use Rattle.desk_schema.specs.Start.{StartView, IsStart, part_lines}
+use Rattle.desk_schema.specs.Start.{StartView, part_lines}
+use Rattle.desk_schema.specs.State.{State, nothing, added, state_after}
+use Rattle.desk_schema.specs.Rules.{AreLinesFrom, MayFollow}
+use Rattle.desk_schema.specs.File.{IsStart}
 use Rattle.capture_format.specs.declared.session_line.SessionLine.{SessionLine}
 use Rattle.capture_format.specs.declared.session_line.SessionLine.TheVariants.{Head, Call, End}
 use Rattle.capture_format.specs.SessionFile.{SpellsSession, calls_from}
@@ -15,12 +17,12 @@ use Rattle.replay_cli.specs.OneSession.{IsPlaced, ArePlaced}
 use Rattle.replay_cli.proofs.Steps.{some_is}
 
 -- the last line may follow those before it
-last_follows : (before lines : List StartLine) (line : StartLine) → AreLinesAfter before (lines ++ line ∷ []) → MayFollow (before ++ lines) line
-last_follows before [] line h = subst (λ (ls : List StartLine). MayFollow ls line) (sym (append-nil before)) h.0
-last_follows before (l ∷ lines) line h = subst (λ (ls : List StartLine). MayFollow ls line) (append_assoc before (l ∷ []) lines) (last_follows (before ++ l ∷ []) lines line h.1)
+last_follows : (state : State) (lines : List StartLine) (line : StartLine) → AreLinesFrom state (lines ++ line ∷ []) → MayFollow (state_after state lines) line
+last_follows state [] line h = h.0
+last_follows state (l ∷ lines) line h = last_follows (added state l) lines line h.1
 
 pub next_row_limit : (start : StartView) → IsStart start → start.next_row ≤ 549755813888
-next_row_limit start is = (last_follows [] (part_lines start.schema start.next_values start.rows) (NextRow start.next_row) is.lines).most
+next_row_limit start is = (last_follows nothing (part_lines start) (NextRow start.next_row) is.lines).most
 
 -- the calls of a session's lines stand at their places
 calls_placed : (session place : ℕ) (lines : List SessionLine) (k : ℕ) (call : Captured) → slice_get (calls_from session place lines) k ≡ Some call → IsPlaced session (place + k) call

@@ -1,6 +1,6 @@
 -- What a test says where it decides a fact.
-use Rattle.std.proofs.Common.{◌≡◌, ℕ, ◌<◌, ◌≤◌, Bool, true, false, List, [], ◌∷◌, length, arith, get_or, Option, Some, None, Result, Ok, Err, refl, sym, ap, ◌∙◌}
-use Rattle.std.specs.Prelude.{IsTrue, IfSome, OnErr, slice_get}
+use Rattle.std.proofs.Common.{◌≡◌, ℕ, ◌<◌, ◌≤◌, Bool, true, false, List, [], ◌∷◌, length, arith, get_or, Option, Some, None, refl, sym, ap, ◌∙◌}
+use Rattle.std.specs.Prelude.{IsTrue, IfSome, slice_get}
 use Rattle.std.specs.Bool.{OnTrue, OnFalse}
 use Rattle.std.proofs.lemmas.Bool.{false≢true}
 use Rattle.std.proofs.lemmas.Option.{slice_get-get_or}
@@ -40,7 +40,3 @@ three_items (x ∷ y ∷ z ∷ w ∷ xs) a b c low high p q r = absurd (omega ar
 pub told : {T : Type 0} (content : Option T) (P Q : T → Type 0) → ((x : T) → content ≡ Some x → P x → Q x) → IfSome content P → IfSome content Q
 told None P Q f h = tt
 told (Some x) P Q f h = f x refl h
-
-pub on_err_always : {T E P : Type 0} (answer : Result T E) → P → OnErr answer P
-on_err_always (Ok value) p = tt
-on_err_always (Err error) p = p

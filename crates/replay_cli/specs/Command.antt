@@ -4,13 +4,15 @@ use Rattle.std.specs.FinMap.{get}
 use Rattle.desk_values.specs.declared.value.Image.{Image}
 use Rattle.desk_values.specs.declared.capture.Captured.{Captured}
 use Rattle.desk_values.specs.declared.capture.Event.{Event}
+use Rattle.desk_files.specs.declared.writes.Write.{Write}
 use Rattle.desk_files.specs.Outside.{FileMap}
+use Rattle.desk_files.specs.Writes.{CutShort, WrittenSoFar as WritesSoFar, with_all}
 use Rattle.capture_format.specs.declared.start.StartFile.{StartFile}
 use Rattle.replay_cli.specs.declared.failure.Failure.{Failure}
 use Rattle.replay_cli.specs.declared.failure.Failure.TheVariants.{BadCommand, NotYet, BadCapture, Missing, DeviceFault, OutOfMemory}
 use Rattle.replay_cli.specs.OneSession.{IsLegalFrom, IsReplay}
 use Rattle.replay_cli.specs.Words.{IsRunOf, start_name, session_name}
-use Rattle.replay_cli.specs.Folder.{ReadsStart, ReadsCalls, Holds, HoldsNone, Written, texts_of, with_all, AfterWrites, CutShort}
+use Rattle.replay_cli.specs.Folder.{ReadsStart, ReadsCalls, Holds, HoldsNone, writes_of}
 
 -- the words are no command
 abbrev pub IsNoCommand : List (List ℕ) → Type 0
@@ -40,7 +42,7 @@ pub record IsReplayed (files : FileMap) (capture : List ℕ) (file : StartFile) 
   pub replay : IsReplay file.start calls history tables
 
 -- the words are `run`, the capture was replayed, and this is left of the writing of its files
-pub record LeftWritten (left : List ℕ → Written → FileMap → FileMap → Type 0) (words : List (List ℕ)) (before after : FileMap) : Type 0 where
+pub record LeftWritten (left : List Write → FileMap → FileMap → Type 0) (words : List (List ℕ)) (before after : FileMap) : Type 0 where
   pub capture : List ℕ
   pub out : List ℕ
   pub file : StartFile
@@ -49,7 +51,7 @@ pub record LeftWritten (left : List ℕ → Written → FileMap → FileMap → 
   pub tables : List Image
   pub words_are : IsRunOf words capture out
   pub replayed : IsReplayed before capture file calls history tables
-  pub is_left : left out (texts_of (length calls) history tables) before after
+  pub is_left : left (writes_of out (length calls) history tables) before after
 
 -- one of the writes failed
 abbrev pub WrittenInPart : List (List ℕ) → FileMap → FileMap → Type 0
@@ -57,7 +59,7 @@ WrittenInPart words before after = LeftWritten CutShort words before after
 
 -- each write was whole, or was not begun
 abbrev pub WrittenSoFar : List (List ℕ) → FileMap → FileMap → Type 0
-WrittenSoFar words before after = LeftWritten AfterWrites words before after
+WrittenSoFar words before after = LeftWritten WritesSoFar words before after
 
 -- the capture was replayed, and its files were written
 pub record WrittenWhole (words : List (List ℕ)) (count : ℕ) (before after : FileMap) : Type 0 where
@@ -70,7 +72,7 @@ pub record WrittenWhole (words : List (List ℕ)) (count : ℕ) (before after : 
   pub words_are : IsRunOf words capture out
   pub replayed : IsReplayed before capture file calls history tables
   pub count_is : count ≡ length calls
-  pub written : after ≡ with_all out (texts_of (length calls) history tables) before
+  pub written : after ≡ with_all (writes_of out (length calls) history tables) before
 
 -- what doing the command's work answers, and what files it leaves
 abbrev pub RunSays : List (List ℕ) → FileMap → FileMap → Result ℕ Failure → Type 0

@@ -1,10 +1,10 @@
 -- What the files of a capture are, as the files tell it, and what a replay writes.
-use Rattle.std.specs.Prelude.{◌≡◌, ℕ, ◌<◌, ◌≤◌, ◌⊎◌, List, length, Option, None, Some, Result, Ok, Err, ⊤}
-use Rattle.std.specs.FinMap.{insert}
+use Rattle.std.specs.Prelude.{◌≡◌, ℕ, ◌<◌, ◌≤◌, ◌⊎◌, List, [], ◌∷◌, length, Option, None, Some, Result, Ok, Err, ⊤}
 use Rattle.desk_values.specs.declared.value.Image.{Image}
 use Rattle.desk_values.specs.declared.capture.Captured.{Captured}
 use Rattle.desk_values.specs.declared.capture.Event.{Event}
-use Rattle.desk_files.specs.Outside.{FileMap, KeepsOthers}
+use Rattle.desk_files.specs.declared.files.TheConstants.{FILE_LIMIT}
+use Rattle.desk_files.specs.declared.writes.Write.{Write}
 use Rattle.capture_format.specs.declared.start.StartFile.{StartFile}
 use Rattle.capture_format.specs.StartFile.{SpellsStart}
 use Rattle.capture_format.specs.SessionFile.{SpellsSession}
@@ -18,10 +18,6 @@ use Rattle.replay_cli.specs.declared.replay.Replayed.{Replayed}
 use Rattle.desk_schema.specs.Start.{StartView}
 use Rattle.replay_cli.specs.OneSession.{IsLegalFrom, IsReplay}
 use Rattle.replay_cli.specs.Words.{journal_name, report_name, tables_name}
-
--- the greatest number of bytes of a file that is read
-abbrev pub file_limit : ℕ
-file_limit = 67108864
 
 -- the bytes are a start file that is replayed so far
 pub record ReadsStart (bytes : List ℕ) (file : StartFile) : Type 0 where
@@ -37,14 +33,14 @@ pub record ReadsCalls (bytes : List ℕ) (calls : List Captured) : Type 0 where
 pub record Holds {X : Type 0} (reads : List ℕ → X → Type 0) (file : Option (List ℕ)) (value : X) : Type 0 where
   pub bytes : List ℕ
   pub there : file ≡ Some bytes
-  pub limit : length bytes ≤ file_limit
+  pub limit : length bytes ≤ FILE_LIMIT
   pub is : reads bytes value
 
 -- a file that is there, and is too long or is not read so
 pub record HoldsNone {X : Type 0} (reads : List ℕ → X → Type 0) (file : Option (List ℕ)) : Type 0 where
   pub bytes : List ℕ
   pub there : file ≡ Some bytes
-  pub none : (file_limit < length bytes) ⊎ ((value : X) → ¬ reads bytes value)
+  pub none : (FILE_LIMIT < length bytes) ⊎ ((value : X) → ¬ reads bytes value)
 
 -- what loading the file of this name answers; a fault and want of memory say nothing
 abbrev pub FileSays : {X : Type 0} → (List ℕ → X → Type 0) → List ℕ → Option (List ℕ) → Result X Failure → Type 0
@@ -60,35 +56,10 @@ FileSays reads name file (Err BadCapture) = ⊥
 abbrev pub ReadsBytes : List ℕ → List ℕ → Type 0
 ReadsBytes bytes value = value ≡ bytes
 
--- the three texts of a replay
-pub record Written : Type 0 where
-  pub journal : List ℕ
-  pub report : List ℕ
-  pub tables : List ℕ
-
-abbrev pub texts_of : ℕ → List Event → List Image → Written
-texts_of calls history tables = record { journal = journal_text Order history; report = report_text (clean_report calls); tables = tables_text tables }
-
--- the files after the first of them, after two and after all three were written
-abbrev pub with_journal : List ℕ → Written → FileMap → FileMap
-with_journal out written files = insert files (journal_name out) written.journal
-
-abbrev pub with_report : List ℕ → Written → FileMap → FileMap
-with_report out written files = insert (with_journal out written files) (report_name out) written.report
-
-abbrev pub with_all : List ℕ → Written → FileMap → FileMap
-with_all out written files = insert (with_report out written files) (tables_name out) written.tables
-
--- the files after a write that did not succeed: those written before it stand, and only its own may be anything
-abbrev pub CutShort : List ℕ → Written → FileMap → FileMap → Type 0
-CutShort out written before after =
-    KeepsOthers (journal_name out) before after ⊎ (KeepsOthers (report_name out) (with_journal out written before) after
-    ⊎ KeepsOthers (tables_name out) (with_report out written before) after)
-
--- the files as they were, or after one of the writes, or after two or all three
-abbrev pub AfterWrites : List ℕ → Written → FileMap → FileMap → Type 0
-AfterWrites out written before after =
-    (after ≡ before) ⊎ ((after ≡ with_journal out written before) ⊎ ((after ≡ with_report out written before) ⊎ (after ≡ with_all out written before)))
+-- what a replay writes, one file after the other
+abbrev pub writes_of : List ℕ → ℕ → List Event → List Image → List Write
+writes_of out calls history tables =
+    record { name = journal_name out; bytes = journal_text Order history } ∷ record { name = report_name out; bytes = report_text (clean_report calls) } ∷ record { name = tables_name out; bytes = tables_text tables } ∷ []
 
 -- a cause outside the words and the files' contents
 abbrev pub IsOutside : Failure → Type 0

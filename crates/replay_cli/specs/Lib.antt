@@ -5,5 +5,4 @@ pub mod Words
 pub mod Lines
 pub mod Folder
 pub mod Command
-pub mod Texts
 pub mod Status

@@ -1,7 +1,7 @@
 -- How a command ends: the reasons of its statuses, by its words and the files alone, and what it prints.
-use Rattle.std.specs.Prelude.{◌≡◌, ℕ, ◌⊎◌, List, ◌++◌, Option, Some, IsErrOf, IsSomeAnd, Result, Ok, Err}
+use Rattle.std.specs.Prelude.{◌≡◌, ℕ, ◌⊎◌, List, Option, IsErrOf, Result, Ok, Err}
 use Rattle.desk_values.specs.declared.capture.Captured.{Captured}
-use Rattle.desk_files.specs.Outside.{AppendsPart, FileMap, HasRisen, Told}
+use Rattle.desk_files.specs.Outside.{Appends, AppendsPart, FileMap, HasRisen}
 use Rattle.capture_format.specs.declared.start.StartFile.{StartFile}
 use Rattle.replay_cli.specs.declared.failure.Failure.{Failure}
 use Rattle.replay_cli.specs.declared.failure.Failure.TheVariants.{BadCommand, NotYet, BadCapture, Missing, DeviceFault, OutOfMemory}
@@ -35,17 +35,9 @@ IsReason words files (Missing name) = IsFileMissing words files name
 IsReason words files DeviceFault = ⊥
 IsReason words files OutOfMemory = ⊥
 
--- this line was printed, and nothing else
-abbrev pub Prints : List ℕ → Option (List ℕ) → Option (List ℕ) → Type 0
-Prints line before after = Told before (λ printed. after ≡ Some (printed ++ line))
-
--- a part of this line was printed, or none or all of it, and nothing else
-abbrev pub PrintsPart : List ℕ → Option (List ℕ) → Option (List ℕ) → Type 0
-PrintsPart line before after = Told before (λ printed. IsSomeAnd after (AppendsPart line printed))
-
 -- the command ended with this status and line, or else a device failed or memory was short
 abbrev pub EndsWith : ℕ → List ℕ → ℕ → Option (List ℕ) → Option (List ℕ) → Type 0
-EndsWith status line result before after = ((result ≡ status) × Prints line before after) ⊎ ((result ≡ 5) ⊎ (result ≡ 6))
+EndsWith status line result before after = ((result ≡ status) × Appends line before after) ⊎ ((result ≡ 5) ⊎ (result ≡ 6))
 
 abbrev pub status_of : Result ℕ Failure → ℕ
 status_of (Ok calls) = 0
@@ -59,6 +51,6 @@ line_of (Err failure) = failure_line failure
 -- line was not printed whole
 abbrev pub Reports : Result ℕ Failure → ℕ → Option (List ℕ) → Option (List ℕ) → ℕ → ℕ → Type 0
 Reports done result before after faults_before faults_after =
-    ((result ≡ status_of done) × Prints (line_of done) before after)
-    ⊎ (((result ≡ 6) × Prints (failure_line OutOfMemory) before after × ¬ IsErrOf done DeviceFault)
-    ⊎ ((result ≡ 5) × HasRisen faults_before faults_after × (PrintsPart (line_of done) before after ⊎ PrintsPart (failure_line OutOfMemory) before after)))
+    ((result ≡ status_of done) × Appends (line_of done) before after)
+    ⊎ (((result ≡ 6) × Appends (failure_line OutOfMemory) before after × ¬ IsErrOf done DeviceFault)
+    ⊎ ((result ≡ 5) × HasRisen faults_before faults_after × (AppendsPart (line_of done) before after ⊎ AppendsPart (failure_line OutOfMemory) before after)))

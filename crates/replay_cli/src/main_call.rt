@@ -1,13 +1,13 @@
 //! The one call that the program makes.
 
 ghost use Rattle.std.specs.Prelude.{◌≡◌, ◌≢◌, ◌≤◌, ◌⊎◌, ℕ, List, Result, IfOk, IsSomeAnd, Ok, Err};
-ghost use Rattle.desk_files.specs.Outside.{HasRisen, Told};
+ghost use Rattle.desk_files.specs.Outside.{Appends, AppendsPart, HasRisen, Told};
 ghost use Rattle.replay_cli.specs.declared.failure.Failure.{Failure as Outcome};
 ghost use Rattle.replay_cli.specs.declared.failure.Failure.TheVariants.{BadCommand, NotYet, BadCapture, Missing, DeviceFault, OutOfMemory};
 ghost use Rattle.replay_cli.specs.Command.{IsNoCommand, WrittenInPart, WrittenSoFar, WrittenWhole};
 ghost use Rattle.replay_cli.specs.Lines as texts;
 ghost use Rattle.replay_cli.specs.Lines.{failure_line, replayed_line};
-ghost use Rattle.replay_cli.specs.Status.{EndsWith, IsBadCapture, IsFileMissing, IsFileNotYet, IsGoodCapture, Prints, PrintsPart, Reports};
+ghost use Rattle.replay_cli.specs.Status.{EndsWith, IsBadCapture, IsFileMissing, IsFileNotYet, IsGoodCapture, Reports};
 
 use crate::failure::Failure;
 use crate::run::run;
@@ -37,7 +37,7 @@ pub fn replay_main<R, F: Files, S: Sink>(
     files: &mut F,
     out: &mut S,
 ) -> u8
-    ensures replayed { result ≡ 0 → Told (F.content files.old) (λ before. IsSomeAnd (F.content files.new) (λ after. (count : ℕ) × WrittenWhole words.now count before after × Prints (replayed_line count) (S.content out.old) (S.content out.new))) }
+    ensures replayed { result ≡ 0 → Told (F.content files.old) (λ before. IsSomeAnd (F.content files.new) (λ after. (count : ℕ) × WrittenWhole words.now count before after × Appends (replayed_line count) (S.content out.old) (S.content out.new))) }
     ensures complete { Told (F.content files.old) (λ before. IsGoodCapture words.now before → (result ≡ 0) ⊎ ((result ≡ 5) ⊎ (result ≡ 6))) }
     ensures bad_command { IsNoCommand words.now → EndsWith 2 (failure_line BadCommand) result (S.content out.old) (S.content out.new) }
     ensures not_yet { Told (F.content files.old) (λ before. (name : List ℕ) → IsFileNotYet words.now before name → EndsWith 3 (failure_line (NotYet name)) result (S.content out.old) (S.content out.new)) }
@@ -47,9 +47,9 @@ pub fn replay_main<R, F: Files, S: Sink>(
     ensures only_refused { result ≡ 3 → Told (F.content files.old) (λ before. ((name : List ℕ) × IsFileNotYet words.now before name) ⊎ IsBadCapture words.now before) }
     ensures only_missing { result ≡ 4 → Told (F.content files.old) (λ before. (name : List ℕ) × IsFileMissing words.now before name) }
     ensures device_fault { result ≡ 5 → HasRisen (F.faults files.old) (F.faults files.new) ⊎ HasRisen (S.faults out.old) (S.faults out.new) }
-    ensures fault_line { result ≡ 5 → HasRisen (S.faults out.old) (S.faults out.new) ⊎ Prints (failure_line DeviceFault) (S.content out.old) (S.content out.new) }
+    ensures fault_line { result ≡ 5 → HasRisen (S.faults out.old) (S.faults out.new) ⊎ Appends (failure_line DeviceFault) (S.content out.old) (S.content out.new) }
     ensures unfailed { result ≡ 6 → F.faults files.new ≡ F.faults files.old }
-    ensures memory_line { result ≡ 6 → Prints (failure_line OutOfMemory) (S.content out.old) (S.content out.new) }
+    ensures memory_line { result ≡ 6 → Appends (failure_line OutOfMemory) (S.content out.old) (S.content out.new) }
     ensures unchanged { (result ≡ 2) ⊎ ((result ≡ 3) ⊎ (result ≡ 4)) → Told (F.content files.old) (λ before. IsSomeAnd (F.content files.new) (λ after. after ≡ before)) }
     ensures in_part { (result ≡ 5) ⊎ (result ≡ 6) → Told (F.content files.old) (λ before. IsSomeAnd (F.content files.new) (λ after. (after ≡ before) ⊎ (WrittenInPart words.now before after ⊎ (WrittenSoFar words.now before after ⊎ ((count : ℕ) × WrittenWhole words.now count before after))))) }
     ensures whole_writes { (result ≡ 5) ⊎ (result ≡ 6) → HasRisen (F.faults files.old) (F.faults files.new) ⊎ Told (F.content files.old) (λ before. IsSomeAnd (F.content files.new) (λ after. (after ≡ before) ⊎ (WrittenSoFar words.now before after ⊎ ((count : ℕ) × WrittenWhole words.now count before after)))) }
@@ -61,7 +61,7 @@ pub fn replay_main<R, F: Files, S: Sink>(
     report(alloc, &done, out)
 }
 
-/// Prints the line of what the work came to, and gives the status.
+/// Appends the line of what the work came to, and gives the status.
 fn report<S: Sink>(alloc: Global, done: &Result<u64, Failure>, out: &mut S) -> u8
     ensures says { Reports done.now result (S.content out.old) (S.content out.new) (S.faults out.old) (S.faults out.new) }
     ensures count { S.faults out.old ≤ S.faults out.new }
@@ -108,27 +108,27 @@ fn report_refusal<S: Sink>(alloc: Global, failure: &Failure, out: &mut S) -> u8
     }
 }
 
-/// Prints that a device failed, and gives the status to end with. It takes no memory, so that a fault is never told as
+/// Appends that a device failed, and gives the status to end with. It takes no memory, so that a fault is never told as
 /// want of it.
 fn report_fault<S: Sink>(out: &mut S) -> u8
-    ensures says { ((result ≡ 5) × Prints (failure_line DeviceFault) (S.content out.old) (S.content out.new)) ⊎ ((result ≡ 5) × HasRisen (S.faults out.old) (S.faults out.new) × PrintsPart (failure_line DeviceFault) (S.content out.old) (S.content out.new)) }
+    ensures says { ((result ≡ 5) × Appends (failure_line DeviceFault) (S.content out.old) (S.content out.new)) ⊎ ((result ≡ 5) × HasRisen (S.faults out.old) (S.faults out.new) × AppendsPart (failure_line DeviceFault) (S.content out.old) (S.content out.new)) }
     ensures count { S.faults out.old ≤ S.faults out.new }
 {
     print(b"device fault\n", Failure::DeviceFault.status(), out)
 }
 
-/// Prints that memory was short, and gives the status to end with: 6, or 5 where the line was not printed. It takes no
+/// Appends that memory was short, and gives the status to end with: 6, or 5 where the line was not printed. It takes no
 /// memory.
 pub fn report_want_of_memory<S: Sink>(out: &mut S) -> u8
-    ensures says { ((result ≡ 6) × Prints (failure_line OutOfMemory) (S.content out.old) (S.content out.new)) ⊎ ((result ≡ 5) × HasRisen (S.faults out.old) (S.faults out.new) × PrintsPart (failure_line OutOfMemory) (S.content out.old) (S.content out.new)) }
+    ensures says { ((result ≡ 6) × Appends (failure_line OutOfMemory) (S.content out.old) (S.content out.new)) ⊎ ((result ≡ 5) × HasRisen (S.faults out.old) (S.faults out.new) × AppendsPart (failure_line OutOfMemory) (S.content out.old) (S.content out.new)) }
     ensures count { S.faults out.old ≤ S.faults out.new }
 {
     print(b"out of memory\n", Failure::OutOfMemory.status(), out)
 }
 
-/// Prints a line. The status is this one, or that of a fault where the line was not printed, or in part.
+/// Appends a line. The status is this one, or that of a fault where the line was not printed, or in part.
 fn print<S: Sink>(line: &[u8], status: u8, out: &mut S) -> u8
-    ensures says { ((result ≡ status) × Prints line.now (S.content out.old) (S.content out.new)) ⊎ ((result ≡ 5) × HasRisen (S.faults out.old) (S.faults out.new) × PrintsPart line.now (S.content out.old) (S.content out.new)) }
+    ensures says { ((result ≡ status) × Appends line.now (S.content out.old) (S.content out.new)) ⊎ ((result ≡ 5) × HasRisen (S.faults out.old) (S.faults out.new) × AppendsPart line.now (S.content out.old) (S.content out.new)) }
     ensures count { S.faults out.old ≤ S.faults out.new }
 {
     match out.write(line) {

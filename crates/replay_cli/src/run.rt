@@ -1,14 +1,15 @@
 //! The command `run CAPTURE OUT`: a capture is read, tested and replayed, and its texts are written.
 
-ghost use Rattle.std.specs.Prelude.{◌≡◌, ◌≤◌, ◌↔◌, length, Some, IfOk, IfErr, IsErrOf, IsSomeAnd, OnOk, OnErr};
+ghost use Rattle.std.specs.Prelude.{◌≡◌, ◌≤◌, ◌↔◌, ◌++◌, length, IfOk, IfErr, IsErrOf, IsSomeAnd, OnOk};
 ghost use Rattle.std.specs.FinMap as map;
-ghost use Rattle.desk_files.specs.Outside.{FileMap, HasRisen, KeepsOthers, Told};
+ghost use Rattle.desk_files.specs.declared.files.TheConstants.{FILE_LIMIT};
+ghost use Rattle.desk_files.specs.Outside.{HasRisen, Told};
+ghost use Rattle.desk_files.specs.Writes.{CutShort, WrittenSoFar, with_all};
 ghost use Rattle.capture_format.specs.Supported.{AreSupportedCalls};
 ghost use Rattle.replay_cli.specs.OneSession.{ArePlaced, IsReplay};
 ghost use Rattle.replay_cli.specs.Words.{start_name, session_name};
-ghost use Rattle.replay_cli.specs.Folder.{AfterWrites, CutShort, FileSays, file_limit, IsOutside, ReadsBytes, ReadsCalls, ReadsStart, ReplaySays, Written, texts_of, with_all};
+ghost use Rattle.replay_cli.specs.Folder.{FileSays, IsOutside, ReadsBytes, ReadsCalls, ReadsStart, ReplaySays, writes_of};
 ghost use Rattle.replay_cli.specs.Command.{IsNoCommand, RunSays};
-ghost use Rattle.replay_cli.specs.Texts.{texts_in};
 
 use crate::failure::Failure;
 use crate::legality::is_legal;
@@ -16,19 +17,11 @@ use crate::replay::{Replayed, replay};
 use crate::texts::{journal_text, report_text, tables_text};
 use crate::words::{Folders, folders_of, name_in};
 use capture_format::{FormErr, StartFile, read_session, read_start};
-use desk_files::{FileErr, Files, WriteErr};
+use desk_files::{FileErr, Files, Write, WriteErr, write_all};
 use desk_schema::Start;
-use desk_values::{Bytes, CallList, Captured, Copied, Memory, Txt};
+use desk_values::{Bytes, CallList, Captured, Copied, List, Memory, Txt};
 use replay_history::{Mode, Report};
 use std::alloc::Global;
-
-/// What a replay writes.
-#[derive(Drop)]
-struct Texts {
-    journal: Bytes,
-    report: Bytes,
-    tables: Bytes,
-}
 
 /// Does what the words say, and gives the number of calls that were replayed.
 pub fn run<F: Files>(alloc: Global, words: &[Txt], files: &mut F) -> Result<u64, Failure>
@@ -45,8 +38,8 @@ pub fn run<F: Files>(alloc: Global, words: &[Txt], files: &mut F) -> Result<u64,
     let calls = load_session(alloc, folders.capture, files)?;
     let replayed = replay_legal(alloc, start.start, calls.as_slice())?;
     let count = calls.len() as u64;
-    let texts = texts_of(alloc, count, &replayed)?;
-    write_texts(alloc, folders.out, &texts, files)?;
+    let writes = writes_of(alloc, folders.out, count, &replayed)?;
+    write_texts(writes.as_slice(), files)?;
     Ok(count)
 }
 
@@ -94,7 +87,7 @@ fn load_session<F: Files>(alloc: Global, capture: &Txt, files: &mut F) -> Result
 fn load<F: Files>(name: &Txt, files: &mut F) -> Result<Bytes, Failure>
     ensures command { ¬ IsErrOf result Failure.BadCommand }
     ensures says { Told (F.content files.old) (λ before. FileSays ReadsBytes name.now (map.get before name.now) result) }
-    ensures limit { IfOk result (λ bytes. length bytes ≤ file_limit) }
+    ensures limit { IfOk result (λ bytes. length bytes ≤ FILE_LIMIT) }
     ensures content { F.content files.new ≡ F.content files.old }
     ensures failed { IsErrOf result Failure.DeviceFault → HasRisen (F.faults files.old) (F.faults files.new) }
     ensures unfailed { ¬ IsErrOf result Failure.DeviceFault → F.faults files.new ≡ F.faults files.old }
@@ -122,53 +115,48 @@ fn replay_legal(alloc: Global, start: Start, calls: &[Captured]) -> Result<Repla
     Ok(replay(alloc, start, calls)?)
 }
 
-/// The texts of a replay in which every call was answered as it was captured.
-fn texts_of(alloc: Global, calls: u64, replayed: &Replayed) -> Result<Texts, Memory>
-    ensures { IfOk result (λ texts. texts_in texts ≡ texts_of calls replayed.now.history.items replayed.now.tables) }
+/// What is written of a replay in which every call was answered as it was captured.
+fn writes_of(
+    alloc: Global,
+    out: &Txt,
+    calls: u64,
+    replayed: &Replayed,
+) -> Result<List<Write>, Memory>
+    requires { length out.now ≤ 900 }
+    ensures { IfOk result (λ writes. writes ≡ writes_of out.now calls replayed.now.history.items replayed.now.tables) }
 {
     let report = Report::clean(alloc, calls);
-    Ok(Texts {
-        journal: journal_text(alloc, Mode::Order, &replayed.history)?,
-        report: report_text(alloc, &report)?,
-        tables: tables_text(alloc, &replayed.tables)?,
-    })
+    let journal = journal_text(alloc, Mode::Order, &replayed.history)?;
+    let report = report_text(alloc, &report)?;
+    let tables = tables_text(alloc, &replayed.tables)?;
+    let mut writes = List::new(alloc);
+    writes.push(write_in(alloc, out, "/journal.txt", journal)?)?;
+    writes.push(write_in(alloc, out, "/report.txt", report)?)?;
+    writes.push(write_in(alloc, out, "/tables.txt", tables)?)?;
+    Ok(writes)
+}
+
+/// What is written of a file in a folder.
+fn write_in(alloc: Global, folder: &Txt, file: &str, bytes: Bytes) -> Result<Write, Memory>
+    requires folder { length folder.now ≤ 900 }
+    requires file { length file.now ≤ 100 }
+    ensures { IfOk result (λ write. write ≡ record { name = folder.now ++ file.now; bytes = bytes }) }
+{
+    let name = name_in(alloc, folder, file)?;
+    Ok(Write { name, bytes })
 }
 
 /// Writes the texts, one file after the other.
-fn write_texts<F: Files>(
-    alloc: Global,
-    out: &Txt,
-    texts: &Texts,
-    files: &mut F,
-) -> Result<(), Failure>
-    requires { length out.now ≤ 900 }
-    ensures ok { OnOk result (Told (F.content files.old) (λ before. F.content files.new ≡ Some (with_all out.now (texts_in texts.now) before))) }
-    ensures memory { IsErrOf result Failure.OutOfMemory → Told (F.content files.old) (λ before. IsSomeAnd (F.content files.new) (AfterWrites out.now (texts_in texts.now) before)) }
-    ensures cut { OnErr result (Told (F.content files.old) (λ before. IsSomeAnd (F.content files.new) (CutShort out.now (texts_in texts.now) before))) }
+fn write_texts<F: Files>(writes: &[Write], files: &mut F) -> Result<(), Failure>
+    ensures ok { OnOk result (Told (F.content files.old) (λ before. IsSomeAnd (F.content files.new) (λ after. after ≡ with_all writes.now before))) }
+    ensures memory { IsErrOf result Failure.OutOfMemory → Told (F.content files.old) (λ before. IsSomeAnd (F.content files.new) (WrittenSoFar writes.now before)) }
+    ensures cut { IsErrOf result Failure.DeviceFault → Told (F.content files.old) (λ before. IsSomeAnd (F.content files.new) (CutShort writes.now before)) }
     ensures cause { IfErr result IsOutside }
     ensures failed { IsErrOf result Failure.DeviceFault → HasRisen (F.faults files.old) (F.faults files.new) }
     ensures unfailed { ¬ IsErrOf result Failure.DeviceFault → F.faults files.new ≡ F.faults files.old }
     ensures count { F.faults files.old ≤ F.faults files.new }
 {
-    let journal = name_in(alloc, out, "/journal.txt")?;
-    let report = name_in(alloc, out, "/report.txt")?;
-    let tables = name_in(alloc, out, "/tables.txt")?;
-    write(&journal, texts.journal.as_slice(), files)?;
-    write(&report, texts.report.as_slice(), files)?;
-    write(&tables, texts.tables.as_slice(), files)?;
-    Ok(())
-}
-
-fn write<F: Files>(name: &Txt, bytes: &[u8], files: &mut F) -> Result<(), Failure>
-    ensures ok { OnOk result (Told (F.content files.old) (λ before. F.content files.new ≡ Some (map.insert before name.now bytes.now))) }
-    ensures others { Told (F.content files.old) (λ before. IsSomeAnd (F.content files.new) (KeepsOthers name.now before)) }
-    ensures memory { IsErrOf result Failure.OutOfMemory → F.content files.new ≡ F.content files.old }
-    ensures cause { IfErr result IsOutside }
-    ensures failed { IsErrOf result Failure.DeviceFault → HasRisen (F.faults files.old) (F.faults files.new) }
-    ensures unfailed { ¬ IsErrOf result Failure.DeviceFault → F.faults files.new ≡ F.faults files.old }
-    ensures count { F.faults files.old ≤ F.faults files.new }
-{
-    match files.write(name, bytes) {
+    match write_all(writes, files) {
         Ok(()) => Ok(()),
         Err(WriteErr::Failed) => Err(Failure::DeviceFault),
         Err(WriteErr::Memory) => Err(Failure::OutOfMemory),

@@ -1,5 +1,5 @@
 -- Which calls are a legal capture, whatever machine answers them.
-use Rattle.std.specs.Prelude.{◌≡◌, ℕ, ◌+◌, ◌<◌, ◌≤◌, ◌⊎◌, Bool, true, false, if◌then◌else◌, nat_eq, Some, List, [], ◌∷◌, length, take, count_by}
+use Rattle.std.specs.Prelude.{◌≡◌, ℕ, ◌+◌, ◌<◌, ◌≤◌, ◌⊎◌, Bool, true, false, IsTrue, if◌then◌else◌, nat_eq, Some, List, [], ◌∷◌, length, take, count_by}
 use Rattle.std.specs.List.{AllByRecursion, Any}
 use Rattle.desk_values.specs.declared.value.Value.{Value}
 use Rattle.desk_values.specs.declared.value.Value.TheVariants.{Row, Draw}
@@ -10,6 +10,7 @@ use Rattle.desk_values.specs.declared.call.Outcome.{Outcome}
 use Rattle.desk_values.specs.declared.call.Outcome.TheVariants.{Rows, Count, Committed, RolledBack, Marked, Connected, Disconnected, Refused}
 use Rattle.desk_values.specs.declared.call.Reply.{Reply}
 use Rattle.desk_values.specs.declared.capture.Captured.{Captured}
+use Rattle.desk_values.specs.Ids.{is_id, ids_of_image}
 use Rattle.replay_history.specs.Gap.{IsCallAt, IsJustBefore}
 
 -- the reply is that of a numbered commit: it committed something
@@ -48,19 +49,13 @@ IsGivenBy (Row n) reply = reply.made ≡ Some n
 IsGivenBy (Draw sequence n) reply = Any (λ drawn. drawn ≡ Draw sequence n) reply.draws
 IsGivenBy other reply = ⊥
 
--- the value is an id
-abbrev pub IsId : Value → Type 0
-IsId (Row n) = Unit {0}
-IsId (Draw sequence n) = Unit {0}
-IsId other = ⊥
-
 -- the id stands in the rows that a capture begins with: as a row's number, or as a value of a row
 abbrev pub StandsIn : List Image → Value → Type 0
-StandsIn rows id = Any (λ (image : Image). (id ≡ Row image.row) ⊎ ((values : List Value) × (image.left ≡ Some values) × Any (λ value. value ≡ id) values)) rows
+StandsIn rows id = Any (λ image. Any (λ other. other ≡ id) (ids_of_image image)) rows
 
 -- each id was there when the call with this stamp began
 abbrev pub IsKnown : List Image → List Captured → ℕ → Value → Type 0
-IsKnown rows calls k value = IsId value → StandsIn rows value ⊎ ((j : ℕ) × (call : Captured) × (j < k) × IsCallAt calls j call × IsGivenBy value call.reply)
+IsKnown rows calls k value = IsTrue (is_id value) → StandsIn rows value ⊎ ((j : ℕ) × (call : Captured) × (j < k) × IsCallAt calls j call × IsGivenBy value call.reply)
 
 -- The calls, one after the other, are answered so by a machine: `gives s session call reply t` says that in the state s
 -- a session's call is given this reply and leaves the state t.

@@ -9,9 +9,10 @@ use Rattle.desk_values.specs.Text.{reply_text, left_text}
 use Rattle.replay_history.specs.declared.mode.Mode.{Mode}
 use Rattle.replay_history.specs.declared.report.Line.{Line}
 use Rattle.replay_history.specs.declared.report.Report.{Report}
+use Rattle.replay_history.specs.declared.report.Class.{Class}
 use Rattle.replay_history.specs.declared.report.Class.TheVariants.{Same, NewError, GoneError, MutatedError, RowsModified, RowsFetched, RowContents, Images, Shape}
 use Rattle.replay_history.specs.Mode.{mode_word}
-use Rattle.replay_history.specs.Class.{class_word}
+use Rattle.replay_history.specs.Class.{class_word, class_number}
 
 -- a line, with its line feed
 abbrev pub line : List ℕ → List ℕ
@@ -35,16 +36,20 @@ place_text l = decimal l.stamp ++ 32 ∷ (decimal l.session ++ 32 ∷ decimal l.
 abbrev pub line_text : Line → List ℕ
 line_text l = place_text l ++ 32 ∷ class_word l.class
 
+-- the word of a class and its count
+abbrev pub class_line : List ℕ → Class → List ℕ
+class_line counts class = count_line (class_word class) (slice_index counts (class_number class))
+
 -- the counts of the classes, in their order
 abbrev pub error_counts : List ℕ → List ℕ
 error_counts counts =
-    count_line (class_word Same) (slice_index counts 0) ++ (count_line (class_word NewError) (slice_index counts 1) ++ (count_line (class_word GoneError) (slice_index counts 2) ++ count_line (class_word MutatedError) (slice_index counts 3)))
+    class_line counts Same ++ (class_line counts NewError ++ (class_line counts GoneError ++ class_line counts MutatedError))
 
 abbrev pub row_counts : List ℕ → List ℕ
-row_counts counts = count_line (class_word RowsModified) (slice_index counts 4) ++ (count_line (class_word RowsFetched) (slice_index counts 5) ++ count_line (class_word RowContents) (slice_index counts 6))
+row_counts counts = class_line counts RowsModified ++ (class_line counts RowsFetched ++ class_line counts RowContents)
 
 abbrev pub other_counts : List ℕ → List ℕ
-other_counts counts = count_line (class_word Images) (slice_index counts 7) ++ count_line (class_word Shape) (slice_index counts 8)
+other_counts counts = class_line counts Images ++ class_line counts Shape
 
 abbrev pub counts_text : List ℕ → List ℕ
 counts_text counts = error_counts counts ++ (row_counts counts ++ other_counts counts)

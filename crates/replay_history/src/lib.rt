@@ -11,6 +11,3 @@ mod report;
 
 pub use mode::Mode;
 pub use report::{Class, Line, Lines, Report};
-
-#[cfg(test)]
-mod tests;

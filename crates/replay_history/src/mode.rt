@@ -1,5 +1,4 @@
-ghost use Rattle.std.specs.Prelude.{◌≡◌};
-ghost use Rattle.replay_history.specs.Mode.{mode_word};
+use desk_values::Word;
 
 /// How a replay is synchronized: which calls must be answered before a call is taken, beside those before it in its own
 /// session. Oracle's Database Testing Guide has the modes by SCN, the number of a commit, and by object; Galanis et al.,
@@ -18,10 +17,25 @@ pub enum Mode {
 }
 
 impl Mode {
-    /// The mode's word in texts.
-    pub fn word(self) -> &'static str
-        ensures { result.now ≡ mode_word self }
-    {
+    /// The modes, in their order.
+    pub const ALL: [Mode; 4] = [Mode::Off, Mode::Scn, Mode::Object, Mode::Order];
+}
+
+impl Word for Mode {
+    ghost use Rattle.replay_history.specs.Mode.{mode_word, all_modes, modes_have_own_words};
+
+    ghost word_of = { mode_word };
+
+    ghost members_of = { all_modes };
+
+    ghost own_words = { modes_have_own_words };
+
+    fn members() -> &'static [Mode] {
+        &Mode::ALL
+    }
+
+    // The mode's word in texts.
+    fn word(self) -> &'static str {
         match self {
             Mode::Off => "off",
             Mode::Scn => "scn",

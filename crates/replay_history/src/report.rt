@@ -1,8 +1,7 @@
 ghost use Rattle.std.specs.Prelude.{◌≡◌};
-ghost use Rattle.replay_history.specs.Class.{class_word};
 ghost use Rattle.replay_history.specs.Report.{clean_report};
 
-use desk_values::List;
+use desk_values::{List, Word};
 use std::alloc::Global;
 
 /// How a replayed reply differs from the captured one: the first that fits, in this order but for `Same`. Oracle's
@@ -44,11 +43,23 @@ impl Class {
         Class::Images,
         Class::Shape,
     ];
+}
 
-    /// The class's word in texts.
-    pub fn word(self) -> &'static str
-        ensures { result.now ≡ class_word self }
-    {
+impl Word for Class {
+    ghost use Rattle.replay_history.specs.Class.{class_word, all_classes, classes_have_own_words};
+
+    ghost word_of = { class_word };
+
+    ghost members_of = { all_classes };
+
+    ghost own_words = { classes_have_own_words };
+
+    fn members() -> &'static [Class] {
+        &Class::ALL
+    }
+
+    // The class's word in texts.
+    fn word(self) -> &'static str {
         match self {
             Class::Same => "same",
             Class::NewError => "new-error",

@@ -1,1 +1,1 @@
-pub mod Mapped
+pub mod Lists

@@ -1,2 +1,3 @@
 pub mod Plain
 pub mod Naming
+pub mod Leaves

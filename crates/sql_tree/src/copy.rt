@@ -2,17 +2,33 @@
 //! frame each.
 
 ghost use Rattle.std.specs.Prelude.{◌≡◌, IfOk, map};
-ghost use Rattle.sql_tree.specs.Plain.{term_of, condition_of, total_of, entry_of, change_of, asked_of, plan_of};
+ghost use Rattle.sql_tree.specs.Plain.{condition_of};
 
 use crate::tree::{Agg, Expr, Input, Items, Key, Setting, Statement};
 use desk_values::{Copied, List, Memory};
-use std::alloc::Global;
 
-impl<N: Copied> Expr<N> {
-    /// An equal expression. `Memory` where memory runs out.
-    pub fn copy(&self, alloc: Global) -> Result<Expr<N>, Memory>
-        ensures { IfOk result (λ copy. term_of copy ≡ term_of self.now) }
-    {
+/// A tree that can be copied where memory allows. Trees are equal where their plain trees are, wherever they lie in
+/// memory.
+pub trait CopiedTree: Drop + Sized {
+    /// The plain trees.
+    ghost Plain: { Type 0 };
+
+    /// The plain tree.
+    ghost view: { Self → Plain };
+
+    /// An equal tree. `Memory` where memory runs out.
+    fn copy(&self) -> Result<Self, Memory>
+        ensures { IfOk result (λ copy. view copy ≡ view self.now) };
+}
+
+impl<N: Copied> CopiedTree for Expr<N> {
+    ghost use Rattle.sql_tree.specs.Plain.{Term as Plainly, term_of as plain};
+
+    ghost Plain = { Plainly N };
+
+    ghost view = { plain };
+
+    fn copy(&self) -> Result<Expr<N>, Memory> {
         match self {
             Expr::Null => Ok(Expr::Null),
             Expr::Int(number) => Ok(Expr::Int(*number)),
@@ -21,63 +37,73 @@ impl<N: Copied> Expr<N> {
             Expr::Column(name) => Ok(Expr::Column(name.copy()?)),
             Expr::RowId => Ok(Expr::RowId),
             Expr::Neg(of) => {
-                let of = of.copy(alloc)?;
-                Ok(Expr::Neg(Box::new(alloc, of)?))
+                let copy = of.copy()?;
+                Ok(Expr::Neg(Box::new(*Box::allocator(of), copy)?))
             }
             Expr::Not(of) => {
-                let of = of.copy(alloc)?;
-                Ok(Expr::Not(Box::new(alloc, of)?))
+                let copy = of.copy()?;
+                Ok(Expr::Not(Box::new(*Box::allocator(of), copy)?))
             }
             Expr::Bin(op, left, right) => {
-                let left = left.copy(alloc)?;
-                let right = right.copy(alloc)?;
+                let alloc = *Box::allocator(left);
+                let left = left.copy()?;
+                let right = right.copy()?;
                 Ok(Expr::Bin(*op, Box::new(alloc, left)?, Box::new(alloc, right)?))
             }
             Expr::IsNull(of) => {
-                let of = of.copy(alloc)?;
-                Ok(Expr::IsNull(Box::new(alloc, of)?))
+                let copy = of.copy()?;
+                Ok(Expr::IsNull(Box::new(*Box::allocator(of), copy)?))
             }
             Expr::NotNull(of) => {
-                let of = of.copy(alloc)?;
-                Ok(Expr::NotNull(Box::new(alloc, of)?))
+                let copy = of.copy()?;
+                Ok(Expr::NotNull(Box::new(*Box::allocator(of), copy)?))
             }
         }
     }
 }
 
-impl<N: Copied> Agg<N> {
-    /// An equal aggregate. `Memory` where memory runs out.
-    pub fn copy(&self, alloc: Global) -> Result<Agg<N>, Memory>
-        ensures { IfOk result (λ copy. total_of copy ≡ total_of self.now) }
-    {
+impl<N: Copied> CopiedTree for Agg<N> {
+    ghost use Rattle.sql_tree.specs.Plain.{Total as Plainly, total_of as plain};
+
+    ghost Plain = { Plainly N };
+
+    ghost view = { plain };
+
+    fn copy(&self) -> Result<Agg<N>, Memory> {
         match self {
             Agg::Count => Ok(Agg::Count),
-            Agg::Sum(of) => Ok(Agg::Sum(of.copy(alloc)?)),
-            Agg::Min(of) => Ok(Agg::Min(of.copy(alloc)?)),
-            Agg::Max(of) => Ok(Agg::Max(of.copy(alloc)?)),
+            Agg::Sum(of) => Ok(Agg::Sum(of.copy()?)),
+            Agg::Min(of) => Ok(Agg::Min(of.copy()?)),
+            Agg::Max(of) => Ok(Agg::Max(of.copy()?)),
         }
     }
 }
 
-impl<N: Copied> Input<N> {
-    /// An equal input. `Memory` where memory runs out.
-    pub fn copy(&self, alloc: Global) -> Result<Input<N>, Memory>
-        ensures { IfOk result (λ copy. entry_of copy ≡ entry_of self.now) }
-    {
+impl<N: Copied> CopiedTree for Input<N> {
+    ghost use Rattle.sql_tree.specs.Plain.{Entry as Plainly, entry_of as plain};
+
+    ghost Plain = { Plainly N };
+
+    ghost view = { plain };
+
+    fn copy(&self) -> Result<Input<N>, Memory> {
         match self {
-            Input::Expr(value) => Ok(Input::Expr(value.copy(alloc)?)),
+            Input::Expr(value) => Ok(Input::Expr(value.copy()?)),
             Input::Next(sequence) => Ok(Input::Next(sequence.copy()?)),
         }
     }
 }
 
-impl<N: Copied> Setting<N> {
-    /// An equal setting. `Memory` where memory runs out.
-    pub fn copy(&self, alloc: Global) -> Result<Setting<N>, Memory>
-        ensures { IfOk result (λ copy. change_of copy ≡ change_of self.now) }
-    {
+impl<N: Copied> CopiedTree for Setting<N> {
+    ghost use Rattle.sql_tree.specs.Plain.{Change as Plainly, change_of as plain};
+
+    ghost Plain = { Plainly N };
+
+    ghost view = { plain };
+
+    fn copy(&self) -> Result<Setting<N>, Memory> {
         let column = self.column.copy()?;
-        let to = self.to.copy(alloc)?;
+        let to = self.to.copy()?;
         Ok(Setting { column, to })
     }
 }
@@ -92,135 +118,84 @@ impl<N: Copied> Copied for Key<N> {
     }
 }
 
-// A part of a statement that is copied as the plain value that it stands for.
-trait CopiedTree: Drop + Sized {
-    /// The plain value.
-    ghost Plain: { Type 0 };
+impl<T: CopiedTree> CopiedTree for List<T> {
+    ghost use Rattle.std.specs.Prelude.{List as Sequence, map as each};
 
-    ghost view: { Self → Plain };
+    ghost Plain = { Sequence T.Plain };
 
-    fn copy_tree(&self, alloc: Global) -> Result<Self, Memory>
-        ensures { IfOk result (λ copy. view copy ≡ view self.now) };
-}
+    ghost view = { each T.view };
 
-impl<N: Copied> CopiedTree for Expr<N> {
-    ghost use Rattle.sql_tree.specs.Plain.{Term as Plainly, term_of as plain};
-
-    ghost Plain = { Plainly N };
-
-    ghost view = { plain };
-
-    fn copy_tree(&self, alloc: Global) -> Result<Expr<N>, Memory> {
-        self.copy(alloc)
+    fn copy(&self) -> Result<List<T>, Memory> {
+        let mut copies = List::new(self.allocator());
+        for tree in self.as_slice() {
+            copies.push(tree.copy()?)?;
+        }
+        Ok(copies)
     }
 }
 
-impl<N: Copied> CopiedTree for Agg<N> {
-    ghost use Rattle.sql_tree.specs.Plain.{Total as Plainly, total_of as plain};
-
-    ghost Plain = { Plainly N };
-
-    ghost view = { plain };
-
-    fn copy_tree(&self, alloc: Global) -> Result<Agg<N>, Memory> {
-        self.copy(alloc)
-    }
-}
-
-impl<N: Copied> CopiedTree for Input<N> {
-    ghost use Rattle.sql_tree.specs.Plain.{Entry as Plainly, entry_of as plain};
-
-    ghost Plain = { Plainly N };
-
-    ghost view = { plain };
-
-    fn copy_tree(&self, alloc: Global) -> Result<Input<N>, Memory> {
-        self.copy(alloc)
-    }
-}
-
-impl<N: Copied> CopiedTree for Setting<N> {
-    ghost use Rattle.sql_tree.specs.Plain.{Change as Plainly, change_of as plain};
-
-    ghost Plain = { Plainly N };
-
-    ghost view = { plain };
-
-    fn copy_tree(&self, alloc: Global) -> Result<Setting<N>, Memory> {
-        self.copy(alloc)
-    }
-}
-
-// Equal parts in the same order.
-fn copy_all<T: CopiedTree>(alloc: Global, trees: &List<T>) -> Result<List<T>, Memory>
-    ensures { IfOk result (λ copies. map T.view copies ≡ map T.view trees.now) }
-{
-    let mut copies = List::new(alloc);
-    for tree in trees.as_slice() {
-        copies.push(tree.copy_tree(alloc)?)?;
-    }
-    Ok(copies)
-}
-
-fn copy_condition<N: Copied>(
-    alloc: Global,
-    condition: &Option<Expr<N>>,
-) -> Result<Option<Expr<N>>, Memory>
+fn copied_condition<N: Copied>(condition: &Option<Expr<N>>) -> Result<Option<Expr<N>>, Memory>
     ensures { IfOk result (λ copy. condition_of copy ≡ condition_of condition.now) }
 {
     match condition {
-        Some(expr) => Ok(Some(expr.copy(alloc)?)),
+        Some(expr) => Ok(Some(expr.copy()?)),
         None => Ok(None),
     }
 }
 
-impl<N: Copied> Items<N> {
-    /// Equal items. `Memory` where memory runs out.
-    pub fn copy(&self, alloc: Global) -> Result<Items<N>, Memory>
-        ensures { IfOk result (λ copy. asked_of copy ≡ asked_of self.now) }
-    {
+impl<N: Copied> CopiedTree for Items<N> {
+    ghost use Rattle.sql_tree.specs.Plain.{Asked as Plainly, asked_of as plain};
+
+    ghost Plain = { Plainly N };
+
+    ghost view = { plain };
+
+    fn copy(&self) -> Result<Items<N>, Memory> {
         match self {
             Items::All => Ok(Items::All),
-            Items::Exprs(exprs) => Ok(Items::Exprs(copy_all(alloc, exprs)?)),
-            Items::Aggs(aggs) => Ok(Items::Aggs(copy_all(alloc, aggs)?)),
+            Items::Exprs(exprs) => Ok(Items::Exprs(exprs.copy()?)),
+            Items::Aggs(aggs) => Ok(Items::Aggs(aggs.copy()?)),
         }
     }
 }
 
-impl<N: Copied> Statement<N> {
-    /// An equal statement. `Memory` where memory runs out.
-    pub fn copy(&self, alloc: Global) -> Result<Statement<N>, Memory>
-        ensures { IfOk result (λ copy. plan_of copy ≡ plan_of self.now) }
-    {
+impl<N: Copied> CopiedTree for Statement<N> {
+    ghost use Rattle.sql_tree.specs.Plain.{Plan as Plainly, plan_of as plain};
+
+    ghost Plain = { Plainly N };
+
+    ghost view = { plain };
+
+    fn copy(&self) -> Result<Statement<N>, Memory> {
         match self {
             Statement::Select(table, items, condition, keys, held) => {
                 let table = table.copy()?;
-                let items = items.copy(alloc)?;
-                let condition = copy_condition(alloc, condition)?;
+                let items = items.copy()?;
+                let condition = copied_condition(condition)?;
                 let keys = keys.copy()?;
                 Ok(Statement::Select(table, items, condition, keys, *held))
             }
             Statement::Next(sequence) => Ok(Statement::Next(sequence.copy()?)),
             Statement::Insert(table, None, inputs) => {
                 let table = table.copy()?;
-                let inputs = copy_all(alloc, inputs)?;
+                let inputs = inputs.copy()?;
                 Ok(Statement::Insert(table, None, inputs))
             }
-            Statement::Insert(table, Some(names), inputs) => {
+            Statement::Insert(table, Some(columns), inputs) => {
                 let table = table.copy()?;
-                let names = names.copy()?;
-                let inputs = copy_all(alloc, inputs)?;
-                Ok(Statement::Insert(table, Some(names), inputs))
+                let columns = columns.copy()?;
+                let inputs = inputs.copy()?;
+                Ok(Statement::Insert(table, Some(columns), inputs))
             }
-            Statement::Update(table, sets, condition) => {
+            Statement::Update(table, settings, condition) => {
                 let table = table.copy()?;
-                let sets = copy_all(alloc, sets)?;
-                let condition = copy_condition(alloc, condition)?;
-                Ok(Statement::Update(table, sets, condition))
+                let settings = settings.copy()?;
+                let condition = copied_condition(condition)?;
+                Ok(Statement::Update(table, settings, condition))
             }
             Statement::Delete(table, condition) => {
                 let table = table.copy()?;
-                let condition = copy_condition(alloc, condition)?;
+                let condition = copied_condition(condition)?;
                 Ok(Statement::Delete(table, condition))
             }
             Statement::Commit => Ok(Statement::Commit),

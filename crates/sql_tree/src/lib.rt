@@ -5,8 +5,11 @@
 #![tactic(auto)]
 
 mod copy;
+mod leaves;
 mod rename;
 mod tree;
 
+pub use copy::CopiedTree;
+pub use leaves::LeafTest;
 pub use rename::Renames;
 pub use tree::{Agg, Expr, Input, Items, Key, Op, Setting, Statement};

@@ -240,7 +240,7 @@ fn renamed_named<N, R: Renames<N>>(
     }
 }
 
-#[tactic(auto, using(crate::proofs::Mapped::mapped_twice))]
+#[tactic(auto, using(crate::proofs::Lists::mapped_twice))]
 fn renamed_settings<N, R: Renames<N>>(
     alloc: Global,
     by: &R,
@@ -252,7 +252,7 @@ fn renamed_settings<N, R: Renames<N>>(
 }
 
 impl<N> Items<N> {
-    #[tactic(auto, using(crate::proofs::Mapped::mapped_twice))]
+    #[tactic(auto, using(crate::proofs::Lists::mapped_twice))]
     fn renamed<R: Renames<N>>(&self, alloc: Global, by: &R) -> Result<Items<R::To>, Memory>
         ensures { IfOk result (λ items. asked_of items ≡ map_asked (R.naming by.now).column (asked_of self.now)) }
     {
@@ -272,7 +272,7 @@ impl<N> Items<N> {
 
 impl<N> Statement<N> {
     /// The statement with other names.
-    #[tactic(auto, using(crate::proofs::Mapped::mapped_twice))]
+    #[tactic(auto, using(crate::proofs::Lists::mapped_twice))]
     pub fn renamed<R: Renames<N>>(&self, alloc: Global, by: &R) -> Result<Statement<R::To>, Memory>
         ensures { IfOk result (λ renamed. plan_of renamed ≡ map_plan (R.naming by.now) (plan_of self.now)) }
     {

@@ -1,5 +1,5 @@
 use Rattle.desk_values.proofs.Readers.{reads_ok, reads_only}
-use Rattle.desk_values.proofs.CallTexts.{call_reader}
+use Rattle.capture_format.proofs.CallTexts.{call_reader}
 use Rattle.capture_format.proofs.call.read_call.Goals as goal
 
 pub returns-clause-ok : goal.returns-clause-ok

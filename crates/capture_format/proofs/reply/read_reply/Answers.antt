@@ -1,5 +1,5 @@
 use Rattle.desk_values.proofs.Readers.{reads_ok, reads_only}
-use Rattle.desk_values.proofs.ReplyTexts.{reply_reader}
+use Rattle.capture_format.proofs.ReplyTexts.{reply_reader}
 use Rattle.capture_format.proofs.reply.read_reply.Goals as goal
 
 pub returns-clause-ok : goal.returns-clause-ok

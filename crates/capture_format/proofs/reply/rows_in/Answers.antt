@@ -3,9 +3,10 @@ use Rattle.std.proofs.lemmas.Bool.{eqb-true, eqb-false}
 use Rattle.std.proofs.lemmas.Result.{err_from_is_err_and}
 use Rattle.desk_values.specs.declared.value.Value.{Value}
 use Rattle.desk_values.specs.Fields.{pieces}
-use Rattle.desk_values.specs.Reading.{Reads, filled_of, open_rows_of}
+use Rattle.desk_values.specs.Reading.{Reads}
+use Rattle.capture_format.specs.ReplyReading.{filled_of, open_rows_of}
 use Rattle.desk_values.proofs.Cuts.{cut_at_parts, cut_front}
-use Rattle.desk_values.proofs.ReplyTexts.{rows_more, rows_bad, rows_end, rows_fault}
+use Rattle.capture_format.proofs.ReplyTexts.{rows_more, rows_bad, rows_end, rows_fault}
 use Rattle.capture_format.proofs.reply.rows_in.Goals as goal
 
 pub returns-in_err-nonempty_values : goal.returns-in_err-nonempty_values

@@ -1,6 +1,6 @@
 use Rattle.std.proofs.Common.{◌≡◌, length}
 use Rattle.desk_values.specs.Fields.{pieces}
-use Rattle.desk_values.specs.Reading.{open_rows_of}
+use Rattle.capture_format.specs.ReplyReading.{open_rows_of}
 use Rattle.desk_values.proofs.Cuts.{onto_items}
 use Rattle.capture_format.proofs.reply.rows_in.Given as goal
 

@@ -4,17 +4,19 @@ use Rattle.desk_schema.specs.declared.line.StartLine.{StartLine}
 use Rattle.desk_schema.specs.declared.line.StartLine.TheVariants.{NextRow}
 use Rattle.desk_schema.specs.Rules.{MayFollow}
 use Rattle.desk_schema.specs.Start.{StartView}
+use Rattle.desk_schema.specs.State.{State}
 use Rattle.capture_format.specs.declared.form.FormErr.TheVariants.{NotYet}
-use Rattle.capture_format.specs.StartSteps.{next_line_of, StartSoFar}
+use Rattle.capture_format.specs.StartSteps.{next_line_of, DraftSoFar}
 use Rattle.capture_format.proofs.Failures.{next_failed, rule_failed, same_error}
-use Rattle.capture_format.proofs.StartLoop.{so_far_more, rule_broken, no_next, open_within, last_place_more, lines_more, next_shorter, not_added}
+use Rattle.capture_format.proofs.StartLoop.{draft_more, draft_broken, draft_open, no_next, next_shorter, not_added}
 use Rattle.capture_format.proofs.start.read_declarations.Goals as goal
 
 pub returns-in_err-line-clause-not_yet : goal.returns-in_err-line-clause-not_yet
 returns-in_err-line-clause-not_yet c = λ fails.
     let p = err_from_is_err_and c.from_residual-in_err-line.result c.from_residual-in_err-line.ensures.1 in
     let none = next_failed c.from_residual-in_err-line.result c.in_err-line.field-0.0 (next_line_of c.lines.rest.now) (p.1 ∙ ap Err p.2) c.in_err-line.ensures fails in
-    no_next c.args.bytes.now c.lines.draft c.lines.rest.now c.lines.invariant.so_far none (open_within c.lines.draft (let to = c.lines.invariant.under_way.to in omega arith))
+    let draft = c.lines.invariant.so_far in
+    no_next c.args.bytes.now draft.before c.lines.rest.now draft.so_far none (draft_open c.args.bytes.now c.lines.draft c.lines.rest.now draft (let to = c.lines.invariant.under_way.to in omega arith))
 
 pub returns-in_err-finish-clause-not_yet : goal.returns-in_err-finish-clause-not_yet
 returns-in_err-finish-clause-not_yet c = λ fails.
@@ -23,20 +25,15 @@ returns-in_err-finish-clause-not_yet c = λ fails.
     let next : next_line_of c.lines.rest.now ≡ Some (NextRow row, after) = c.in_ok-line.ensures ∙ ap (λ (l : StartLine). Some (l, after)) c.in-NextRow.is in
     let p = err_from_is_err_and c.from_residual-in_err-finish.result c.from_residual-in_err-finish.ensures.1 in
     let broken = rule_failed StartView c.from_residual-in_err-finish.result c.in_err-finish.field-0.0 (MayFollow c.lines.draft (NextRow row)) (p.1 ∙ ap Err p.2) c.in_err-finish.ensures.rule fails in
-    rule_broken c.args.bytes.now c.lines.draft c.lines.rest.now (NextRow row, after) c.lines.invariant.so_far next broken
+    draft_broken c.args.bytes.now c.lines.draft c.lines.rest.now (NextRow row, after) c.lines.invariant.so_far next broken
 
 pub returns-in-NextRow-clause-ok : goal.returns-in-NextRow-clause-ok
 returns-in-NextRow-clause-ok c =
     let after = c.in_ok-line.after.now in
     let row = c.in-NextRow.row in
     let next : next_line_of c.lines.rest.now ≡ Some (NextRow row, after) = c.in_ok-line.ensures ∙ ap (λ (l : StartLine). Some (l, after)) c.in-NextRow.is in
-    record {
-      before = c.lines.draft ++ NextRow row ∷ [];
-      so_far = so_far_more c.args.bytes.now c.lines.draft c.lines.rest.now (NextRow row, after) c.lines.invariant.so_far next;
-      are_lines = lines_more c.lines.draft (NextRow row) c.in_ok-finish.ensures.lines c.in_ok-finish.ensures.rule;
-      last = last_place_more c.lines.draft (NextRow row);
-      start_is = c.in_ok-finish.ensures.ok;
-    }
+    let more = draft_more c.args.bytes.now c.lines.draft c.lines.rest.now (NextRow row, after) c.lines.invariant.so_far next c.in_ok-finish.ensures.rule in
+    record { before = more.before; so_far = more.so_far; are_lines = more.are_lines; last = ap (λ (s : State). s.last) more.leads; start_is = c.in_ok-finish.ensures.ok ∙ ap (λ (s : State). s.start) (sym more.leads) }
 
 pub returns-in_err-add_line : goal.returns-in_err-add_line
 returns-in_err-add_line c =
@@ -44,7 +41,7 @@ returns-in_err-add_line c =
     rw p.1 (record {
       ok = tt;
       not_yet = λ fails.
-          rule_broken c.args.bytes.now c.lines.draft c.lines.rest.now (c.in_ok-line.line, c.in_ok-line.after.now) c.lines.invariant.so_far c.in_ok-line.ensures
+          draft_broken c.args.bytes.now c.lines.draft c.lines.rest.now (c.in_ok-line.line, c.in_ok-line.after.now) c.lines.invariant.so_far c.in_ok-line.ensures
           (not_added c.lines.draft c.in_ok-line.line (c.in_err-add_line.ensures.not_yet (same_error _ c.in_err-add_line.field-0.0 NotYet (ap Err (sym p.2) ∙ fails))) c.in_default.not-NextRow);
     })
 
@@ -53,9 +50,9 @@ lines-smaller c = next_shorter c.lines.rest.now (c.in_ok-line.line, c.in_ok-line
 
 pub lines-preserved : goal.lines-preserved
 lines-preserved c =
-    let so_far = so_far_more c.args.bytes.now c.lines.draft c.lines.rest.now (c.in_ok-line.line, c.in_ok-line.after.now) c.lines.invariant.so_far c.in_ok-line.ensures in
     let added = c.in_ok-add_line.ensures in
+    let so_far = draft_more c.args.bytes.now c.lines.draft c.lines.rest.now (c.in_ok-line.line, c.in_ok-line.after.now) c.lines.invariant.so_far c.in_ok-line.ensures added.rule in
     record {
-      so_far = subst (λ (ls : List StartLine). StartSoFar c.args.bytes.now ls c.in_ok-line.after.now) (sym added.ok) so_far;
+      so_far = subst (λ (s : State). DraftSoFar c.args.bytes.now s c.in_ok-line.after.now) (sym added.ok) so_far;
       under_way = added.under_way;
     }

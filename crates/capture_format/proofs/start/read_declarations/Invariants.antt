@@ -1,10 +1,10 @@
 use Rattle.std.proofs.Common.{length}
-use Rattle.capture_format.specs.StartSteps.{StartSoFar, IsUnderWay}
+use Rattle.capture_format.specs.StartSteps.{DraftSoFar, IsUnderWay}
 use Rattle.capture_format.proofs.start.read_declarations.Given as goal
 
 abbrev pub invariant-lines : goal.invariant-lines
 invariant-lines l = record {
-  so_far : StartSoFar l.bytes l.draft l.rest;
+  so_far : DraftSoFar l.bytes l.draft l.rest;
   under_way : IsUnderWay l.draft;
 }
 

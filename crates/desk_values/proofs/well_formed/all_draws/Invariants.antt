@@ -2,7 +2,7 @@ use Rattle.std.proofs.Common.{◌≡◌, drop}
 use Rattle.std.specs.Prelude.{◌↔◌}
 use Rattle.std.specs.List.{AllByRecursion}
 use Rattle.desk_values.specs.Good.{IsGoodDraw}
-use Rattle.desk_values.specs.Reading.{all_draws}
+use Rattle.desk_values.specs.Good.{all_draws}
 use Rattle.desk_values.proofs.well_formed.all_draws.Given as goal
 
 abbrev pub invariant-loop-value : goal.invariant-loop-value

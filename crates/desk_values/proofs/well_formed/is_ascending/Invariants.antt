@@ -1,5 +1,5 @@
 use Rattle.std.proofs.Common.{◌≡◌, drop}
-use Rattle.desk_values.specs.Reading.{ascend_above, rows_ascend}
+use Rattle.desk_values.specs.Good.{ascend_above, rows_ascend}
 use Rattle.desk_values.proofs.well_formed.is_ascending.Given as goal
 
 abbrev pub invariant-loop-image : goal.invariant-loop-image

@@ -1,11 +1,11 @@
-use Rattle.std.proofs.Common.{Err, ap}
+use Rattle.std.proofs.Common.{Err, ap, ◌∙◌}
 use Rattle.std.specs.FinMap.{get}
 use Rattle.std.proofs.lemmas.Result.{err_from_is_err_and}
 use Rattle.desk_values.specs.Room.{Room}
 use Rattle.desk_values.specs.declared.capture.Captured.{Captured}
 use Rattle.desk_files.specs.Outside.{Told}
-use Rattle.replay_cli.specs.Folder.{FileSays, ReadsStart, Holds, AfterWrites, CutShort}
-use Rattle.replay_cli.specs.Texts.{texts_in}
+use Rattle.desk_files.specs.Writes.{CutShort, WrittenSoFar}
+use Rattle.replay_cli.specs.Folder.{FileSays, ReadsStart, Holds}
 use Rattle.replay_cli.specs.Words.{start_name, session_name}
 use Rattle.replay_cli.proofs.Running.{ReadsRoom, session_failed, all_says, part_says, error_says}
 use Rattle.replay_cli.proofs.run.run.Goals as goal
@@ -30,12 +30,12 @@ returns-in_err-write_texts-clause-says g c =
     let start : Told c0 (λ before. Holds ReadsStart (get before (start_name capture)) c.in_ok-start.start) = c.in_ok-start.ensures.says in
     let session : Told c1 (λ before. Holds ReadsRoom (get before (session_name capture)) c.in_ok-calls.calls) = c.in_ok-calls.ensures.says in
     let p = err_from_is_err_and c.from_residual-in_err-write_texts.result c.from_residual-in_err-write_texts.ensures.1 in
-    let part = part_says CutShort c0 c1 c2 (g.F.Files.content c.write_texts.new.files) c.args.words.now capture c.in-Some.folders.out.now c.in_ok-start.start c.in_ok-calls.calls c.as_slice.result.now
-    c.in_ok-replayed.replayed.history.items c.in_ok-replayed.replayed.tables c.len-count.result (texts_in c.in_ok-texts.texts) c.in-Some.ensures.some start c.in_ok-start.ensures.content session c.in_ok-calls.ensures.content
-    c.as_slice.ensures c.in_ok-replayed.ensures c.len-count.ensures c.in_ok-texts.ensures c.in_err-write_texts.ensures.cut in
-    rw (p.1, p.2) (error_says c0 (g.F.Files.content c.write_texts.new.files) c.args.words.now c.in_err-write_texts.field-0.0 c.in_err-write_texts.ensures.cause part (λ is. part_says AfterWrites c0 c1 c2 (g.F.Files.content c.write_texts.new.files) c.args.words.now capture c.in-Some.folders.out.now c.in_ok-start.start c.in_ok-calls.calls c.as_slice.result.now
-    c.in_ok-replayed.replayed.history.items c.in_ok-replayed.replayed.tables c.len-count.result (texts_in c.in_ok-texts.texts) c.in-Some.ensures.some start c.in_ok-start.ensures.content session c.in_ok-calls.ensures.content
-    c.as_slice.ensures c.in_ok-replayed.ensures c.len-count.ensures c.in_ok-texts.ensures (c.in_err-write_texts.ensures.memory (ap Err is))))
+    let part = λ cut. part_says CutShort c0 c1 c2 (g.F.Files.content c.write_texts.new.files) c.args.words.now capture c.in-Some.folders.out.now c.in_ok-start.start c.in_ok-calls.calls c.as_slice.result.now
+    c.in_ok-replayed.replayed.history.items c.in_ok-replayed.replayed.tables c.len-count.result c.as_slice-2.result.now c.in-Some.ensures.some start c.in_ok-start.ensures.content session c.in_ok-calls.ensures.content
+    c.as_slice.ensures c.in_ok-replayed.ensures c.len-count.ensures (c.as_slice-2.ensures ∙ c.in_ok-writes.ensures) (c.in_err-write_texts.ensures.cut (ap Err cut)) in
+    rw (p.1, p.2) (error_says c0 (g.F.Files.content c.write_texts.new.files) c.args.words.now c.in_err-write_texts.field-0.0 c.in_err-write_texts.ensures.cause part (λ is. part_says WrittenSoFar c0 c1 c2 (g.F.Files.content c.write_texts.new.files) c.args.words.now capture c.in-Some.folders.out.now c.in_ok-start.start c.in_ok-calls.calls c.as_slice.result.now
+    c.in_ok-replayed.replayed.history.items c.in_ok-replayed.replayed.tables c.len-count.result c.as_slice-2.result.now c.in-Some.ensures.some start c.in_ok-start.ensures.content session c.in_ok-calls.ensures.content
+    c.as_slice.ensures c.in_ok-replayed.ensures c.len-count.ensures (c.as_slice-2.ensures ∙ c.in_ok-writes.ensures) (c.in_err-write_texts.ensures.memory (ap Err is))))
 
 pub returns-clause-says : goal.returns-clause-says
 returns-clause-says g c =
@@ -46,5 +46,5 @@ returns-clause-says g c =
     let start : Told c0 (λ before. Holds ReadsStart (get before (start_name capture)) c.in_ok-start.start) = c.in_ok-start.ensures.says in
     let session : Told c1 (λ before. Holds ReadsRoom (get before (session_name capture)) c.in_ok-calls.calls) = c.in_ok-calls.ensures.says in
     all_says c0 c1 c2 (g.F.Files.content c.write_texts.new.files) c.args.words.now capture c.in-Some.folders.out.now c.in_ok-start.start c.in_ok-calls.calls c.as_slice.result.now
-    c.in_ok-replayed.replayed.history.items c.in_ok-replayed.replayed.tables c.len-count.result (texts_in c.in_ok-texts.texts) c.in-Some.ensures.some start c.in_ok-start.ensures.content session c.in_ok-calls.ensures.content
-    c.as_slice.ensures c.in_ok-replayed.ensures c.len-count.ensures c.in_ok-texts.ensures c.in_ok-write_texts.ensures.ok
+    c.in_ok-replayed.replayed.history.items c.in_ok-replayed.replayed.tables c.len-count.result c.as_slice-2.result.now c.in-Some.ensures.some start c.in_ok-start.ensures.content session c.in_ok-calls.ensures.content
+    c.as_slice.ensures c.in_ok-replayed.ensures c.len-count.ensures (c.as_slice-2.ensures ∙ c.in_ok-writes.ensures) c.in_ok-write_texts.ensures.ok

@@ -1,38 +1,7 @@
+use Rattle.std.proofs.Common.{rules}
 use Rattle.desk_schema.specs.declared.line.StartLine.TheVariants.{Table}
-use Rattle.desk_schema.specs.Rules.{MayFollow}
-use Rattle.std.proofs.Common.{◌∷◌, [], ◌++◌, List, ℕ, ap, ◌∙◌, refl}
-use Rattle.std.proofs.lemmas.Bool.{false≢true}
-use Rattle.desk_schema.specs.Last.{place_of_last}
-use Rattle.desk_schema.proofs.Drafting.{drafted, rule_of_table, grown_table}
-use Rattle.desk_schema.proofs.Judging.{judged_memory}
+use Rattle.desk_schema.proofs.Drafting.{grown}
 use Rattle.desk_schema.proofs.draft.Draft.add_table.Goals as goal
 
-pub returns-then-not-may_add_table-clause-rule : goal.returns-then-not-may_add_table-clause-rule
-returns-then-not-may_add_table-clause-rule c follows =
-    let rule = rule_of_table c.self.inside.level c.self.inside.sequences.items c.self.inside.next_values.items c.self.inside.services c.self.inside.tables.items c.self.inside.rows.items c.args.self.now c.self.invariant.sound c.self.invariant.lines c.self.view_is (place_of_last c.last.result) c.as_slice.result.now c.args.name.now c.last.ensures c.as_slice.ensures.value in
-    false≢true (c.if-not-may_add_table.ensures.1 (rule.1 follows))
-
-pub returns-clause-rule : goal.returns-clause-rule
-returns-clause-rule c =
-    let rule = rule_of_table c.self.inside.level c.self.inside.sequences.items c.self.inside.next_values.items c.self.inside.services c.self.inside.tables.items c.self.inside.rows.items c.args.self.now c.self.invariant.sound c.self.invariant.lines c.self.view_is (place_of_last c.last.result) c.as_slice.result.now c.args.name.now c.last.ensures c.as_slice.ensures.value in
-    rule.0 (c.if-not-may_add_table.ensures.0 refl)
-
-pub returns-in_err-name-clause-rule : goal.returns-in_err-name-clause-rule
-returns-in_err-name-clause-rule c =
-    let rule = rule_of_table c.self.inside.level c.self.inside.sequences.items c.self.inside.next_values.items c.self.inside.services c.self.inside.tables.items c.self.inside.rows.items c.args.self.now c.self.invariant.sound c.self.invariant.lines c.self.view_is (place_of_last c.last.result) c.as_slice.result.now c.args.name.now c.last.ensures c.as_slice.ensures.value in
-    judged_memory c.from_residual.result (MayFollow c.args.self.now (Table c.args.name.now)) c.from_residual.ensures.1 (rule.0 (c.if-not-may_add_table.ensures.0 refl))
-
-pub returns-in_err-push-clause-rule : goal.returns-in_err-push-clause-rule
-returns-in_err-push-clause-rule c =
-    let rule = rule_of_table c.self.inside.level c.self.inside.sequences.items c.self.inside.next_values.items c.self.inside.services c.self.inside.tables.items c.self.inside.rows.items c.args.self.now c.self.invariant.sound c.self.invariant.lines c.self.view_is (place_of_last c.last.result) c.as_slice.result.now c.args.name.now c.last.ensures c.as_slice.ensures.value in
-    judged_memory c.from_residual-in_err-push.result (MayFollow c.args.self.now (Table c.args.name.now)) c.from_residual-in_err-push.ensures.1 (rule.0 (c.if-not-may_add_table.ensures.0 refl))
-
 pub invariant_of-self-2 : goal.invariant_of-self-2
-invariant_of-self-2 c =
-    drafted c.self.inside.keys (grown_table c.self.inside.level c.self.inside.sequences.items c.self.inside.next_values.items c.self.inside.services c.self.inside.tables.items c.self.inside.rows.items c.args.self.now c.self.invariant.sound c.self.invariant.lines c.self.view_is c.args.name.now c.new-columns.result c.push.new.self.items (returns-clause-rule c) c.new-columns.ensures
-    (c.in_ok-push.ensures.items ∙ ap (λ (name : List ℕ). c.self.inside.tables.items ++ record { name = name; columns = c.new-columns.result } ∷ []) c.in_ok-name.ensures)) c.self.invariant.are_keys
-
-pub returns-clause-ok : goal.returns-clause-ok
-returns-clause-ok c =
-    (grown_table c.self.inside.level c.self.inside.sequences.items c.self.inside.next_values.items c.self.inside.services c.self.inside.tables.items c.self.inside.rows.items c.args.self.now c.self.invariant.sound c.self.invariant.lines c.self.view_is c.args.name.now c.new-columns.result c.push.new.self.items (returns-clause-rule c) c.new-columns.ensures
-    (c.in_ok-push.ensures.items ∙ ap (λ (name : List ℕ). c.self.inside.tables.items ++ record { name = name; columns = c.new-columns.result } ∷ []) c.in_ok-name.ensures)).grown
+invariant_of-self-2 c = grown c.self.view_is c.self.invariant (Table c.args.name.now) (search rules) (search rules) c.self.invariant.are_keys

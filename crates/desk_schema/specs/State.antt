@@ -1,0 +1,86 @@
+-- What the lines of a start file have declared so far.
+use Rattle.std.specs.Prelude.{ℕ, List, [], ◌∷◌, ◌++◌, Some}
+use Rattle.std.specs.List.{fold}
+use Rattle.desk_values.specs.declared.value.Image.{Image}
+use Rattle.desk_schema.specs.declared.line.StartLine.{StartLine}
+use Rattle.desk_schema.specs.declared.line.StartLine.TheVariants.{Head, Level as LevelLine, Seq as SeqLine, Service as ServiceLine, Table as TableLine, Column as ColumnLine, Row as RowLine, NextRow, Sessions, End}
+use Rattle.desk_schema.specs.declared.schema.Service.{Service}
+use Rattle.desk_schema.specs.declared.schema.Table.{Table}
+use Rattle.desk_schema.specs.declared.schema.Column.{Column}
+use Rattle.desk_schema.specs.Schema.{SchemaView}
+use Rattle.desk_schema.specs.Line.{with_number}
+use Rattle.desk_schema.specs.Start.{StartView}
+
+pub record State : Type 0 where
+  -- the place of the last line in the order of a file, 0 before the first
+  pub last : ℕ
+  pub start : StartView
+  pub sessions : ℕ
+
+-- the place of each kind of line in the order of a file
+abbrev pub place : StartLine → ℕ
+place Head = 1
+place (LevelLine level) = 2
+place (SeqLine name next) = 3
+place (ServiceLine name rights) = 4
+place (TableLine name) = 5
+place (ColumnLine name kind not_null) = 6
+place (RowLine row table values) = 7
+place (NextRow row) = 8
+place (Sessions count) = 9
+place End = 10
+
+-- before the first line
+abbrev pub nothing : State
+nothing = record { last = 0; start = record { schema = record { level = 0; sequences = []; services = []; tables = [] }; rows = []; next_row = 0; next_values = [] }; sessions = 0 }
+
+-- the last table with one more column
+abbrev pub with_column : List Table → Column → List Table
+with_column [] column = []
+with_column (table ∷ []) column = record { name = table.name; columns = table.columns ++ column ∷ [] } ∷ []
+with_column (table ∷ next ∷ tables) column = table ∷ with_column (next ∷ tables) column
+
+-- a schema with what a line declares
+abbrev pub schema_with : SchemaView → StartLine → SchemaView
+schema_with schema (LevelLine level) = record schema { level = level }
+schema_with schema (SeqLine name next) = record schema { sequences = schema.sequences ++ name ∷ [] }
+schema_with schema (ServiceLine name rights) = record schema { services = schema.services ++ record { name = name; rights = rights } ∷ [] }
+schema_with schema (TableLine name) = record schema { tables = schema.tables ++ record { name = name; columns = [] } ∷ [] }
+schema_with schema (ColumnLine name kind not_null) = record schema { tables = with_column schema.tables (record { name = name; kind = with_number schema.sequences kind; not_null = not_null }) }
+schema_with schema other = schema
+
+abbrev pub next_values_with : List ℕ → StartLine → List ℕ
+next_values_with nexts (SeqLine name next) = nexts ++ next ∷ []
+next_values_with nexts other = nexts
+
+abbrev pub rows_with : List Image → StartLine → List Image
+rows_with rows (RowLine row table values) = rows ++ record { row = row; table = table; left = Some values } ∷ []
+rows_with rows other = rows
+
+abbrev pub next_row_with : ℕ → StartLine → ℕ
+next_row_with next (NextRow row) = row
+next_row_with next other = next
+
+abbrev pub sessions_with : ℕ → StartLine → ℕ
+sessions_with sessions (Sessions count) = count
+sessions_with sessions other = sessions
+
+-- a start with what a line declares
+abbrev pub start_with : StartView → StartLine → StartView
+start_with start line = record {
+  schema = schema_with start.schema line;
+  rows = rows_with start.rows line;
+  next_row = next_row_with start.next_row line;
+  next_values = next_values_with start.next_values line;
+}
+
+-- the state with one more line
+abbrev pub added : State → StartLine → State
+added state line = record { last = place line; start = start_with state.start line; sessions = sessions_with state.sessions line }
+
+-- the state after lines
+abbrev pub state_after : State → List StartLine → State
+state_after state lines = fold added state lines
+
+abbrev pub state_of : List StartLine → State
+state_of lines = state_after nothing lines

@@ -1,6 +1,0 @@
-use Rattle.desk_values.proofs.Readers.{one_text}
-use Rattle.desk_values.proofs.CallTexts.{call_reader}
-use Rattle.desk_values.proofs.laws.one_call_text.Goals as goal
-
-pub returns : goal.returns
-returns c = one_text call_reader
