@@ -18,11 +18,11 @@ use Rattle.desk_values.specs.declared.fault.Fault.{Fault}
 use Rattle.desk_values.specs.Comparison.{text_order, value_order, without_trailing_spaces}
 use Rattle.sql_eval.specs.declared.totals.Extreme.{Extreme}
 use Rattle.sql_eval.specs.declared.totals.Extreme.TheVariants.{Least, Greatest}
-use Rattle.sql_eval.specs.Faults.{any_fault, divides, overflows, told}
+use Rattle.sql_eval.specs.Faults.{any_fault, divides, overflows, told, unless_told}
 use Rattle.sql_eval.specs.Moved.{Moved}
 use Rattle.sql_tree.specs.Plain.{Term}
 use Rattle.sql_tree.specs.Plain as total
-use Rattle.sql_eval.specs.Totals.{extreme_of, first_of, first_value, members, number_in, number_order, over, part_in, sum_of, sum_value, text_in, tied_order, total_over, unless_told}
+use Rattle.sql_eval.specs.Totals.{extreme_of, first_of, first_value, members, number_in, number_order, over, part_in, sum_of, sum_value, text_in, tied_order, total_over}
 use Rattle.sql_eval.specs.TotalLaws.{IsBeyondAll, IsExtreme, MaxIsGreatest, MinIsLeast, TotalIgnoresOrder, beyond_all, mixed, nothing}
 use Rattle.sql_eval.proofs.Moved.{moved_any, moved_chosen, moved_length, moved_reduce, sums_exchange}
 use Rattle.sql_eval.proofs.FirstOf.{IsExact, StandsFirst, first_exchanges, head_in, in_cases, not_in_none, reduced_first, tail_in}
