@@ -3,7 +3,7 @@ use Rattle.std.proofs.Common.{◌≡◌, ℕ, ◌+◌, ◌<◌, ◌≤◌, List,
 use denote.Ref.{Bor}
 use Rattle.desk_values.specs.declared.value.Image.{Image}
 use Rattle.std.specs.Prelude.{Bool, true, false, ◌||◌, Option, None, Some, Result, Ok, Err}
-use Rattle.std.specs.List.{list_any, filter_map, cons_option, fold, reduce}
+use Rattle.std.specs.List.{list_any, filter_map, cons_option, reduce}
 use Rattle.std.specs.Result.{result_ok}
 use Rattle.desk_values.specs.declared.value.Value.{Value}
 use Rattle.desk_values.specs.declared.fault.Fault.{Fault}

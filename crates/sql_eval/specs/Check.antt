@@ -1,5 +1,5 @@
 -- The faults that the checks find in a statement, each told by the names and leaves that stand in it, and their order.
-use Rattle.std.specs.Prelude.{ℕ, Bool, true, false, ◌||◌, not, nat_eq, nat_lt, List, [], ◌∷◌, length, map, Option, None, Some, Result, Ok, Err}
+use Rattle.std.specs.Prelude.{ℕ, Bool, true, false, ◌||◌, not, nat_eq, nat_lt, List, [], ◌∷◌, length, map, Option, None, Some, Result, Ok}
 use Rattle.std.specs.Option.{unwrap_or}
 use Rattle.std.specs.List.{filter_map, find, list_any}
 use Rattle.desk_values.specs.declared.value.Value.{Value}

@@ -1,5 +1,5 @@
 -- What COUNT, SUM, MIN and MAX give for the rows that match.
-use Rattle.std.specs.Prelude.{ℕ, ℤ, pos, ◌+ℤ◌, if◌then◌else◌, List, [], length, map, Option, None, Some, Result, Ok, Err}
+use Rattle.std.specs.Prelude.{ℕ, ℤ, pos, ◌+ℤ◌, if◌then◌else◌, List, [], length, map, Option, None, Some, Result, Ok}
 use Rattle.std.specs.Option.{unwrap_or}
 use Rattle.std.specs.Ordering.{nat_cmp, int_cmp, is_gt, then_cmp, flip_args}
 use Rattle.std.specs.Cmp.Lexicographic.{slice_cmp}
