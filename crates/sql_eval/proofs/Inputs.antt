@@ -3,7 +3,7 @@ use Rattle.std.proofs.Common.{◌≡◌, ◌<◌, ℕ, List, [], ◌∷◌, leng
 use Rattle.std.specs.Prelude.{false, map, Option}
 use Rattle.desk_values.specs.declared.value.Value.{Value}
 use Rattle.desk_schema.specs.declared.schema.Column.{Column}
-use Rattle.sql_eval.specs.declared.kind.PartKind.{PartKind}
+use Rattle.sql_eval.specs.declared.part_kind.PartKind.{PartKind}
 use Rattle.sql_tree.specs.Plain.{Entry}
 use Rattle.sql_eval.specs.Kinds.{are_inputs}
 

@@ -1,15 +1,12 @@
 -- The order of items does not matter to what is made of all of them.
-use Rattle.std.proofs.Common.{◌≡◌, ℕ, ◌+◌, suc, List, [], ◌∷◌, length, refl, ap, sym, ◌∙◌, subst}
-use Rattle.std.specs.Prelude.{Bool, true, false, ◌||◌, Option, None, Some, Result, ℤ, ◌+ℤ◌}
+use Rattle.std.proofs.Common.{◌≡◌, suc, List, [], ◌∷◌, length, refl, ap, sym, ◌∙◌}
+use Rattle.std.specs.Prelude.{Bool, true, false, ◌||◌, Option, None, Some, ◌+ℤ◌}
 use Rattle.std.specs.List.{list_any, filter_map, cons_option, fold, reduce}
-use Rattle.std.specs.Ordering.{is_gt}
 use Rattle.std.specs.Cmp.{IsTotalOrder}
-use Rattle.std.proofs.lemmas.Cmp.{upto}
 use Rattle.std.specs.declared.cmp.Ordering.{Ordering}
-use Rattle.std.specs.declared.cmp.Ordering.TheVariants.{Less, Equal, Greater}
+use Rattle.std.specs.declared.cmp.Ordering.TheVariants.{Equal}
 use Rattle.std.proofs.Math.IntN.{+ℤ_assoc, +ℤ_comm}
 use Rattle.sql_eval.specs.Moved.{Moved, none, more, swapped, along}
-use Rattle.sql_eval.specs.Totals.{first_of}
 
 pub moved_length : {A : Type 0} {xs ys : List A} → Moved xs ys → length xs ≡ length ys
 moved_length none = refl

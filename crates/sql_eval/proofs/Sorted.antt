@@ -10,8 +10,8 @@ use Rattle.desk_values.specs.declared.fault.Fault.{Fault}
 use Rattle.desk_values.specs.declared.fault.Fault.TheVariants.{ZeroDivisor, Overflow}
 use Rattle.sql_tree.specs.declared.tree.Op.{Op}
 use Rattle.sql_tree.specs.declared.tree.Op.TheVariants.{Add, Sub, Mul, Div, Eq, Ne, Lt, Le, Gt, Ge, And, Or}
-use Rattle.sql_eval.specs.declared.kind.PartKind.{PartKind}
-use Rattle.sql_eval.specs.declared.kind.PartKind.TheVariants.{Null, Int, Text, Row, Seq, Truth as Condition}
+use Rattle.sql_eval.specs.declared.part_kind.PartKind.{PartKind}
+use Rattle.sql_eval.specs.declared.part_kind.PartKind.TheVariants.{Null, Int, Text, Row, Seq, Truth as Condition}
 use Rattle.sql_eval.specs.declared.logic.Truth.{Truth}
 use Rattle.sql_tree.specs.Plain.{Term}
 use Rattle.sql_tree.specs.Plain as term

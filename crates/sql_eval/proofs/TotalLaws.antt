@@ -1,10 +1,9 @@
 -- MIN and MAX are what they say, in whatever order the rows stand.
-use Rattle.std.proofs.Common.{◌≡◌, ℕ, ◌+◌, ◌==◌, List, [], ◌∷◌, length, refl, ap, sym, ◌∙◌, subst, arith, ◌⊎◌, inl, inr, Contains}
-use Rattle.std.specs.Prelude.{ℤ, pos, ◌+ℤ◌, Bool, true, false, Option, None, Some, Result, Ok, Err, if◌then◌else◌}
-use Rattle.std.specs.Option.{unwrap_or}
+use Rattle.std.proofs.Common.{◌≡◌, ℕ, ◌==◌, List, [], ◌∷◌, refl, ap, sym, ◌∙◌, subst, inl, inr, Contains}
+use Rattle.std.specs.Prelude.{ℤ, pos, ◌+ℤ◌, Bool, true, false, Option, None, Some, Result, Ok, if◌then◌else◌}
 use Rattle.std.specs.Result.{result_ok}
-use Rattle.std.specs.List.{fold, reduce, filter_map, cons_option, list_any}
-use Rattle.std.specs.Ordering.{nat_cmp, int_cmp, is_gt, is_le, is_ge, is_some_and, ordering_reverse, ordering_then, then_cmp, flip_args, on}
+use Rattle.std.specs.List.{reduce, filter_map, cons_option}
+use Rattle.std.specs.Ordering.{nat_cmp, int_cmp, is_gt, is_le, is_ge, ordering_reverse, ordering_then}
 use Rattle.std.specs.Cmp.{IsTotalOrder}
 use Rattle.std.specs.Cmp.Lexicographic.{slice_cmp}
 use Rattle.std.proofs.lemmas.Cmp.{back_total, int_cmp_total, nat_list_cmp_total, on_total, then_total, tied_back}
@@ -15,17 +14,17 @@ use Rattle.desk_values.specs.declared.value.Value.{Value}
 use Rattle.desk_values.specs.declared.value.Value.TheVariants.{Null, Int, Text, Row, Draw}
 use Rattle.desk_values.specs.declared.value.Image.{Image}
 use Rattle.desk_values.specs.declared.fault.Fault.{Fault}
-use Rattle.desk_values.specs.Comparison.{text_order, value_order, without_trailing_spaces}
+use Rattle.desk_values.specs.Comparison.{text_order, without_trailing_spaces}
 use Rattle.sql_eval.specs.declared.totals.Extreme.{Extreme}
 use Rattle.sql_eval.specs.declared.totals.Extreme.TheVariants.{Least, Greatest}
-use Rattle.sql_eval.specs.Faults.{any_fault, divides, overflows, told}
+use Rattle.sql_eval.specs.Faults.{any_fault, divides, overflows, told, unless_told}
 use Rattle.sql_eval.specs.Moved.{Moved}
 use Rattle.sql_tree.specs.Plain.{Term}
 use Rattle.sql_tree.specs.Plain as total
-use Rattle.sql_eval.specs.Totals.{extreme_of, first_of, first_value, members, number_in, number_order, over, part_in, sum_of, sum_value, text_in, tied_order, total_over, unless_told}
-use Rattle.sql_eval.specs.TotalLaws.{IsBeyondAll, IsExtreme, MaxIsGreatest, MinIsLeast, TotalIgnoresOrder, beyond_all, mixed, nothing}
+use Rattle.sql_eval.specs.Totals.{extreme_of, first_of, first_value, members, number_in, number_order, over, part_in, sum_of, sum_value, text_in, tied_order}
+use Rattle.sql_eval.specs.TotalLaws.{IsExtreme, MaxIsGreatest, MinIsLeast, TotalIgnoresOrder, beyond_all, mixed, nothing}
 use Rattle.sql_eval.proofs.Moved.{moved_any, moved_chosen, moved_length, moved_reduce, sums_exchange}
-use Rattle.sql_eval.proofs.FirstOf.{IsExact, StandsFirst, first_exchanges, head_in, in_cases, not_in_none, reduced_first, tail_in}
+use Rattle.sql_eval.proofs.FirstOf.{IsExact, first_exchanges, head_in, in_cases, not_in_none, reduced_first, tail_in}
 
 -- ---- the orders
 

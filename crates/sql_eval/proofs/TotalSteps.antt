@@ -3,13 +3,15 @@ use Rattle.std.proofs.Common.{◌≡◌, ℕ, ◌+◌, ◌<◌, ◌≤◌, List,
 use denote.Ref.{Bor}
 use Rattle.desk_values.specs.declared.value.Image.{Image}
 use Rattle.std.specs.Prelude.{Bool, true, false, ◌||◌, Option, None, Some, Result, Ok, Err}
-use Rattle.std.specs.List.{list_any, filter_map, cons_option, fold, reduce}
+use Rattle.std.specs.List.{list_any, filter_map, cons_option, reduce}
 use Rattle.std.specs.Result.{result_ok}
 use Rattle.desk_values.specs.declared.value.Value.{Value}
 use Rattle.desk_values.specs.declared.fault.Fault.{Fault}
 use Rattle.sql_eval.specs.declared.faults.Faults.{Faults}
 use Rattle.sql_eval.specs.Faults.{divides, overflows, any_fault, joined, noted, told}
 use Rattle.sql_eval.specs.Totals.{looked_at, members, over}
+use Rattle.sql_eval.specs.ValueRef.{ref_outcome}
+use Rattle.sql_eval.specs.declared.value_ref.ValueRef.{ValueRef}
 
 or_assoc : (a b c : Bool) → ((a || b) || c) ≡ (a || (b || c))
 or_assoc true b c = refl
@@ -19,6 +21,12 @@ or_false : (b : Bool) → (b || false) ≡ b
 or_false true = refl
 or_false false = refl
 
+-- a fault is the same where a value is borrowed
+pub noted_borrowed : (faults : Faults) (outcome : Result ValueRef Fault) → noted faults outcome ≡ noted faults (ref_outcome outcome)
+unfolding noted
+noted_borrowed faults (Ok value) = refl
+noted_borrowed faults (Err fault) = refl
+
 -- the rows from one on
 rows_from : (rows : List (Bor Image)) (i : ℕ) (row : Bor Image) → i < length rows → row ≡ get_or rows i row → looked_at (drop i rows) ≡ row.now ∷ looked_at (drop (i + 1) rows)
 rows_from rows i row inside e = rw (add-one, drop-cons rows i row, ← e) refl
@@ -26,14 +34,14 @@ rows_from rows i row inside e = rw (add-one, drop-cons rows i row, ← e) refl
 no_rows_from : (rows : List (Bor Image)) (i : ℕ) → length rows ≤ i → looked_at (drop i rows) ≡ []
 no_rows_from rows i h = ap looked_at (drop_of_length-le rows {i = i} h)
 
-module _ (part : Image → Result Value Fault) (rows : List (Bor Image)) (i : ℕ) where
+module _ {A : Type 0} (part : Image → Result A Fault) (rows : List (Bor Image)) (i : ℕ) where
   -- ---- the faults
 
-  noted_first : (faults : Faults) (outcome : Result Value Fault) (row : Image) (others : List Image) → outcome ≡ part row → joined (noted faults outcome) (any_fault part others) ≡ joined faults (any_fault part (row ∷ others))
+  noted_first : (faults : Faults) (outcome : Result A Fault) (row : Image) (others : List Image) → outcome ≡ part row → joined (noted faults outcome) (any_fault part others) ≡ joined faults (any_fault part (row ∷ others))
   unfolding joined noted any_fault
   noted_first faults outcome row others e = rw (e, or_assoc faults.divides (divides (part row)) (list_any (λ r. divides (part r)) others), or_assoc faults.overflows (overflows (part row)) (list_any (λ r. overflows (part r)) others)) refl
 
-  pub noted_row : (faults new : Faults) (outcome : Result Value Fault) (row : Bor Image) → i < length rows → row ≡ get_or rows i row → outcome ≡ part row.now → new ≡ noted faults outcome
+  pub noted_row : (faults new : Faults) (outcome : Result A Fault) (row : Bor Image) → i < length rows → row ≡ get_or rows i row → outcome ≡ part row.now → new ≡ noted faults outcome
       → joined faults (any_fault part (looked_at (drop i rows))) ≡ any_fault part (looked_at rows)
       → joined new (any_fault part (looked_at (drop (i + 1) rows))) ≡ any_fault part (looked_at rows)
   noted_row faults new outcome row inside e o n before =
@@ -49,6 +57,7 @@ module _ (part : Image → Result Value Fault) (rows : List (Bor Image)) (i : �
   pub all_noted : (faults : Faults) → length rows ≤ i → joined faults (any_fault part (looked_at (drop i rows))) ≡ any_fault part (looked_at rows) → faults ≡ any_fault part (looked_at rows)
   all_noted faults h before = sym (joined_none faults) ∙ ap (λ (others : List Image). joined faults (any_fault part others)) (sym (no_rows_from rows i h)) ∙ before
 
+module _ (part : Image → Result Value Fault) (rows : List (Bor Image)) (i : ℕ) where
   -- ---- what is chosen of the values
 
   module _ {A : Type 0} (f : A → A → A) (choose : Value → Option A) where

@@ -1,85 +1,82 @@
--- The checks of a statement by rank.
-use Rattle.std.specs.Prelude.{ℕ, Bool, false, ◌||◌, nat_eq, nat_lt, if◌then◌else◌, List, length, Option, None, Some, Result, Ok, Err}
-use Rattle.std.specs.List.{list_any}
+-- The faults that the checks find in a statement, each told by the names and leaves that stand in it, and their order.
+use Rattle.std.specs.Prelude.{ℕ, Bool, true, false, ◌||◌, not, nat_eq, nat_lt, List, [], ◌∷◌, length, map, Option, None, Some, Result, Ok}
+use Rattle.std.specs.Option.{unwrap_or}
+use Rattle.std.specs.List.{filter_map, find, list_any}
 use Rattle.desk_values.specs.declared.value.Value.{Value}
 use Rattle.desk_values.specs.declared.fault.Fault.{Fault}
 use Rattle.desk_values.specs.declared.fault.Fault.TheVariants.{UnknownTable, UnknownColumn, UnknownSequence, BindMissing, Kinds}
-use Rattle.desk_schema.specs.declared.schema.Column.{Column}
-use Rattle.desk_schema.specs.Schema.{SchemaView, column_names, columns_of}
-use Rattle.sql_tree.specs.Plain.{Plan, Name}
-use Rattle.sql_tree.specs.Plain.{Term, Total, Entry, Change, Asked, Plan}
-use Rattle.sql_tree.specs.Plain as plain
+use Rattle.desk_schema.specs.Schema.{SchemaView, column_names}
+use Rattle.sql_tree.specs.declared.tree.Key.{Key}
+use Rattle.sql_tree.specs.Plain.{Name, Term, Entry, Change, Plan}
+use Rattle.sql_tree.specs.Plain as tree
+use Rattle.sql_tree.specs.Leaves.{plan_leaves}
+use Rattle.sql_eval.specs.Faults.{unless_told}
 use Rattle.sql_eval.specs.Kinds.{kinds_agree}
-use Rattle.sql_eval.specs.Names.{table_of, is_unknown_table, table_number, misnames_column, repeats_column, lacks_sequence, plan_in}
+use Rattle.sql_eval.specs.SchemaNames.{columns_at, has_twice, is_unknown, is_unknown_table, number_of, numbered, table_of}
 
--- no bind was given for this number
-abbrev pub misses_bind : ℕ → Term ℕ → Bool
-misses_bind count plain.null = false
-misses_bind count (plain.int n) = false
-misses_bind count (plain.text t) = false
-misses_bind count (plain.bind n) = nat_eq n 0 || nat_lt count n
-misses_bind count (plain.column n) = false
-misses_bind count plain.rowid = false
-misses_bind count (plain.neg e) = misses_bind count e
-misses_bind count (plain.not e) = misses_bind count e
-misses_bind count (plain.bin op a b) = misses_bind count a || misses_bind count b
-misses_bind count (plain.is_null e) = misses_bind count e
-misses_bind count (plain.not_null e) = misses_bind count e
+-- ---- what stands in a statement
 
--- a bind of the condition is missing, if there is a condition
-abbrev pub where_misses_bind : ℕ → Option (Term ℕ) → Bool
-where_misses_bind count None = false
-where_misses_bind count (Some e) = misses_bind count e
+-- a column that the table lacks
+abbrev pub is_unknown_column : List Name → Term Name → Bool
+is_unknown_column names (tree.column name) = is_unknown names name
+is_unknown_column names other = false
 
--- a bind of an aggregate is missing
-abbrev pub total_misses_bind : ℕ → Total ℕ → Bool
-total_misses_bind count plain.count = false
-total_misses_bind count (plain.total e) = misses_bind count e
-total_misses_bind count (plain.least e) = misses_bind count e
-total_misses_bind count (plain.greatest e) = misses_bind count e
+-- a column, or ROWID
+abbrev pub is_of_row : Term Name → Bool
+is_of_row (tree.column name) = true
+is_of_row tree.rowid = true
+is_of_row other = false
 
--- a bind of what a SELECT asks for is missing
-abbrev pub asked_misses_bind : ℕ → Asked ℕ → Bool
-asked_misses_bind count plain.columns = false
-asked_misses_bind count (plain.values es) = list_any (misses_bind count) es
-asked_misses_bind count (plain.totals ts) = list_any (total_misses_bind count) ts
+-- a bind whose number is over the number of binds, or 0
+abbrev pub is_missing_bind : ℕ → Term Name → Bool
+is_missing_bind count (tree.bind n) = nat_eq n 0 || nat_lt count n
+is_missing_bind count other = false
 
--- a bind of an input is missing
-abbrev pub entry_misses_bind : ℕ → Entry ℕ → Bool
-entry_misses_bind count (plain.value e) = misses_bind count e
-entry_misses_bind count (plain.drawn sequence) = false
+-- its expressions have a column that they may not have: those of an INSERT may have none, any others those of its table
+abbrev pub misplaces_column : List Name → Plan Name → Bool
+misplaces_column names (tree.insert table named entries) = list_any is_of_row (plan_leaves (tree.insert table named entries))
+misplaces_column names statement = list_any (is_unknown_column names) (plan_leaves statement)
 
--- some part of the statement has a bind that is missing
-abbrev pub plan_misses_bind : ℕ → Plan ℕ → Bool
-plan_misses_bind count (plain.select table asked condition keys held) = asked_misses_bind count asked || where_misses_bind count condition
-plan_misses_bind count (plain.next sequence) = false
-plan_misses_bind count (plain.insert table named entries) = list_any (entry_misses_bind count) entries
-plan_misses_bind count (plain.update table changes condition) = list_any (λ (c : Change ℕ). misses_bind count c.to) changes || where_misses_bind count condition
-plan_misses_bind count (plain.delete table condition) = where_misses_bind count condition
-plan_misses_bind count plain.commit = false
-plan_misses_bind count plain.rollback = false
-plan_misses_bind count plain.set_read_only = false
+-- the columns that it names outside of its expressions: in ORDER BY, in an INSERT's list and in SET
+abbrev pub listed_columns : {N : Type 0} → Plan N → List N
+listed_columns (tree.select table asked condition keys held) = map (λ (key : Key _). key.column) keys
+listed_columns (tree.insert table named entries) = unwrap_or named []
+listed_columns (tree.update table changes condition) = map (λ (c : Change _). c.column) changes
+listed_columns other = []
 
--- the first fault of a statement whose table is there, and of its plan
-unfoldable pub fault_in : List Column → List (List ℕ) → List (List ℕ) → List Value → Plan Name → Plan ℕ → Option Fault
-fault_in columns names sequences binds statement plan =
-    if misnames_column names statement || repeats_column plan then Some UnknownColumn
-    else if lacks_sequence sequences statement then Some UnknownSequence
-    else if plan_misses_bind (length binds) plan then Some BindMissing
-    else if kinds_agree columns binds plan then None
-    else Some Kinds
+-- those of them that get a value
+abbrev pub given_columns : {N : Type 0} → Plan N → List N
+given_columns (tree.select table asked condition keys held) = []
+given_columns other = listed_columns other
 
--- the fault, or else the plan
-abbrev pub unless_fault : Option Fault → Plan ℕ → Result (Plan ℕ) Fault
-unless_fault (Some fault) plan = Err fault
-unless_fault None plan = Ok plan
+-- the sequence of an input
+abbrev pub entry_sequence : {N : Type 0} → Entry N → Option N
+entry_sequence (tree.value e) = None
+entry_sequence (tree.drawn sequence) = Some sequence
 
--- the statement with numbers for names, or the fault of the first check that fails
+-- the sequences that it draws from
+abbrev pub drawn_sequences : {N : Type 0} → Plan N → List N
+drawn_sequences (tree.next sequence) = sequence ∷ []
+drawn_sequences (tree.insert table named entries) = filter_map entry_sequence entries
+drawn_sequences other = []
+
+-- ---- the faults
+
+-- the fault applies to the statement with these binds, whatever else applies
+abbrev pub applies : SchemaView → List Value → Plan Name → Fault → Bool
+applies schema binds statement UnknownTable = is_unknown_table schema.tables (table_of statement)
+applies schema binds statement UnknownColumn =
+    let names = column_names (columns_at schema statement) in
+    misplaces_column names statement || list_any (is_unknown names) (listed_columns statement) || has_twice (number_of names) (given_columns statement)
+applies schema binds statement UnknownSequence = list_any (is_unknown schema.sequences) (drawn_sequences statement)
+applies schema binds statement BindMissing = list_any (is_missing_bind (length binds)) (plan_leaves statement)
+applies schema binds statement Kinds = not (kinds_agree (columns_at schema statement) binds (numbered schema statement))
+applies schema binds statement other = false
+
+-- the first of these faults that applies
+unfoldable pub first_fault : SchemaView → List Value → Plan Name → Option Fault
+first_fault schema binds statement = find (applies schema binds statement) (UnknownTable ∷ UnknownColumn ∷ UnknownSequence ∷ BindMissing ∷ Kinds ∷ [])
+
+-- the statement with numbers for names, or the first fault
 abbrev pub check_of : SchemaView → List Value → Plan Name → Result (Plan ℕ) Fault
-check_of schema binds statement =
-    let number = table_number schema.tables (table_of statement) in
-    let columns = columns_of schema.tables number in
-    let names = column_names columns in
-    let plan = plan_in number names schema.sequences statement in
-    if is_unknown_table schema.tables (table_of statement) then Err UnknownTable
-    else unless_fault (fault_in columns names schema.sequences binds statement plan) plan
+check_of schema binds statement = unless_told (first_fault schema binds statement) (Ok (numbered schema statement))

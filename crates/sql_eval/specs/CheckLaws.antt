@@ -5,8 +5,7 @@ use Rattle.desk_values.specs.declared.fault.Fault.{Fault}
 use Rattle.desk_values.specs.Fault.{fault_rank}
 use Rattle.desk_schema.specs.Schema.{SchemaView}
 use Rattle.sql_tree.specs.Plain.{Name, Plan}
-use Rattle.sql_eval.specs.Applies.{applies}
-use Rattle.sql_eval.specs.Check.{check_of}
+use Rattle.sql_eval.specs.Check.{applies, check_of}
 
 -- the fault that the checks give applies, and none of lower rank does
 abbrev pub LowestRankIsTold : Type 0

@@ -69,6 +69,11 @@ noted faults outcome = record { divides = faults.divides || divides outcome; ove
 abbrev pub told : Faults → Option Fault
 told faults = if faults.divides then Some ZeroDivisor else if faults.overflows then Some Overflow else None
 
+-- the fault, or else the outcome
+abbrev pub unless_told : {A : Type 0} → Option Fault → Result A Fault → Result A Fault
+unless_told (Some fault) outcome = Err fault
+unless_told None outcome = outcome
+
 -- the fault that these parts make
 abbrev pub fault_among : ℕ → ℕ → List Value → List Value → List (Term ℕ) → Option Fault
 fault_among level row values binds ps = told (record {

@@ -9,8 +9,8 @@ use Rattle.desk_schema.specs.declared.schema.Kind.{Kind}
 use Rattle.desk_schema.specs.declared.schema.Kind.TheVariants as column
 use Rattle.sql_tree.specs.declared.tree.Op.{Op}
 use Rattle.sql_tree.specs.declared.tree.Op.TheVariants.{Add, Sub, Mul, Div, Eq, Ne, Lt, Le, Gt, Ge, And, Or}
-use Rattle.sql_eval.specs.declared.kind.PartKind.{PartKind}
-use Rattle.sql_eval.specs.declared.kind.PartKind.TheVariants.{Null, Int, Text, Row, Seq, Truth}
+use Rattle.sql_eval.specs.declared.part_kind.PartKind.{PartKind}
+use Rattle.sql_eval.specs.declared.part_kind.PartKind.TheVariants.{Null, Int, Text, Row, Seq, Truth}
 use Rattle.sql_tree.specs.declared.tree.Key.{Key}
 use Rattle.sql_tree.specs.Plain.{Term, Total, Entry, Change, Asked, Plan}
 use Rattle.sql_tree.specs.Plain as plain

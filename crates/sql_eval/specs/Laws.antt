@@ -9,8 +9,8 @@ use Rattle.sql_tree.specs.declared.tree.Op.TheVariants.{Add, Sub, Mul, Div, Eq, 
 use Rattle.sql_eval.specs.declared.logic.Truth.{Truth}
 use Rattle.sql_eval.specs.declared.logic.Truth.TheVariants.{True, False, Unknown}
 use Rattle.desk_schema.specs.declared.schema.Column.{Column}
-use Rattle.sql_eval.specs.declared.kind.PartKind.{PartKind}
-use Rattle.sql_eval.specs.declared.kind.PartKind.TheVariants.{Truth as Condition}
+use Rattle.sql_eval.specs.declared.part_kind.PartKind.{PartKind}
+use Rattle.sql_eval.specs.declared.part_kind.PartKind.TheVariants.{Truth as Condition}
 use Rattle.sql_eval.specs.Kinds.{is_taken, kind_at, kind_of, kind_of_value}
 use Rattle.sql_eval.specs.Logic.{negation, conjunction, disjunction}
 use Rattle.sql_tree.specs.Plain.{Term}

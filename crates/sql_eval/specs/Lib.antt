@@ -2,13 +2,11 @@ pub mod Logic
 pub mod Value
 pub mod ValueRef
 pub mod Kinds
-pub mod Names
-pub mod Scope
+pub mod SchemaNames
 pub mod Check
 pub mod Faults
 pub mod Laws
 pub mod Totals
 pub mod Moved
 pub mod TotalLaws
-pub mod Applies
 pub mod CheckLaws

@@ -1,5 +1,5 @@
 -- What COUNT, SUM, MIN and MAX give for the rows that match.
-use Rattle.std.specs.Prelude.{ℕ, ℤ, pos, ◌+ℤ◌, if◌then◌else◌, List, [], length, map, Option, None, Some, Result, Ok, Err}
+use Rattle.std.specs.Prelude.{ℕ, ℤ, pos, ◌+ℤ◌, if◌then◌else◌, List, [], length, map, Option, None, Some, Result, Ok}
 use Rattle.std.specs.Option.{unwrap_or}
 use Rattle.std.specs.Ordering.{nat_cmp, int_cmp, is_gt, then_cmp, flip_args}
 use Rattle.std.specs.Cmp.Lexicographic.{slice_cmp}
@@ -16,7 +16,7 @@ use Rattle.sql_tree.specs.Plain.{Term, Total}
 use Rattle.sql_tree.specs.Plain as total
 use Rattle.sql_eval.specs.declared.totals.Extreme.{Extreme}
 use Rattle.sql_eval.specs.declared.totals.Extreme.TheVariants.{Least, Greatest}
-use Rattle.sql_eval.specs.Faults.{any_fault, told}
+use Rattle.sql_eval.specs.Faults.{any_fault, told, unless_told}
 use Rattle.sql_eval.specs.Value.{number, value_of}
 
 -- ---- of values
@@ -63,11 +63,6 @@ unfoldable pub extreme_of : ℕ → Extreme → List Value → Value
 extreme_of level extreme values = first_value (reduce (first_of (number_order extreme)) (filter_map number_in values)) (reduce (first_of (tied_order level extreme)) (filter_map text_in values))
 
 -- ---- of rows
-
--- the fault, or else the outcome
-abbrev pub unless_told : {A : Type 0} → Option Fault → Result A Fault → Result A Fault
-unless_told (Some fault) outcome = Err fault
-unless_told None outcome = outcome
 
 -- the values that the part has in the rows where it has one
 abbrev pub members : (Image → Result Value Fault) → List Image → List Value

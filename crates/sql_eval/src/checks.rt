@@ -1,20 +1,19 @@
 ghost use Rattle.std.specs.Prelude.{◌≡◌, IfOk, IsErrOf};
-ghost use Rattle.sql_eval.specs.Check.{check_of, fault_in};
-ghost use Rattle.sql_eval.specs.Scope.{scope_column_names, scope_columns, scope_sequences};
+ghost use Rattle.sql_eval.specs.Check.{check_of, first_fault};
+ghost use Rattle.sql_eval.specs.SchemaNames.{numbered, table_number, table_of};
 ghost use Rattle.sql_tree.specs.Plain.{plan_of};
 
-use crate::binds::misses_some_bind;
 use crate::error::CheckErr;
-use crate::names::{
-    names_column_twice, names_unknown_column, names_unknown_sequence, names_unknown_table,
-    statement_table,
-};
 use crate::ready::Ready;
-use crate::rules::keeps_kinds;
 use crate::scope::Scope;
+use crate::statement_kinds::keeps_kinds;
+use crate::statement_names::{
+    MissingBind, draws_unknown_sequence, gives_column_twice, lists_unknown_column,
+    misplaces_column, names_unknown_table, statement_table,
+};
 use desk_schema::Schema;
 use desk_values::{Binds, Fault};
-use sql_reader::Statement;
+use sql_tree::Statement;
 use std::alloc::Global;
 
 /// The statement with numbers for names, for these binds.
@@ -40,30 +39,32 @@ pub fn check(
     ensures ok { IfOk result (λ ready. check_of schema.now binds.now (plan_of st.now) ≡ Ok (plan_of ready)) }
     ensures refused { (fault : Fault) → IsErrOf result (CheckErr.Refused fault) → check_of schema.now binds.now (plan_of st.now) ≡ Err fault }
 {
-    if names_unknown_table(schema, st) {
-        return Err(CheckErr::Refused(Fault::UnknownTable));
-    }
     let table = statement_table(schema, st);
     let scope = Scope { schema, table };
     let ready = st.renamed(alloc, &scope)?;
-    match fault_of(scope, st, binds, &ready) {
+    match first_fault(scope, st, binds, &ready) {
         Some(fault) => Err(CheckErr::Refused(fault)),
         None => Ok(ready),
     }
 }
 
-/// The first fault that is not of the table.
-#[tactic(auto, unfolding(crate::specs::Check::fault_in))]
-fn fault_of(scope: Scope<'_>, st: &Statement, binds: &Binds, ready: &Ready) -> Option<Fault>
-    ensures { result ≡ fault_in (scope_columns scope.entry) (scope_column_names scope.entry) (scope_sequences scope.entry) binds.now (plan_of st.now) (plan_of ready.now) }
+/// The first fault of a statement, of which `ready` is the same with numbers for names.
+#[tactic(auto, using(crate::proofs::Mapped::given_twice), unfolding(crate::specs::Check::first_fault))]
+fn first_fault(scope: Scope<'_>, st: &Statement, binds: &Binds, ready: &Ready) -> Option<Fault>
+    requires table { scope.table ≡ table_number scope.schema.now.tables (table_of (plan_of st.now)) }
+    requires numbered { plan_of ready.now ≡ numbered scope.schema.now (plan_of st.now) }
+    ensures { result ≡ first_fault scope.entry.schema.now binds.now (plan_of st.now) }
 {
-    if names_unknown_column(scope, st) || names_column_twice(ready) {
+    if names_unknown_table(scope.schema, st) {
+        return Some(Fault::UnknownTable);
+    }
+    if misplaces_column(scope, st) || lists_unknown_column(scope, st) || gives_column_twice(ready) {
         return Some(Fault::UnknownColumn);
     }
-    if names_unknown_sequence(scope, st) {
+    if draws_unknown_sequence(scope, st) {
         return Some(Fault::UnknownSequence);
     }
-    if misses_some_bind(binds.len(), ready) {
+    if st.any_leaf(&MissingBind { count: binds.len() }) {
         return Some(Fault::BindMissing);
     }
     if !keeps_kinds(scope, binds, ready) {

@@ -1,5 +1,5 @@
 ghost use Rattle.std.specs.Prelude.{◌≡◌};
-ghost use Rattle.sql_eval.specs.Faults.{joined, told};
+ghost use Rattle.sql_eval.specs.Faults.{joined, noted, told};
 
 use desk_values::Fault;
 
@@ -27,6 +27,24 @@ impl Faults {
         Faults {
             divides: self.divides || other.divides,
             overflows: self.overflows || other.overflows,
+        }
+    }
+
+    /// The faults, and that of one part more.
+    #[tactic(auto, unfolding(crate::specs::Faults::noted))]
+    pub fn noted<T>(self, outcome: &Result<T, Fault>) -> Faults
+        ensures { result ≡ noted self outcome.now }
+    {
+        match outcome {
+            Err(Fault::ZeroDivisor) => Faults {
+                divides: true,
+                overflows: self.overflows,
+            },
+            Err(Fault::Overflow) => Faults {
+                divides: self.divides,
+                overflows: true,
+            },
+            _ => self,
         }
     }
 

@@ -7,20 +7,16 @@
 //! conditions have three truth values. The order of faults is this program's own.
 #![tactic(auto)]
 
-mod binds;
 mod checks;
 mod error;
 mod faults;
-mod kind;
 mod laws;
 mod logic;
-mod names;
-mod numbers;
+mod part_kind;
 mod ready;
-mod rules;
 mod scope;
-#[cfg(test)]
-mod tests;
+mod statement_kinds;
+mod statement_names;
 mod totals;
 mod value;
 mod value_ref;

@@ -1,13 +1,14 @@
-//! What the names of a statement stand for.
+//! What the names of a statement stand for, and the numbers for them.
 
 ghost use Rattle.std.specs.Prelude.{◌≡◌};
 ghost use Rattle.desk_schema.specs.Schema.{place_ignoring_case};
 ghost use Rattle.sql_eval.specs.Kinds.{kind_at};
-ghost use Rattle.sql_eval.specs.Scope.{scope_column_names, scope_columns, scope_sequences};
+ghost use Rattle.sql_eval.specs.SchemaNames.{number_of, scope_column_names, scope_columns, scope_sequences};
 
-use crate::kind::{PartKind, declared_kind};
+use crate::part_kind::{PartKind, declared_kind};
 use desk_schema::{Column, Schema};
 use desk_values::Txt;
+use sql_tree::Renames;
 
 /// A schema, and the number of a statement's table in it.
 #[derive(Clone, Copy)]
@@ -48,5 +49,39 @@ impl<'a> Scope<'a> {
             Some(table) => table.columns.as_slice(),
             None => &[],
         }
+    }
+}
+
+fn column_number(scope: Scope<'_>, name: &Txt) -> u32
+    ensures { result ≡ number_of (scope_column_names scope.entry) name.now }
+{
+    scope.column_named(name).unwrap_or(0)
+}
+
+fn sequence_number(scope: Scope<'_>, name: &Txt) -> u32
+    ensures { result ≡ number_of (scope_sequences scope.entry) name.now }
+{
+    scope.sequence_named(name).unwrap_or(0)
+}
+
+impl<'a> Renames<Txt> for Scope<'a> {
+    ghost use Rattle.sql_eval.specs.SchemaNames.{numbers};
+    ghost use Rattle.sql_eval.specs.SchemaNames.{scope_column_names as names, scope_sequences as sequences};
+
+    type To = u32;
+
+    ghost naming = { λ scope. numbers scope.table (names scope) (sequences scope) };
+
+    fn table(&self, name: &Txt) -> u32 {
+        let _ = name;
+        self.table
+    }
+
+    fn column(&self, name: &Txt) -> u32 {
+        column_number(*self, name)
+    }
+
+    fn sequence(&self, name: &Txt) -> u32 {
+        sequence_number(*self, name)
     }
 }

@@ -130,21 +130,11 @@ fn extreme_over<'a>(
 }
 
 /// The faults, and that of one row more.
-#[tactic(auto, unfolding(crate::specs::Faults::noted))]
+#[tactic(auto, using(crate::proofs::TotalSteps::noted_borrowed))]
 fn with_fault(faults: Faults, outcome: Result<ValueRef<'_>, Fault>) -> Faults
     ensures { result ≡ noted faults (ref_outcome outcome.entry) }
 {
-    match outcome {
-        Err(Fault::ZeroDivisor) => Faults {
-            divides: true,
-            overflows: faults.overflows,
-        },
-        Err(Fault::Overflow) => Faults {
-            divides: faults.divides,
-            overflows: true,
-        },
-        _ => faults,
-    }
+    faults.noted(&outcome)
 }
 
 /// The sum, and one row more. Only a number counts.

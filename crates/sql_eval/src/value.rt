@@ -12,7 +12,7 @@ use crate::value_ref::{
     worse_fault,
 };
 use desk_values::{Binds, Copied, Fault, Value, Values};
-use sql_reader::Op;
+use sql_tree::Op;
 use std::alloc::Global;
 
 /// The value of an expression for one row: Null, or of the kind that the checks gave the expression.

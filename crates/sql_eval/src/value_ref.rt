@@ -6,7 +6,7 @@ ghost use Rattle.desk_values.specs.Comparison.{value_equal, value_order};
 ghost use Rattle.sql_eval.specs.ValueRef.{ref_value, ref_outcome, ref_pair, computed_of};
 
 use desk_values::{Fault, Txt, Value, text_order};
-use sql_reader::Op;
+use sql_tree::Op;
 use std::cmp::Ordering;
 
 /// A value that is looked at without a copy of its text.

@@ -1,4 +1,4 @@
-use Rattle.std.proofs.Common.{◌≡◌, sym, ap, ◌∙◌}
+use Rattle.std.proofs.Common.{sym, ap, ◌∙◌}
 use Rattle.std.specs.Prelude.{Ok, List}
 use Rattle.std.specs.Option.{option_copied}
 use Rattle.std.specs.List.{filter_map, reduce}

@@ -1,6 +1,5 @@
-use Rattle.std.proofs.Common.{◌≡◌, ◌*◌, ◌^◌, drop}
-use Rattle.std.specs.Prelude.{ℤ, pos, neg_ℤ, ◌≤ℤ◌, ◌+ℤ◌}
-use Rattle.std.specs.Option.{option_copied, unwrap_or}
+use Rattle.std.proofs.Common.{◌≡◌, drop}
+use Rattle.std.specs.Option.{option_copied}
 use Rattle.std.specs.List.{cons_option, filter_map, reduce}
 use Rattle.sql_eval.specs.Faults.{any_fault, joined}
 use Rattle.sql_tree.specs.Plain.{term_of}

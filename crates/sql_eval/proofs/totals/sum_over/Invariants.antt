@@ -1,10 +1,10 @@
 use Rattle.std.proofs.Common.{◌≡◌, ◌*◌, ◌^◌, drop}
-use Rattle.std.specs.Prelude.{ℤ, pos, neg_ℤ, ◌≤ℤ◌, ◌+ℤ◌}
-use Rattle.std.specs.Option.{option_copied, unwrap_or}
+use Rattle.std.specs.Prelude.{pos, neg_ℤ, ◌≤ℤ◌, ◌+ℤ◌}
+use Rattle.std.specs.Option.{unwrap_or}
 use Rattle.std.specs.List.{cons_option, filter_map, reduce}
 use Rattle.sql_eval.specs.Faults.{any_fault, joined}
 use Rattle.sql_tree.specs.Plain.{term_of}
-use Rattle.sql_eval.specs.Totals.{part_in, looked_at, members, number_in, number_order, text_in, tied_order, first_of}
+use Rattle.sql_eval.specs.Totals.{part_in, looked_at, members, number_in}
 use Rattle.sql_eval.proofs.totals.sum_over.Given as goal
 
 abbrev pub invariant-loop-row : goal.invariant-loop-row

@@ -1,15 +1,14 @@
 //! Values, truths and checked statements as texts, so that a case is one line.
 
-use crate::{
+use desk_values::{Fault, Value};
+use sql_eval::{
     CheckErr, Checked, Columns, EvalErr, Ready, ReadyAgg, ReadyInput, ReadyItems, ReadyKey,
     ReadySetting, Truth,
 };
-use desk_values::{Fault, Value};
 use sql_reader::Op;
-use std::alloc::Global;
-use std::test::Fail;
+use std::alloc::{AllocError, Global};
 
-pub(super) fn shown_value(alloc: Global, value: Result<Value, EvalErr>) -> Result<String, Fail> {
+pub(crate) fn value(alloc: Global, value: Result<Value, EvalErr>) -> Result<String, AllocError> {
     Ok(match value {
         Ok(Value::Null) => format!(in alloc; "null")?,
         Ok(Value::Int(number)) => format!(in alloc; "{number}")?,
@@ -21,7 +20,7 @@ pub(super) fn shown_value(alloc: Global, value: Result<Value, EvalErr>) -> Resul
     })
 }
 
-pub(super) fn shown_truth(alloc: Global, truth: Result<Truth, Fault>) -> Result<String, Fail> {
+pub(crate) fn truth(alloc: Global, truth: Result<Truth, Fault>) -> Result<String, AllocError> {
     Ok(match truth {
         Ok(Truth::True) => format!(in alloc; "true")?,
         Ok(Truth::False) => format!(in alloc; "false")?,
@@ -31,15 +30,15 @@ pub(super) fn shown_truth(alloc: Global, truth: Result<Truth, Fault>) -> Result<
 }
 
 /// The plan that the checks give, or the number of the fault.
-pub(super) fn shown_check(alloc: Global, checked: Result<Ready, CheckErr>) -> Result<String, Fail> {
+pub(crate) fn check(alloc: Global, checked: Result<Ready, CheckErr>) -> Result<String, AllocError> {
     Ok(match checked {
         Ok(ready) => shown_ready(alloc, &ready)?,
-        Err(CheckErr::Refused(fault)) => format!(in alloc; "{}", fault.number())?,
+        Err(CheckErr::Refused(fault)) => format!(in alloc; "fault {}", fault.number())?,
         Err(CheckErr::Memory) => format!(in alloc; "memory")?,
     })
 }
 
-fn shown_ready(alloc: Global, ready: &Ready) -> Result<String, Fail> {
+fn shown_ready(alloc: Global, ready: &Ready) -> Result<String, AllocError> {
     match ready {
         Ready::Select(table, items, condition, keys, held) => {
             let items = shown_items(alloc, items)?;
@@ -68,7 +67,7 @@ fn shown_ready(alloc: Global, ready: &Ready) -> Result<String, Fail> {
     }
 }
 
-fn shown_items(alloc: Global, items: &ReadyItems) -> Result<String, Fail> {
+fn shown_items(alloc: Global, items: &ReadyItems) -> Result<String, AllocError> {
     match items {
         ReadyItems::All => Ok(format!(in alloc; "*")?),
         ReadyItems::Exprs(exprs) => shown_list(alloc, exprs.as_slice()),
@@ -76,14 +75,14 @@ fn shown_items(alloc: Global, items: &ReadyItems) -> Result<String, Fail> {
     }
 }
 
-fn shown_condition(alloc: Global, condition: &Option<Checked>) -> Result<String, Fail> {
+fn shown_condition(alloc: Global, condition: &Option<Checked>) -> Result<String, AllocError> {
     match condition {
         Some(e) => e.shown(alloc),
         None => Ok(format!(in alloc; "none")?),
     }
 }
 
-fn shown_columns(alloc: Global, columns: &Option<Columns>) -> Result<String, Fail> {
+fn shown_columns(alloc: Global, columns: &Option<Columns>) -> Result<String, AllocError> {
     match columns {
         Some(columns) => shown_list(alloc, columns.as_slice()),
         None => Ok(format!(in alloc; "all")?),
@@ -92,10 +91,10 @@ fn shown_columns(alloc: Global, columns: &Option<Columns>) -> Result<String, Fai
 
 /// A part of a checked statement that stands in a list.
 trait Shown {
-    fn shown(&self, alloc: Global) -> Result<String, Fail>;
+    fn shown(&self, alloc: Global) -> Result<String, AllocError>;
 }
 
-fn shown_list<T: Shown>(alloc: Global, parts: &[T]) -> Result<String, Fail> {
+fn shown_list<T: Shown>(alloc: Global, parts: &[T]) -> Result<String, AllocError> {
     let mut shown = String::from_str(alloc, "[")?;
     for part in parts {
         if shown.len() > 1 {
@@ -108,19 +107,19 @@ fn shown_list<T: Shown>(alloc: Global, parts: &[T]) -> Result<String, Fail> {
 }
 
 impl Shown for u32 {
-    fn shown(&self, alloc: Global) -> Result<String, Fail> {
+    fn shown(&self, alloc: Global) -> Result<String, AllocError> {
         Ok(format!(in alloc; "{self}")?)
     }
 }
 
 impl Shown for Checked {
-    fn shown(&self, alloc: Global) -> Result<String, Fail> {
+    fn shown(&self, alloc: Global) -> Result<String, AllocError> {
         shown_expr(alloc, self)
     }
 }
 
 impl Shown for ReadyAgg {
-    fn shown(&self, alloc: Global) -> Result<String, Fail> {
+    fn shown(&self, alloc: Global) -> Result<String, AllocError> {
         Ok(match self {
             ReadyAgg::Count => format!(in alloc; "count")?,
             ReadyAgg::Sum(e) => format!(in alloc; "sum {}", shown_expr(alloc, e)?)?,
@@ -131,14 +130,14 @@ impl Shown for ReadyAgg {
 }
 
 impl Shown for ReadyKey {
-    fn shown(&self, alloc: Global) -> Result<String, Fail> {
+    fn shown(&self, alloc: Global) -> Result<String, AllocError> {
         let direction = if self.desc { "down" } else { "up" };
         Ok(format!(in alloc; "{} {direction}", self.column)?)
     }
 }
 
 impl Shown for ReadyInput {
-    fn shown(&self, alloc: Global) -> Result<String, Fail> {
+    fn shown(&self, alloc: Global) -> Result<String, AllocError> {
         match self {
             ReadyInput::Expr(e) => shown_expr(alloc, e),
             ReadyInput::Next(sequence) => Ok(format!(in alloc; "next {sequence}")?),
@@ -147,14 +146,14 @@ impl Shown for ReadyInput {
 }
 
 impl Shown for ReadySetting {
-    fn shown(&self, alloc: Global) -> Result<String, Fail> {
+    fn shown(&self, alloc: Global) -> Result<String, AllocError> {
         let to = shown_expr(alloc, &self.to)?;
         Ok(format!(in alloc; "{} = {to}", self.column)?)
     }
 }
 
 /// The expression, each operation in parentheses.
-fn shown_expr(alloc: Global, e: &Checked) -> Result<String, Fail> {
+fn shown_expr(alloc: Global, e: &Checked) -> Result<String, AllocError> {
     Ok(match e {
         Checked::Null => format!(in alloc; "null")?,
         Checked::Int(number) => format!(in alloc; "{number}")?,
