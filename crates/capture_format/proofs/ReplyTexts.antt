@@ -24,7 +24,7 @@ use Rattle.desk_values.specs.Text.{values_text, rows_text, left_text, image_text
 use Rattle.desk_values.specs.Reading.{Reads, ◌>>=◌, number_of, number_below, each_of, values_of}
 use Rattle.capture_format.specs.ReplyReading.{filled_of, open_rows_of, rows_of, left_of, image_of, images_of, fault_of, field_outcome_of, word_outcome_of, outcome_behind, outcome_of, draws_of, made_of, reply_of}
 use Rattle.desk_values.specs.Good.{rows_ascend, all_draws}
-use Rattle.desk_values.proofs.Options.{bind_some, map_some, if_some, unless_when, when_some, chosen, at_end_some}
+use Rattle.desk_values.proofs.Options.{bind_some, map_some, if_some, unless_some, unless_when, when_some, chosen, at_end_some}
 use Rattle.desk_values.proofs.Readers.{IsReader, first_of}
 use Rattle.desk_values.proofs.Cuts.{IsCut, cut_at-joined, cut_at_parts, cut_at_lacks, pieces-joined, pieces-none, pieces-cut, pieces_some, join-pieces, joined_reader, onto_items, onto_items-append}
 use Rattle.desk_values.proofs.Numbers.{numbers, numbers_below}
@@ -51,7 +51,7 @@ unfolding filled_of
 filled_taken bytes values e =
     let found = bind_some (values_of bytes) _ values e in
     let some = unless_some (eqb (length found.0) 0) found.0 values found.2 in
-    let taken = values_taken bytes found.0 found.1 in
+    let taken = values_reader.takes bytes found.0 found.1 in
     subst (λ (vs : List Value). IsGoodRow vs × (bytes ≡ values_text vs)) some.1 ((positive _ (eqb-false _ 0 some.0), taken.0), taken.1)
   where
     positive : (n : ℕ) → (n ≡ 0 → ⊥) → 0 < n
@@ -61,7 +61,7 @@ pub filled_reader : IsReader filled_of IsGoodRow values_text
 unfolding filled_of
 filled_reader = record {
   takes = filled_taken;
-  again = λ values fits. rw (values_again values fits.1, ne_eqb (length values) 0 (omega (arith, fits.0))) refl;
+  again = λ values fits. rw (values_reader.again values fits.1, ne_eqb (length values) 0 (omega (arith, fits.0))) refl;
 }
 
 -- ---- rows

@@ -17,7 +17,8 @@ use Rattle.desk_schema.specs.declared.line.ColumnKind.TheVariants as kind
 use Rattle.desk_schema.specs.declared.schema.Rights.{Rights}
 use Rattle.desk_schema.specs.declared.schema.Rights.TheVariants.{ReadWrite, ReadOnly}
 use Rattle.desk_schema.specs.Name.{IsName}
-use Rattle.desk_schema.specs.Line.{rights_text, nulls_text, kind_text, line_text, lines_text}
+use Rattle.desk_schema.specs.Line.{nulls_text, kind_text, line_text, lines_text}
+use Rattle.desk_schema.specs.Schema.{rights_word}
 use Rattle.desk_schema.specs.State.{State, nothing, place, added, state_after, state_of}
 use Rattle.desk_schema.specs.Rules.{MayFollow, AreLinesFrom, AreLines}
 use Rattle.capture_format.specs.StartFile.{IsColumnKind, IsStartLine, IsStartFile}
@@ -43,7 +44,7 @@ space_lacks front rest first second = all_append (λ b. b ≢ 10) front (32 ∷ 
 number_lacks : (n : ℕ) → n < 2 ^ 64 → Lacks 10 (decimal n)
 number_lacks n small = visible_all (decimal n) (text_decimal n small)
 
-rights_lack : (rights : Rights) → Lacks 10 (rights_text rights)
+rights_lack : (rights : Rights) → Lacks 10 (rights_word rights)
 rights_lack ReadWrite = visible_all (codes "rw") (text_word (codes "rw") refl)
 rights_lack ReadOnly = visible_all (codes "ro") (text_word (codes "ro") refl)
 
@@ -60,7 +61,7 @@ line_lacks : (l : StartLine) → IsStartLine l → Lacks 10 (line_text l)
 line_lacks line.Head fits = visible_all (codes "start 1") (text_word (codes "start 1") refl)
 line_lacks (line.Level level) fits = word_lacks (codes "level ") _ (text_word (codes "level ") refl) (number_lacks level (omega arith))
 line_lacks (line.Seq name next) fits = word_lacks (codes "seq ") _ (text_word (codes "seq ") refl) (space_lacks name (decimal next) (name_lacks_feed name fits.0) (number_lacks next fits.1))
-line_lacks (line.Service name rights) fits = word_lacks (codes "svc ") _ (text_word (codes "svc ") refl) (space_lacks name (rights_text rights) (name_lacks_feed name fits) (rights_lack rights))
+line_lacks (line.Service name rights) fits = word_lacks (codes "svc ") _ (text_word (codes "svc ") refl) (space_lacks name (rights_word rights) (name_lacks_feed name fits) (rights_lack rights))
 line_lacks (line.Table name) fits = word_lacks (codes "table ") _ (text_word (codes "table ") refl) (name_lacks_feed name fits)
 line_lacks (line.Column name k not_null) fits = word_lacks (codes "col ") _ (text_word (codes "col ") refl) (space_lacks name (kind_text k ++ 32 ∷ nulls_text not_null) (name_lacks_feed name fits.0) (space_lacks (kind_text k) (nulls_text not_null) (kind_lacks k fits.1) (nulls_lack not_null)))
 line_lacks (line.Row row table values) fits = word_lacks (codes "row ") _ (text_word (codes "row ") refl) (space_lacks (decimal row) (decimal table ++ 32 ∷ values_text values) (number_lacks row fits.0) (space_lacks (decimal table) (values_text values) (number_lacks table (omega (arith, fits.1))) (visible_all (values_text values) (text_values values fits.2))))

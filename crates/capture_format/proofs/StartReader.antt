@@ -23,7 +23,8 @@ use Rattle.desk_schema.specs.declared.line.ColumnKind.TheVariants as kind
 use Rattle.desk_schema.specs.declared.schema.Rights.{Rights}
 use Rattle.desk_schema.specs.declared.schema.Rights.TheVariants.{ReadWrite, ReadOnly}
 use Rattle.desk_schema.specs.Name.{IsName}
-use Rattle.desk_schema.specs.Line.{rights_text, nulls_text, kind_text, line_text}
+use Rattle.desk_schema.specs.Line.{nulls_text, kind_text, line_text}
+use Rattle.desk_schema.specs.Schema.{rights_word}
 use Rattle.capture_format.specs.declared.start_line.Word.{Word}
 use Rattle.capture_format.specs.declared.start_line.Word.TheVariants as word
 use Rattle.capture_format.specs.NameReading.{as_name}
@@ -79,13 +80,13 @@ word_again word.Row = refl
 word_again word.NextRow = refl
 word_again word.Sessions = refl
 
-rights_taken : (bytes : List ℕ) (rights : Rights) → rights_of bytes ≡ Some rights → bytes ≡ rights_text rights
+rights_taken : (bytes : List ℕ) (rights : Rights) → rights_of bytes ≡ Some rights → bytes ≡ rights_word rights
 unfolding rights_of
 rights_taken bytes rights =
-    let P : Rights → Type 0 = λ x. bytes ≡ rights_text x in
+    let P : Rights → Type 0 = λ x. bytes ≡ rights_word x in
     one_word bytes (codes "rw") ReadWrite _ P rights (λ is. is) (one_word bytes (codes "ro") ReadOnly None P rights (λ is. is) (no_word rights P))
 
-rights_again : (rights : Rights) → rights_of (rights_text rights) ≡ Some rights
+rights_again : (rights : Rights) → rights_of (rights_word rights) ≡ Some rights
 unfolding rights_of
 rights_again ReadWrite = refl
 rights_again ReadOnly = refl
@@ -131,12 +132,12 @@ service_taken bytes l e =
     let cut = (cut_at_parts 32 bytes parts.0 parts.1).parts in
     let name_is = names.takes parts.0.0 name.0 name.1 in
     let rights_is = rights_taken parts.0.1 rights.0 rights.1 in
-    let whole : bytes ≡ name.0 ++ 32 ∷ rights_text rights.0 = cut ∙ ap (λ (t : List ℕ). t ++ 32 ∷ parts.0.1) name_is.1 ∙ ap (λ (t : List ℕ). name.0 ++ 32 ∷ t) rights_is in
+    let whole : bytes ≡ name.0 ++ 32 ∷ rights_word rights.0 = cut ∙ ap (λ (t : List ℕ). t ++ 32 ∷ parts.0.1) name_is.1 ∙ ap (λ (t : List ℕ). name.0 ++ 32 ∷ t) rights_is in
     subst (λ (x : StartLine). IsStartLine x × (codes "svc " ++ bytes ≡ line_text x)) (same_Some (line.Service name.0 rights.0) l rights.2) (name_is.0, ap (λ (t : List ℕ). codes "svc " ++ t) whole)
 
-service_again : (name : List ℕ) (rights : Rights) → IsName name → service_of (name ++ 32 ∷ rights_text rights) ≡ Some (line.Service name rights)
+service_again : (name : List ℕ) (rights : Rights) → IsName name → service_of (name ++ 32 ∷ rights_word rights) ≡ Some (line.Service name rights)
 unfolding service_of
-service_again name rights is = rw (cut_at-joined 32 name (rights_text rights) (name_space name is), names.again name is, rights_again rights) refl
+service_again name rights is = rw (cut_at-joined 32 name (rights_word rights) (name_space name is), names.again name is, rights_again rights) refl
 
 -- ---- kinds of columns
 

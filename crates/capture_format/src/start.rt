@@ -11,12 +11,9 @@ ghost use Rattle.capture_format.specs.StartSteps.{ReadsNext, ReadsPart, DraftSoF
 
 use crate::form::FormErr;
 use crate::start_line::read_start_line;
-use desk_schema::{ColumnKind, Draft, Kind, Start, StartLine};
+use desk_schema::{ColumnKind, Draft, Kind, SESSION_LIMIT, Start, StartLine};
 use desk_values::fields::cut;
 use std::alloc::Global;
-
-/// The greatest number of sessions of a capture. They are numbered from 0.
-pub const SESSION_LIMIT: u32 = 64;
 
 /// What a start file says.
 #[derive(Drop)]

@@ -124,8 +124,10 @@ fn write_file(system: &impl rt::Files, name: &Txt, bytes: &[u8]) -> io::Result<(
     }
     let beside = name_beside(name);
     let file = fs::create(system, beside.as_str())?;
-    let written = write_synced(file, bytes)
-        .and_then(|()| fs::rename(system, beside.as_str(), name.as_str()));
+    let mut written = write_synced(file, bytes);
+    if written.is_ok() {
+        written = fs::rename(system, beside.as_str(), name.as_str());
+    }
     if written.is_err() {
         // Where this fails too, the next write of the file begins with what is left.
         let _ = fs::remove_file(system, beside.as_str());

@@ -8,6 +8,8 @@ use Rattle.std.proofs.lemmas.List.Elements.{filter_map-append, All-contains, All
 use Rattle.std.proofs.lemmas.Option.{slice_get_past}
 use Rattle.desk_values.specs.declared.value.Value.{Value}
 use Rattle.desk_values.specs.declared.value.Image.{Image}
+use Rattle.desk_schema.specs.declared.rules.TheConstants.{COLUMN_LIMIT}
+use Rattle.desk_schema.specs.declared.line.TheConstants.{SESSION_LIMIT}
 use Rattle.desk_schema.specs.declared.line.StartLine.{StartLine}
 use Rattle.desk_schema.specs.declared.line.StartLine.TheVariants.{Head, Level as LevelLine, Seq as SeqLine, Service as ServiceLine, Table as TableLine, Column as ColumnLine, Row as RowLine, NextRow, Sessions, End}
 use Rattle.desk_schema.specs.declared.line.ColumnKind.{ColumnKind}
@@ -17,9 +19,8 @@ use Rattle.desk_schema.specs.declared.schema.Service.{Service}
 use Rattle.desk_schema.specs.declared.schema.Table.{Table}
 use Rattle.desk_schema.specs.declared.schema.Column.{Column}
 use Rattle.desk_schema.specs.Name.{IsName, is_name}
-use Rattle.desk_schema.specs.Schema.{SchemaView, table_names, column_names, service_names}
+use Rattle.desk_schema.specs.Schema.{SchemaView, table_names, column_names}
 use Rattle.desk_schema.specs.Line.{with_name, with_number, name_of}
-use Rattle.desk_schema.specs.Start.{StartView}
 use Rattle.desk_schema.specs.State.{State, nothing, place, with_column, sessions_with, start_with, added}
 use Rattle.desk_schema.specs.Rules.{IsKind, IsNewKey, key_of, key_in, keys_of, last_columns, MayFollow}
 use Rattle.desk_schema.specs.Sound.{HaveColumnsButLast, AreDistinct, AreApart, IsKnownKind, IsSoundTable, IsSoundRow, AreSoundRows, IsSound, IsInOrder, IsSoundNextRow, IsSoundState}
@@ -82,7 +83,7 @@ first_column [] column key new = new refl
 first_column (c ∷ cs) column key new = key
 
 one_more_column : (sequences : ℕ) (table : Table) (column : Column) → IsSoundTable sequences table
-    → length table.columns < 16 → IsName column.name → (Contains (column_names table.columns) column.name → ⊥) → IsKnownKind sequences column.kind
+    → length table.columns < COLUMN_LIMIT → IsName column.name → (Contains (column_names table.columns) column.name → ⊥) → IsKnownKind sequences column.kind
     → (length table.columns ≡ 0 → column.not_null ≡ true) → IsSoundTable sequences (record { name = table.name; columns = table.columns ++ column ∷ [] })
 one_more_column sequences table column sound count is fresh known key =
     let e : column_names (table.columns ++ column ∷ []) ≡ column_names table.columns ++ column.name ∷ [] = map-append _ table.columns (column ∷ []) in record {
@@ -94,7 +95,7 @@ one_more_column sequences table column sound count is fresh known key =
     }
 
 tables_sound-with_column : (sequences : ℕ) (tables : List Table) (column : Column) → AllByRecursion (IsSoundTable sequences) tables
-    → length (last_columns tables) < 16 → IsName column.name → (Contains (column_names (last_columns tables)) column.name → ⊥) → IsKnownKind sequences column.kind
+    → length (last_columns tables) < COLUMN_LIMIT → IsName column.name → (Contains (column_names (last_columns tables)) column.name → ⊥) → IsKnownKind sequences column.kind
     → (length (last_columns tables) ≡ 0 → column.not_null ≡ true) → AllByRecursion (IsSoundTable sequences) (with_column tables column)
 tables_sound-with_column sequences [] column sound count is fresh known key = tt
 tables_sound-with_column sequences (table ∷ []) column sound count is fresh known key = (one_more_column sequences table column sound.0 count is fresh known key, tt)
@@ -116,56 +117,134 @@ length-with_column (table ∷ next ∷ tables) column = ap suc (length-with_colu
 order_added : (state : State) (line : StartLine) → IsSoundState state → MayFollow state line → IsInOrder (place line) (start_with state.start line)
 order_added state Head is rule =
     let o = is.order in
-    record { level = λ h. absurd (omega arith); no_sequences = λ _. o.no_sequences (omega (arith, rule)); no_services = λ _. o.no_services (omega (arith, rule)); no_tables = λ _. o.no_tables (omega (arith, rule));
-      some_table = λ h k. absurd (omega arith); no_rows = λ _. o.no_rows (omega (arith, rule)); begun = o.begun; whole = λ _. o.whole (λ h. omega (arith, rule)) }
+    record {
+      level = λ h. absurd (omega arith);
+      no_sequences = λ _. o.no_sequences (omega (arith, rule));
+      no_services = λ _. o.no_services (omega (arith, rule));
+      no_tables = λ _. o.no_tables (omega (arith, rule));
+      some_table = λ h k. absurd (omega arith);
+      no_rows = λ _. o.no_rows (omega (arith, rule));
+      begun = o.begun;
+      whole = λ _. o.whole (λ h. omega (arith, rule));
+    }
 order_added state (LevelLine level) is rule =
     let o = is.order in
-    record { level = λ _. rule.1; no_sequences = λ _. o.no_sequences (omega (arith, rule.0)); no_services = λ _. o.no_services (omega (arith, rule.0)); no_tables = λ _. o.no_tables (omega (arith, rule.0));
-      some_table = λ h k. absurd (omega arith); no_rows = λ _. o.no_rows (omega (arith, rule.0)); begun = o.begun; whole = λ _. o.whole (λ h. omega (arith, rule.0)) }
+    record {
+      level = λ _. rule.1;
+      no_sequences = λ _. o.no_sequences (omega (arith, rule.0));
+      no_services = λ _. o.no_services (omega (arith, rule.0));
+      no_tables = λ _. o.no_tables (omega (arith, rule.0));
+      some_table = λ h k. absurd (omega arith);
+      no_rows = λ _. o.no_rows (omega (arith, rule.0));
+      begun = o.begun;
+      whole = λ _. o.whole (λ h. omega (arith, rule.0));
+    }
 order_added state (SeqLine name next) is rule =
     let o = is.order in
     let low = rule.order.from in
     let high = rule.order.to in
-    record { level = λ _. o.level low; no_sequences = λ h. absurd (omega arith); no_services = λ _. o.no_services high; no_tables = λ _. o.no_tables (omega arith);
-      some_table = λ h k. absurd (omega arith); no_rows = λ _. o.no_rows (omega arith); begun = o.begun; whole = λ _. o.whole (λ h. omega arith) }
+    record {
+      level = λ _. o.level low;
+      no_sequences = λ h. absurd (omega arith);
+      no_services = λ _. o.no_services high;
+      no_tables = λ _. o.no_tables (omega arith);
+      some_table = λ h k. absurd (omega arith);
+      no_rows = λ _. o.no_rows (omega arith);
+      begun = o.begun;
+      whole = λ _. o.whole (λ h. omega arith);
+    }
 order_added state (ServiceLine name rights) is rule =
     let o = is.order in
     let low = rule.order.from in
     let high = rule.order.to in
-    record { level = λ _. o.level low; no_sequences = λ h. absurd (omega arith); no_services = λ h. absurd (omega arith); no_tables = λ _. o.no_tables high;
-      some_table = λ h k. absurd (omega arith); no_rows = λ _. o.no_rows (omega arith); begun = o.begun; whole = λ _. o.whole (λ h. omega arith) }
+    record {
+      level = λ _. o.level low;
+      no_sequences = λ h. absurd (omega arith);
+      no_services = λ h. absurd (omega arith);
+      no_tables = λ _. o.no_tables high;
+      some_table = λ h k. absurd (omega arith);
+      no_rows = λ _. o.no_rows (omega arith);
+      begun = o.begun;
+      whole = λ _. o.whole (λ h. omega arith);
+    }
 order_added state (TableLine name) is rule =
     let o = is.order in
     let tables = state.start.schema.tables in
-    record { level = λ _. o.level rule.order.from; no_sequences = λ h. absurd (omega arith); no_services = λ h. absurd (omega arith); no_tables = λ h. absurd (omega arith);
-      some_table = λ _ _. omega (arith, length-append tables (record { name = name; columns = [] } ∷ [])); no_rows = λ _. o.no_rows rule.order.to;
-      begun = begun-push tables _ (o.whole rule.whole); whole = λ h. absurd (h refl) }
+    record {
+      level = λ _. o.level rule.order.from;
+      no_sequences = λ h. absurd (omega arith);
+      no_services = λ h. absurd (omega arith);
+      no_tables = λ h. absurd (omega arith);
+      some_table = λ _ _. omega (arith, length-append tables (record { name = name; columns = [] } ∷ []));
+      no_rows = λ _. o.no_rows rule.order.to;
+      begun = begun-push tables _ (o.whole rule.whole);
+      whole = λ h. absurd (h refl);
+    }
 order_added state (ColumnLine name kind not_null) is rule =
     let o = is.order in
     let low = rule.order.from in
     let tables = state.start.schema.tables in
     let column : Column = record { name = name; kind = with_number state.start.schema.sequences kind; not_null = not_null } in
     let whole : AllByRecursion (λ table. 1 ≤ length table.columns) (with_column tables column) = whole-with_column tables column o.begun in
-    record { level = λ _. o.level (omega arith); no_sequences = λ h. absurd (omega arith); no_services = λ h. absurd (omega arith); no_tables = λ h. absurd (omega arith);
-      some_table = λ _ _. (let some = o.some_table low rule.order.to in omega (arith, length-with_column tables column)); no_rows = λ _. o.no_rows rule.order.to;
-      begun = have_columns-but_last _ whole; whole = λ _. whole }
+    record {
+      level = λ _. o.level (omega arith);
+      no_sequences = λ h. absurd (omega arith);
+      no_services = λ h. absurd (omega arith);
+      no_tables = λ h. absurd (omega arith);
+      some_table = λ _ _. (let some = o.some_table low rule.order.to in omega (arith, length-with_column tables column));
+      no_rows = λ _. o.no_rows rule.order.to;
+      begun = have_columns-but_last _ whole;
+      whole = λ _. whole;
+    }
 order_added state (RowLine row table values) is rule =
     let o = is.order in
     let low = rule.fits.order.from in
-    record { level = λ _. o.level (omega arith); no_sequences = λ h. absurd (omega arith); no_services = λ h. absurd (omega arith); no_tables = λ h. absurd (omega arith);
-      some_table = λ h k. absurd (omega arith); no_rows = λ h. absurd (omega arith); begun = o.begun; whole = λ _. o.whole (λ h. omega arith) }
+    record {
+      level = λ _. o.level (omega arith);
+      no_sequences = λ h. absurd (omega arith);
+      no_services = λ h. absurd (omega arith);
+      no_tables = λ h. absurd (omega arith);
+      some_table = λ h k. absurd (omega arith);
+      no_rows = λ h. absurd (omega arith);
+      begun = o.begun;
+      whole = λ _. o.whole (λ h. omega arith);
+    }
 order_added state (NextRow next) is rule =
     let o = is.order in
-    record { level = λ _. o.level rule.order.from; no_sequences = λ h. absurd (omega arith); no_services = λ h. absurd (omega arith); no_tables = λ h. absurd (omega arith);
-      some_table = λ h k. absurd (omega arith); no_rows = λ h. absurd (omega arith); begun = o.begun; whole = λ _. o.whole rule.whole }
+    record {
+      level = λ _. o.level rule.order.from;
+      no_sequences = λ h. absurd (omega arith);
+      no_services = λ h. absurd (omega arith);
+      no_tables = λ h. absurd (omega arith);
+      some_table = λ h k. absurd (omega arith);
+      no_rows = λ h. absurd (omega arith);
+      begun = o.begun;
+      whole = λ _. o.whole rule.whole;
+    }
 order_added state (Sessions count) is rule =
     let o = is.order in
-    record { level = λ _. o.level (omega (arith, rule.0)); no_sequences = λ h. absurd (omega arith); no_services = λ h. absurd (omega arith); no_tables = λ h. absurd (omega arith);
-      some_table = λ h k. absurd (omega arith); no_rows = λ h. absurd (omega arith); begun = o.begun; whole = λ _. o.whole (λ h. omega (arith, rule.0)) }
+    record {
+      level = λ _. o.level (omega (arith, rule.0));
+      no_sequences = λ h. absurd (omega arith);
+      no_services = λ h. absurd (omega arith);
+      no_tables = λ h. absurd (omega arith);
+      some_table = λ h k. absurd (omega arith);
+      no_rows = λ h. absurd (omega arith);
+      begun = o.begun;
+      whole = λ _. o.whole (λ h. omega (arith, rule.0));
+    }
 order_added state End is rule =
     let o = is.order in
-    record { level = λ _. o.level (omega (arith, rule)); no_sequences = λ h. absurd (omega arith); no_services = λ h. absurd (omega arith); no_tables = λ h. absurd (omega arith);
-      some_table = λ h k. absurd (omega arith); no_rows = λ h. absurd (omega arith); begun = o.begun; whole = λ _. o.whole (λ h. omega (arith, rule)) }
+    record {
+      level = λ _. o.level (omega (arith, rule));
+      no_sequences = λ h. absurd (omega arith);
+      no_services = λ h. absurd (omega arith);
+      no_tables = λ h. absurd (omega arith);
+      some_table = λ h k. absurd (omega arith);
+      no_rows = λ h. absurd (omega arith);
+      begun = o.begun;
+      whole = λ _. o.whole (λ h. omega (arith, rule));
+    }
 
 -- ---- the parts
 
@@ -309,7 +388,7 @@ next_row_added state (NextRow next) is rule late = record { least = rule.least; 
 next_row_added state (Sessions count) is rule late = is.next_row (omega (arith, rule.0))
 next_row_added state End is rule late = is.next_row (omega (arith, rule))
 
-sessions_added : (state : State) (line : StartLine) → IsSoundState state → MayFollow state line → sessions_with state.sessions line ≤ 64
+sessions_added : (state : State) (line : StartLine) → IsSoundState state → MayFollow state line → sessions_with state.sessions line ≤ SESSION_LIMIT
 sessions_added state Head is rule = is.sessions
 sessions_added state (LevelLine level) is rule = is.sessions
 sessions_added state (SeqLine name next) is rule = is.sessions

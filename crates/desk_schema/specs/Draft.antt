@@ -9,6 +9,7 @@ use Rattle.desk_schema.specs.declared.draft.DraftErr.TheVariants.{Rule, Memory}
 use Rattle.desk_schema.specs.declared.rules.Last.{Last}
 use Rattle.desk_schema.specs.declared.rules.Last.TheVariants.{Level, Sequence, Service, Table, Column, Row}
 use Rattle.desk_schema.specs.Schema.{SchemaView}
+use Rattle.desk_schema.specs.Start.{StartView}
 use Rattle.desk_schema.specs.State.{State, state_of}
 use Rattle.desk_schema.specs.Rules.{keys_of, AreLines}
 use Rattle.desk_schema.specs.Sound.{IsSoundState}
@@ -25,6 +26,10 @@ place_of_last Row = 7
 -- the state of a draft: neither the next row nor the sessions are declared yet
 abbrev pub drafted : Last → SchemaView → List ℕ → List Image → State
 drafted last schema nexts rows = record { last = place_of_last last; start = record { schema = schema; rows = rows; next_row = 0; next_values = nexts }; sessions = 0 }
+
+-- the state with the line of the next row, once a start is whole
+abbrev pub finished : StartView → State
+finished start = record { last = 8; start = start; sessions = 0 }
 
 -- lines that keep the rules lead to this state
 pub record IsReached (state : State) : Type 0 where

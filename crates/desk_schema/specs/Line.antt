@@ -37,15 +37,11 @@ line_text End = codes "end"
 abbrev pub lines_text : List StartLine → List ℕ
 lines_text lines = flat_map (λ line. line_text line ++ 10 ∷ []) lines
 
--- the number of the sequence of this name, 0 where there is none
-abbrev pub number_of : List (List ℕ) → List ℕ → ℕ
-number_of names name = unwrap_or (place_of names name) 0
-
 -- the name of the sequence of this number, the text of no bytes where there is none
 abbrev pub name_of : List (List ℕ) → ℕ → List ℕ
 name_of names sequence = unwrap_or (slice_get names sequence) []
 
--- a column's kind with the sequence's name, and with its number
+-- a column's kind with the sequence's name, and with its number, which is 0 where there is none
 abbrev pub with_name : List (List ℕ) → Kind → ColumnKind
 with_name names (numbered.Int low high) = written.Int low high
 with_name names (numbered.Text most) = written.Text most
@@ -54,4 +50,4 @@ with_name names (numbered.Seq sequence) = written.Seq (name_of names sequence)
 abbrev pub with_number : List (List ℕ) → ColumnKind → Kind
 with_number names (written.Int low high) = numbered.Int low high
 with_number names (written.Text most) = numbered.Text most
-with_number names (written.Seq sequence) = numbered.Seq (number_of names sequence)
+with_number names (written.Seq sequence) = numbered.Seq (unwrap_or (place_of names sequence) 0)

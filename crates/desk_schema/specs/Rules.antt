@@ -8,6 +8,9 @@ use Rattle.desk_values.specs.declared.value.Value.TheVariants as value
 use Rattle.desk_values.specs.declared.value.Image.{Image}
 use Rattle.desk_values.specs.Comparison.{same_key}
 use Rattle.desk_values.specs.Good.{IsTxt}
+use Rattle.desk_values.specs.declared.value.TheConstants.{TABLE_LIMIT}
+use Rattle.desk_schema.specs.declared.rules.TheConstants.{SEQUENCE_LIMIT, SERVICE_LIMIT, COLUMN_LIMIT, ROW_LIMIT, LENGTH_LIMIT, NEXT_LIMIT}
+use Rattle.desk_schema.specs.declared.line.TheConstants.{SESSION_LIMIT}
 use Rattle.desk_schema.specs.declared.line.StartLine.{StartLine}
 use Rattle.desk_schema.specs.declared.line.StartLine.TheVariants.{Head, Level as LevelLine, Seq as SeqLine, Service as ServiceLine, Table as TableLine, Column as ColumnLine, Row as RowLine, NextRow, Sessions, End}
 use Rattle.desk_schema.specs.declared.line.ColumnKind.{ColumnKind}
@@ -35,16 +38,16 @@ pub record IsWithin (low high last : ℕ) : Type 0 where
 -- `seq`, after `level` or `seq`: at most 16, with names of their own
 pub record SequenceMayFollow (last : ℕ) (sequences : List (List ℕ)) (name : List ℕ) (next : ℕ) : Type 0 where
   pub order : IsWithin 2 3 last
-  pub count : length sequences < 16
+  pub count : length sequences < SEQUENCE_LIMIT
   pub is_name : IsName name
   pub distinct : ¬ Contains sequences name
   pub least : 1 ≤ next
-  pub most : next ≤ 549755813888
+  pub most : next ≤ NEXT_LIMIT
 
 -- `svc`, after `level`, `seq` or `svc`: at most 16, with names of their own
 pub record ServiceMayFollow (last : ℕ) (services : List Service) (name : List ℕ) : Type 0 where
   pub order : IsWithin 2 4 last
-  pub count : length services < 16
+  pub count : length services < SERVICE_LIMIT
   pub is_name : IsName name
   pub distinct : ¬ Contains (service_names services) name
 
@@ -52,7 +55,7 @@ pub record ServiceMayFollow (last : ℕ) (services : List Service) (name : List 
 pub record TableMayFollow (last : ℕ) (tables : List Table) (name : List ℕ) : Type 0 where
   pub order : IsWithin 2 6 last
   pub whole : ¬ (last ≡ 5)
-  pub count : length tables < 32
+  pub count : length tables < TABLE_LIMIT
   pub is_name : IsName name
   pub distinct : ¬ Contains (table_names tables) name
 
@@ -64,13 +67,13 @@ pub record IsRange (low high : ℤ) : Type 0 where
 -- a range with a number in it, a length from 1 to 1,000, or a sequence that is there
 abbrev pub IsKind : List (List ℕ) → ColumnKind → Type 0
 IsKind sequences (written.Int low high) = IsRange low high
-IsKind sequences (written.Text most) = (1 ≤ most) × (most ≤ 1000)
+IsKind sequences (written.Text most) = (1 ≤ most) × (most ≤ LENGTH_LIMIT)
 IsKind sequences (written.Seq sequence) = Contains sequences sequence
 
 -- `col`, after `table` or `col`: at most 16 of a table, with names of their own; the first is not null
 pub record ColumnMayFollow (last : ℕ) (sequences : List (List ℕ)) (columns : List Column) (name : List ℕ) (kind : ColumnKind) (not_null : Bool) : Type 0 where
   pub order : IsWithin 5 6 last
-  pub count : length columns < 16
+  pub count : length columns < COLUMN_LIMIT
   pub is_name : IsName name
   pub distinct : ¬ Contains (column_names columns) name
   pub is_kind : IsKind sequences kind
@@ -112,7 +115,7 @@ AreBelow number rows = AllByRecursion (λ row. row.row < number) rows
 -- `row`, behind `col` or `row`: numbers rise from 1 on, up to 100,000 rows; as many values as columns, and each fits its own
 pub record RowFits (last : ℕ) (tables : List Table) (nexts : List ℕ) (rows : List Image) (row table : ℕ) (values : List Value) : Type 0 where
   pub order : IsWithin 6 7 last
-  pub count : length rows < 100000
+  pub count : length rows < ROW_LIMIT
   pub least : 1 ≤ row
   pub most : row < 2 ^ 64
   pub rising : AreBelow row rows
@@ -129,7 +132,7 @@ pub record NextRowMayFollow (last : ℕ) (rows : List Image) (next : ℕ) : Type
   pub order : IsWithin 2 7 last
   pub whole : ¬ (last ≡ 5)
   pub least : 1 ≤ next
-  pub most : next ≤ 549755813888
+  pub most : next ≤ NEXT_LIMIT
   pub above : AreBelow next rows
 
 -- the line has what it needs
@@ -142,7 +145,7 @@ MayFollow state (TableLine name) = TableMayFollow state.last state.start.schema.
 MayFollow state (ColumnLine name kind not_null) = ColumnMayFollow state.last state.start.schema.sequences (last_columns state.start.schema.tables) name kind not_null
 MayFollow state (RowLine row table values) = RowMayFollow state.last state.start.schema state.start.next_values state.start.rows row table values
 MayFollow state (NextRow next) = NextRowMayFollow state.last state.start.rows next
-MayFollow state (Sessions count) = (state.last ≡ 8) × (count ≤ 64)
+MayFollow state (Sessions count) = (state.last ≡ 8) × (count ≤ SESSION_LIMIT)
 MayFollow state End = state.last ≡ 9
 
 -- each line has what it needs in the state that those before it lead to

@@ -5,6 +5,9 @@ use Rattle.desk_values.specs.declared.value.Value.{Value}
 use Rattle.desk_values.specs.declared.value.Image.{Image}
 use Rattle.desk_values.specs.Comparison.{same_key}
 use Rattle.desk_values.specs.Good.{Ascend}
+use Rattle.desk_values.specs.declared.value.TheConstants.{TABLE_LIMIT}
+use Rattle.desk_schema.specs.declared.rules.TheConstants.{SEQUENCE_LIMIT, SERVICE_LIMIT, COLUMN_LIMIT, ROW_LIMIT, LENGTH_LIMIT, NEXT_LIMIT}
+use Rattle.desk_schema.specs.declared.line.TheConstants.{SESSION_LIMIT}
 use Rattle.desk_schema.specs.declared.schema.Kind.{Kind}
 use Rattle.desk_schema.specs.declared.schema.Kind.TheVariants.{Int, Text, Seq}
 use Rattle.desk_schema.specs.declared.schema.Table.{Table}
@@ -22,13 +25,13 @@ AreDistinct names = (place : ℕ) → place < length names → place_of names (n
 -- a kind within the limits, of a sequence that is there
 abbrev pub IsKnownKind : ℕ → Kind → Type 0
 IsKnownKind sequences (Int low high) = IsRange low high
-IsKnownKind sequences (Text most) = (1 ≤ most) × (most ≤ 1000)
+IsKnownKind sequences (Text most) = (1 ≤ most) × (most ≤ LENGTH_LIMIT)
 IsKnownKind sequences (Seq sequence) = sequence < sequences
 
 -- a table, whose columns may still be coming
 pub record IsSoundTable (sequences : ℕ) (table : Table) : Type 0 where
   pub is_name : IsName table.name
-  pub most : length table.columns ≤ 16
+  pub most : length table.columns ≤ COLUMN_LIMIT
   pub columns : AllByRecursion (λ column. IsName column.name × IsKnownKind sequences column.kind) table.columns
   pub distinct : AreDistinct (column_names table.columns)
   pub key : IfSome (slice_get table.columns 0) (λ column. column.not_null ≡ true)
@@ -52,22 +55,22 @@ HaveColumnsButLast (table ∷ []) = Unit {0}
 HaveColumnsButLast (table ∷ next ∷ tables) = (1 ≤ length table.columns) × HaveColumnsButLast (next ∷ tables)
 
 pub record AreSoundSequences (sequences : List (List ℕ)) (nexts : List ℕ) : Type 0 where
-  pub most : length sequences ≤ 16
+  pub most : length sequences ≤ SEQUENCE_LIMIT
   pub counts : length nexts ≡ length sequences
   pub are_names : AllByRecursion IsName sequences
   pub distinct : AreDistinct sequences
-  pub limits : AllByRecursion (λ next. (1 ≤ next) × (next ≤ 549755813888)) nexts
+  pub limits : AllByRecursion (λ next. (1 ≤ next) × (next ≤ NEXT_LIMIT)) nexts
 
 pub record IsSoundSchema (schema : SchemaView) : Type 0 where
-  pub services : length schema.services ≤ 16
+  pub services : length schema.services ≤ SERVICE_LIMIT
   pub services_named : AllByRecursion IsName (service_names schema.services)
   pub services_distinct : AreDistinct (service_names schema.services)
-  pub tables : length schema.tables ≤ 32
+  pub tables : length schema.tables ≤ TABLE_LIMIT
   pub tables_sound : AllByRecursion (IsSoundTable (length schema.sequences)) schema.tables
   pub tables_distinct : AreDistinct (table_names schema.tables)
 
 pub record AreSoundRows (schema : SchemaView) (nexts : List ℕ) (rows : List Image) : Type 0 where
-  pub most : length rows ≤ 100000
+  pub most : length rows ≤ ROW_LIMIT
   pub rising : Ascend rows
   pub each : AllByRecursion (IsSoundRow schema.tables nexts) rows
   pub apart : (table : ℕ) → AreApart schema.level (keys_of table rows)
@@ -92,7 +95,7 @@ pub record IsInOrder (last : ℕ) (start : StartView) : Type 0 where
 -- the number of the next row is over every row
 pub record IsSoundNextRow (start : StartView) : Type 0 where
   pub least : 1 ≤ start.next_row
-  pub most : start.next_row ≤ 549755813888
+  pub most : start.next_row ≤ NEXT_LIMIT
   pub above : AreBelow start.next_row start.rows
 
 -- what holds in every state that lines lead to
@@ -100,7 +103,7 @@ pub record IsSoundState (state : State) : Type 0 where
   pub order : IsInOrder state.last state.start
   pub sound : IsSound state.start
   pub next_row : 8 ≤ state.last → IsSoundNextRow state.start
-  pub sessions : state.sessions ≤ 64
+  pub sessions : state.sessions ≤ SESSION_LIMIT
 
 -- what holds of every start that keeps the rules
 pub record IsSoundStart (start : StartView) : Type 0 where

@@ -1,13 +1,10 @@
 -- What the lines of a start file have declared so far.
 use Rattle.std.specs.Prelude.{ℕ, List, [], ◌∷◌, ◌++◌, Some}
 use Rattle.std.specs.List.{fold}
-use Rattle.desk_values.specs.declared.value.Image.{Image}
 use Rattle.desk_schema.specs.declared.line.StartLine.{StartLine}
 use Rattle.desk_schema.specs.declared.line.StartLine.TheVariants.{Head, Level as LevelLine, Seq as SeqLine, Service as ServiceLine, Table as TableLine, Column as ColumnLine, Row as RowLine, NextRow, Sessions, End}
-use Rattle.desk_schema.specs.declared.schema.Service.{Service}
 use Rattle.desk_schema.specs.declared.schema.Table.{Table}
 use Rattle.desk_schema.specs.declared.schema.Column.{Column}
-use Rattle.desk_schema.specs.Schema.{SchemaView}
 use Rattle.desk_schema.specs.Line.{with_number}
 use Rattle.desk_schema.specs.Start.{StartView}
 
@@ -40,39 +37,21 @@ with_column [] column = []
 with_column (table ∷ []) column = record { name = table.name; columns = table.columns ++ column ∷ [] } ∷ []
 with_column (table ∷ next ∷ tables) column = table ∷ with_column (next ∷ tables) column
 
--- a schema with what a line declares
-abbrev pub schema_with : SchemaView → StartLine → SchemaView
-schema_with schema (LevelLine level) = record schema { level = level }
-schema_with schema (SeqLine name next) = record schema { sequences = schema.sequences ++ name ∷ [] }
-schema_with schema (ServiceLine name rights) = record schema { services = schema.services ++ record { name = name; rights = rights } ∷ [] }
-schema_with schema (TableLine name) = record schema { tables = schema.tables ++ record { name = name; columns = [] } ∷ [] }
-schema_with schema (ColumnLine name kind not_null) = record schema { tables = with_column schema.tables (record { name = name; kind = with_number schema.sequences kind; not_null = not_null }) }
-schema_with schema other = schema
+-- a start with what a line declares
+abbrev pub start_with : StartView → StartLine → StartView
+start_with start (LevelLine level) = record start { schema = record start.schema { level = level } }
+start_with start (SeqLine name next) = record start { schema = record start.schema { sequences = start.schema.sequences ++ name ∷ [] }; next_values = start.next_values ++ next ∷ [] }
+start_with start (ServiceLine name rights) = record start { schema = record start.schema { services = start.schema.services ++ record { name = name; rights = rights } ∷ [] } }
+start_with start (TableLine name) = record start { schema = record start.schema { tables = start.schema.tables ++ record { name = name; columns = [] } ∷ [] } }
+start_with start (ColumnLine name kind not_null) = record start { schema = record start.schema { tables = with_column start.schema.tables (record { name = name; kind = with_number start.schema.sequences kind; not_null = not_null }) } }
+start_with start (RowLine row table values) = record start { rows = start.rows ++ record { row = row; table = table; left = Some values } ∷ [] }
+start_with start (NextRow row) = record start { next_row = row }
+start_with start other = start
 
-abbrev pub next_values_with : List ℕ → StartLine → List ℕ
-next_values_with nexts (SeqLine name next) = nexts ++ next ∷ []
-next_values_with nexts other = nexts
-
-abbrev pub rows_with : List Image → StartLine → List Image
-rows_with rows (RowLine row table values) = rows ++ record { row = row; table = table; left = Some values } ∷ []
-rows_with rows other = rows
-
-abbrev pub next_row_with : ℕ → StartLine → ℕ
-next_row_with next (NextRow row) = row
-next_row_with next other = next
-
+-- the number of sessions that a line says, this one where it says none
 abbrev pub sessions_with : ℕ → StartLine → ℕ
 sessions_with sessions (Sessions count) = count
 sessions_with sessions other = sessions
-
--- a start with what a line declares
-abbrev pub start_with : StartView → StartLine → StartView
-start_with start line = record {
-  schema = schema_with start.schema line;
-  rows = rows_with start.rows line;
-  next_row = next_row_with start.next_row line;
-  next_values = next_values_with start.next_values line;
-}
 
 -- the state with one more line
 abbrev pub added : State → StartLine → State

@@ -6,11 +6,11 @@ ghost use Rattle.desk_schema.specs.Schema.{place_of};
 ghost use Rattle.desk_schema.specs.Line.{name_of, with_name};
 ghost use Rattle.desk_schema.specs.State.{added, nothing};
 ghost use Rattle.desk_schema.specs.Rules.{MayFollow};
-ghost use Rattle.desk_schema.specs.Draft.{IsReached, Judges, JudgesUnlessMemory};
+ghost use Rattle.desk_schema.specs.Draft.{IsReached, finished, Judges, JudgesUnlessMemory};
 
+use crate::additions::{last_columns, push_column, push_row, push_sequence};
 use crate::keys::{KeySet, row_key};
-use crate::named::place_in;
-use crate::parts::{last_columns, push_column, push_row, push_sequence};
+use crate::lookup::place_in;
 use crate::rules::{
     Last, fits_row, may_add_column, may_add_sequence, may_add_service, may_add_table, may_finish,
 };
@@ -221,7 +221,7 @@ impl Draft {
     /// The start of the lines so far and of the number of the next row. `Rule` where the last table has no column, or
     /// where `next_row` is not above every row and from 1 to 549,755,813,888. It takes no memory. An `Err` drops the draft.
     pub fn finish(self, next_row: u64) -> Result<Start, DraftErr>
-        ensures ok { IfOk result (λ start. start ≡ (added self (StartLine.NextRow next_row)).start) }
+        ensures ok { IfOk result (λ start. finished start ≡ added self (StartLine.NextRow next_row)) }
         ensures rule { Judges result (MayFollow self (StartLine.NextRow next_row)) }
         ensures reached { IsReached self }
     {

@@ -1,8 +1,12 @@
 //! What ties the lines of a start file to the start that they declare, for every file and every start.
 //!
 //! Nothing enters and nothing leaves: each call does nothing, and its clauses are the laws.
-ghost use Rattle.std.specs.Prelude.{ℕ, ◌≡◌, ◌≤◌, ◌++◌, ◌∷◌, [], List};
+ghost use Rattle.std.specs.Prelude.{ℕ, ◌≡◌, ◌≤◌, ◌↔◌, ◌++◌, ◌∷◌, [], IsTrue, List};
+ghost use Rattle.desk_values.specs.Comparison.{same_key};
+ghost use Rattle.desk_values.specs.declared.value.Value.{Value};
+ghost use Rattle.desk_values.specs.declared.value.Value.TheVariants.{Null};
 ghost use Rattle.desk_schema.specs.declared.line.StartLine.{StartLine};
+ghost use Rattle.desk_schema.specs.declared.line.TheConstants.{SESSION_LIMIT};
 ghost use Rattle.desk_schema.specs.Start.{StartView, file_lines};
 ghost use Rattle.desk_schema.specs.State.{state_of};
 ghost use Rattle.desk_schema.specs.Rules.{AreLines, MayFollow};
@@ -16,7 +20,7 @@ pub fn files_are_starts()
 
 /// The lines of a start that keeps the rules are a file, which declares just that start.
 pub fn starts_are_files()
-    ensures file { (start : StartView) (sessions : ℕ) → IsStart start → sessions ≤ 64 → IsFile (file_lines start sessions) }
+    ensures file { (start : StartView) (sessions : ℕ) → IsStart start → sessions ≤ SESSION_LIMIT → IsFile (file_lines start sessions) }
     ensures start { (start : StartView) (sessions : ℕ) → IsStart start → (state_of (file_lines start sessions)).start ≡ start }
     ensures sessions { (start : StartView) (sessions : ℕ) → (state_of (file_lines start sessions)).sessions ≡ sessions }
 {}
@@ -30,4 +34,9 @@ pub fn starts_are_sound()
 pub fn lines_grow()
     ensures grown { (lines : List StartLine) (line : StartLine) → AreLines lines → MayFollow (state_of lines) line → AreLines (lines ++ line ∷ []) }
     ensures front { (front rest : List StartLine) → AreLines (front ++ rest) → AreLines front }
+{}
+
+/// At level 1 a key that is there is the same as another one just where the two are equal.
+pub fn keys_at_level_one()
+    ensures { (key other : Value) → ¬ (other ≡ Null) → IsTrue (same_key 1 key other) ↔ (key ≡ other) }
 {}

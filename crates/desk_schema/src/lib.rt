@@ -4,19 +4,19 @@
 //! It touches nothing but memory.
 #![tactic(auto)]
 
+mod additions;
 mod draft;
 mod keys;
 pub mod laws;
 mod line;
-mod named;
+mod lookup;
 mod names;
-mod parts;
 mod rules;
 mod schema;
 mod start;
 
 pub use draft::{Draft, DraftErr};
-pub use line::{ColumnKind, StartLine};
+pub use line::{ColumnKind, SESSION_LIMIT, StartLine};
 pub use names::is_name;
 pub use schema::{Column, Kind, Rights, Schema, Service, Table};
 pub use start::Start;

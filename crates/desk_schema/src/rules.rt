@@ -7,7 +7,7 @@ ghost use Rattle.desk_schema.specs.Name.{IsName};
 ghost use Rattle.desk_schema.specs.Schema.{columns_of};
 ghost use Rattle.desk_schema.specs.Rules.{AreBelow, ColumnMayFollow, IsAllowed, IsKind, IsOfKind, NextRowMayFollow, RowFits, SequenceMayFollow, ServiceMayFollow, TableMayFollow};
 
-use crate::named::contains_name;
+use crate::lookup::contains_name;
 use crate::names::is_name;
 use crate::schema::{Column, Kind, Service, Table, columns_of};
 use desk_values::{Image, TABLE_LIMIT, Txt, Value};

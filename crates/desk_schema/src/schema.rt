@@ -3,7 +3,7 @@ ghost use Rattle.std.specs.List.{Contains};
 ghost use Rattle.std.specs.Option.{option_map};
 ghost use Rattle.desk_schema.specs.Schema.{columns_of, column_names, IsNoName, IsSchema, place_ignoring_case, rights_of, service_names, shape_of, table_names};
 
-use crate::named::{Named, place_ignoring_case_in};
+use crate::lookup::{Named, place_ignoring_case_in};
 use desk_values::{Copied, List, Memory, Same, Txt, Word};
 use std::marker::Model;
 

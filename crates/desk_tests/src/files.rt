@@ -120,7 +120,10 @@ fn real_files_keep_what_is_written(rt: HostRuntime) -> Result<(), Fail> {
     let file = name(alloc, "desk_tests_kept/new/file")?;
     assert!(rt; matches!(read(&mut files, &file), Err(FileErr::Missing)));
     assert_eq!(rt; write(&mut files, &file, b"first text"), Ok(()));
-    assert_eq!(rt; read(&mut files, &file)?.as_slice(), b"first text".as_slice());
+    assert_eq!(rt;
+        read(&mut files, &file)?.as_slice(),
+        b"first text".as_slice()
+    );
     assert_eq!(rt; write(&mut files, &file, b"second"), Ok(()));
     assert_eq!(rt; read(&mut files, &file)?.as_slice(), b"second".as_slice());
     assert!(rt; matches!(read(&mut files, &folder), Err(FileErr::Failed)));
@@ -139,11 +142,17 @@ fn an_unfinished_write_leaves_the_old_file_and_nothing_beside(rt: HostRuntime) -
     let alloc = rt.alloc();
     let file = name(alloc, "desk_tests_cut/file")?;
     let beside = format!(in alloc; "{}{SUFFIX}", file.as_str())?;
-    assert_eq!(rt; write(&mut RealFiles::new(&rt, alloc), &file, b"old text"), Ok(()));
+    assert_eq!(rt;
+        write(&mut RealFiles::new(&rt, alloc), &file, b"old text"),
+        Ok(())
+    );
     for step in [Step::Write, Step::Sync, Step::Rename] {
         let system = Failing::new(&rt, step);
         let mut files = RealFiles::new(&system, alloc);
-        assert_eq!(rt; write(&mut files, &file, b"the new text"), Err(WriteErr::Failed));
+        assert_eq!(rt;
+            write(&mut files, &file, b"the new text"),
+            Err(WriteErr::Failed)
+        );
         assert_eq!(rt; read(&mut files, &file)?.as_slice(), b"old text".as_slice());
         assert!(rt; !fs::exists(&rt, beside.as_str())?);
     }
@@ -161,7 +170,12 @@ fn a_folder_in_the_way_is_a_fault_and_stays(rt: HostRuntime) -> Result<(), Fail>
     assert_eq!(rt; write(&mut files, &file, b"old text"), Ok(()));
     // A folder of the name that is written.
     assert_eq!(rt; write(&mut files, &folder, b"new"), Err(WriteErr::Failed));
-    assert!(rt; !fs::exists(&rt, format!(in alloc; "{}{SUFFIX}", folder.as_str())?.as_str())?);
+    assert!(rt;
+        !fs::exists(
+            &rt,
+            format!(in alloc; "{}{SUFFIX}", folder.as_str())?.as_str()
+        )?
+    );
     // A folder of the name beside.
     fs::create_dir(&rt, beside.as_str())?;
     assert_eq!(rt; write(&mut files, &file, b"new"), Err(WriteErr::Failed));

@@ -5,17 +5,17 @@ use Rattle.std.specs.Option.{option_map}
 use Rattle.std.specs.List.{AllByRecursion, join_with_byte}
 use Rattle.std.specs.Fmt.{decimal}
 use Rattle.std.specs.Str.{bytes_eq}
-use Rattle.std.proofs.lemmas.Bool.{ne_eqb, eqb-true, eqb-false, or_left}
+use Rattle.std.proofs.lemmas.Bool.{ne_eqb, eqb-true, or_left}
 use Rattle.std.proofs.lemmas.List.{nil_from_length, length-append}
 use Rattle.std.proofs.lemmas.Option.{same_Some}
 use Rattle.std.proofs.lemmas.Slice.Eq.{bytes_eq-Decides}
 use Rattle.desk_values.specs.declared.value.Value.{Value}
 use Rattle.desk_values.specs.declared.value.Value.TheVariants.{Null, Int, Text, Row, Draw}
 use Rattle.desk_values.specs.Fields.{Lacks, cut_at}
-use Rattle.desk_values.specs.Good.{IsValue, IsValues, IsGoodRow}
+use Rattle.desk_values.specs.Good.{IsValue, IsValues}
 use Rattle.desk_values.specs.Text.{value_text, values_text}
 use Rattle.desk_values.specs.Reading.{number_of, number_below, integer_of, escaped_of, draw_of, value_of, items_of, inside_of, values_of}
-use Rattle.desk_values.proofs.Options.{bind_some, map_some, unless_some, when_some, chosen, at_end_some}
+use Rattle.desk_values.proofs.Options.{bind_some, map_some, when_some, chosen, at_end_some}
 use Rattle.desk_values.proofs.Readers.{IsReader, first_of}
 use Rattle.desk_values.proofs.Cuts.{IsCut, cut_at-joined, cut_at_parts, joined_reader}
 use Rattle.desk_values.proofs.Numbers.{numbers, numbers_below, integers}

@@ -5,7 +5,7 @@ use Rattle.std.specs.Ordering.{nat_cmp, int_cmp, is_eq}
 use Rattle.std.specs.Cmp.Lexicographic.{slice_cmp}
 use Rattle.std.specs.declared.cmp.Ordering.{Ordering}
 use Rattle.desk_values.specs.declared.value.Value.{Value}
-use Rattle.desk_values.specs.declared.value.Value.TheVariants.{Null, Int, Text, Row, Draw}
+use Rattle.desk_values.specs.declared.value.Value.TheVariants.{Int, Text, Row, Draw}
 
 -- the bytes without the spaces that lead them
 abbrev pub skip_spaces : List ℕ → List ℕ

@@ -8,7 +8,7 @@ ghost use Rattle.replay_history.specs.Texts.{count_line, counts_text, error_coun
 
 use capture_format::{append_left, append_reply};
 use desk_values::fields::append_u64;
-use desk_values::{Bytes, Event, History, Image, Images, List, Memory};
+use desk_values::{Bytes, Event, History, Image, Images, List, Memory, Word};
 use replay_history::{Class, Line, Mode, Report};
 use std::alloc::Global;
 

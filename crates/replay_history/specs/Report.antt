@@ -1,7 +1,6 @@
 -- The report on a replay in which nothing differs.
 use Rattle.std.specs.Prelude.{ℕ, ◌==◌, if◌then◌else◌, [], map}
 use Rattle.replay_history.specs.declared.report.Report.{Report}
-use Rattle.replay_history.specs.declared.report.Class.{Class}
 use Rattle.replay_history.specs.declared.report.Class.TheVariants.{Same}
 use Rattle.replay_history.specs.Class.{class_number, all_classes}
 

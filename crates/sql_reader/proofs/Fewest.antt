@@ -8,18 +8,16 @@ use Rattle.desk_values.specs.declared.keyword.Keyword.TheVariants as word
 use Rattle.sql_reader.specs.declared.token.Sign.TheVariants as sign
 use Rattle.sql_reader.specs.declared.token.Token.{Token}
 use Rattle.sql_reader.specs.declared.token.Token.TheVariants as token
-use Rattle.sql_tree.specs.Plain.{Term, null, int, text, bind, column, rowid, neg, not, bin, is_null, not_null, Name}
-use Rattle.sql_reader.specs.Grammar.{looseness, right_of, line_of, operator_token, Reads, conjunction, or_, negation, and_, comparison, not_, sum_, compare_, is_null_, not_null_, product, add_, factor, multiply_, primary, minus_, number, string, null_, bind_, name, rowid_, parentheses, IsExpression}
+use Rattle.sql_tree.specs.Plain.{Term, null, int, text, bind, column, rowid, neg, not, bin, is_null, not_null, Name, Total, Entry, Change, Asked, Plan}
+use Rattle.sql_reader.specs.Grammar.{looseness, right_of, line_of, operator_token, Reads, conjunction, or_, negation, and_, comparison, not_, sum_, compare_, is_null_, not_null_, product, add_, factor, multiply_, primary, minus_, number, string, null_, bind_, name, rowid_, parentheses, IsExpression, left_of, Joined, IsList, IsName, IsKey, IsAggregate, IsInput, IsSetting, IsWhere, IsOrder, IsForUpdate, IsSelection, IsColumns, IsBody, IsStatementOf}
 use Rattle.std.specs.Prelude.{nat_lt, if◌then◌else◌}
 use Rattle.std.specs.List.{flat_map}
 use Rattle.std.proofs.lemmas.Bool.{ltb-false, le-ltb}
 use Rattle.sql_tree.specs.declared.tree.Op.TheVariants as op
 use Rattle.sql_tree.specs.declared.tree.Key.{Key}
-use Rattle.sql_tree.specs.Plain.{Name}
-use Rattle.sql_tree.specs.Plain.{Total, Entry, Change, Asked, Plan, Name}
 use Rattle.sql_reader.specs.Grammar as g
-use Rattle.sql_reader.specs.Grammar.{left_of, Joined, IsList, IsName, IsKey, IsAggregate, IsInput, IsSetting, IsWhere, IsOrder, IsForUpdate, IsSelection, IsColumns, IsBody, IsStatementOf}
 use Rattle.sql_reader.specs.Written.{part_of, bare_tokens, expression_tokens, whole, joined, called, aggregate_tokens, given_tokens, assignment_tokens, key_tokens, name_tokens, selection_tokens, where_tokens, order_tokens, for_update_tokens, columns_tokens, inputs_tokens, statement_tokens, opening, opened}
+use Rattle.sql_reader.proofs.Rewritten.{at_most}
 
 opened_both : (ts us : List Token) → opened (ts ++ us) ≡ opened ts + opened us
 opened_both [] us = omega arith
@@ -57,17 +55,7 @@ up p q e ts le h = omega (arith, opened_written p e, opened_written q e, extra_l
 
 operator_opens : (o : Op) → opening (operator_token o) ≡ 0
 operator_opens op.Or = refl
-operator_opens op.And = refl
-operator_opens op.Eq = refl
-operator_opens op.Ne = refl
-operator_opens op.Lt = refl
-operator_opens op.Le = refl
-operator_opens op.Gt = refl
-operator_opens op.Ge = refl
-operator_opens op.Add = refl
-operator_opens op.Sub = refl
-operator_opens op.Mul = refl
-operator_opens op.Div = refl
+operator_opens other = refl
 
 at_home : (part : Part) (e : Term Name) → looseness (part_of e) ≤ looseness part → needs part e ≡ false
 at_home part e le = le-ltb _ _ le
@@ -84,16 +72,6 @@ operated line p q o a b ts us l lp lq f h =
     let eb : opened (expression_tokens (right_of (line_of o)) b) ≡ opened (expression_tokens q b) = ap (λ (x : Part). opened (expression_tokens x b)) right in
     let le : looseness (line_of o) ≤ looseness line = omega (arith, ap looseness l) in
     omega (arith, bare_is line (bin o a b) le, opened_both ts (operator_token o ∷ us), opened_both (expression_tokens (left_of (line_of o)) a) (operator_token o ∷ expression_tokens (right_of (line_of o)) b), none, ea, eb, f, h)
-
-at_most : (part : Part) → looseness part ≤ 7
-at_most Primary = omega arith
-at_most Factor = omega arith
-at_most Product = omega arith
-at_most Sum = omega arith
-at_most Comparison = omega arith
-at_most Negation = omega arith
-at_most Conjunction = omega arith
-at_most Disjunction = omega arith
 
 in_parentheses : (e : Term Name) (ts : List Token) → opened (expression_tokens Disjunction e) ≤ opened ts → opened (expression_tokens Primary e) ≤ opened (token.Sign sign.Open ∷ (ts ++ token.Sign sign.Close ∷ []))
 in_parentheses e ts h = omega (arith, opened_written Primary e, extra_one (needs Primary e), bare_is Disjunction e (at_most (part_of e)), opened_both ts (token.Sign sign.Close ∷ []))

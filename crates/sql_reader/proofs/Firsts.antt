@@ -16,44 +16,12 @@ use Rattle.desk_values.specs.Keyword.{keyword_number, same_keyword}
 use Rattle.sql_reader.specs.Words.{sign_number, same_sign, keyword_operator, sign_operator}
 use Rattle.sql_reader.specs.Grammar.{looseness, line_of, operator_token}
 use Rattle.desk_values.specs.Keyword.{all_keywords}
-use Rattle.sql_reader.specs.Scan.{◌>>=◌}
-use Rattle.sql_reader.specs.Descent.{after_word, after_sign, operator_of, operator_among, operator_at}
+use Rattle.sql_reader.specs.Reading.{◌>>=◌, after_word, after_sign, operator_of, operator_among, operator_at}
 use Rattle.sql_reader.proofs.Options.{bind_then, guard_some, some_is, nothing_is}
 
 keyword_back : (k : Keyword) → get_or all_keywords (keyword_number k) word.And ≡ k
 keyword_back word.And = refl
-keyword_back word.Asc = refl
-keyword_back word.By = refl
-keyword_back word.Commit = refl
-keyword_back word.Count = refl
-keyword_back word.Delete = refl
-keyword_back word.Desc = refl
-keyword_back word.Dual = refl
-keyword_back word.For = refl
-keyword_back word.From = refl
-keyword_back word.Insert = refl
-keyword_back word.Into = refl
-keyword_back word.Is = refl
-keyword_back word.Max = refl
-keyword_back word.Min = refl
-keyword_back word.Nextval = refl
-keyword_back word.Not = refl
-keyword_back word.Null = refl
-keyword_back word.Only = refl
-keyword_back word.Or = refl
-keyword_back word.Order = refl
-keyword_back word.Read = refl
-keyword_back word.Rollback = refl
-keyword_back word.Rowid = refl
-keyword_back word.Savepoint = refl
-keyword_back word.Select = refl
-keyword_back word.Set = refl
-keyword_back word.Sum = refl
-keyword_back word.To = refl
-keyword_back word.Transaction = refl
-keyword_back word.Update = refl
-keyword_back word.Values = refl
-keyword_back word.Where = refl
+keyword_back other = refl
 
 same_keyword_is : (a b : Keyword) → same_keyword a b ≡ true → a ≡ b
 same_keyword_is a b h = sym (keyword_back a) ∙ ap (λ (n : ℕ). get_or all_keywords n word.And) (eqb-true (keyword_number a) (keyword_number b) h) ∙ keyword_back b
@@ -63,20 +31,7 @@ every_sign = sign.Open ∷ sign.Close ∷ sign.Comma ∷ sign.Dot ∷ sign.Star 
 
 sign_back : (s : Sign) → get_or every_sign (sign_number s) sign.Open ≡ s
 sign_back sign.Open = refl
-sign_back sign.Close = refl
-sign_back sign.Comma = refl
-sign_back sign.Dot = refl
-sign_back sign.Star = refl
-sign_back sign.Plus = refl
-sign_back sign.Minus = refl
-sign_back sign.Slash = refl
-sign_back sign.Equal = refl
-sign_back sign.NotEqual = refl
-sign_back sign.Less = refl
-sign_back sign.LessOrEqual = refl
-sign_back sign.Greater = refl
-sign_back sign.GreaterOrEqual = refl
-sign_back sign.Semicolon = refl
+sign_back other = refl
 
 same_sign_is : (a b : Sign) → same_sign a b ≡ true → a ≡ b
 same_sign_is a b h = sym (sign_back a) ∙ ap (λ (n : ℕ). get_or every_sign n sign.Open) (eqb-true (sign_number a) (sign_number b) h) ∙ sign_back b
@@ -86,13 +41,7 @@ every_part = Primary ∷ Factor ∷ Product ∷ Sum ∷ Comparison ∷ Negation 
 
 part_back : (p : Part) → get_or every_part (looseness p) Primary ≡ p
 part_back Primary = refl
-part_back Factor = refl
-part_back Product = refl
-part_back Sum = refl
-part_back Comparison = refl
-part_back Negation = refl
-part_back Conjunction = refl
-part_back Disjunction = refl
+part_back other = refl
 
 pub same_part : (a b : Part) → looseness a ≡ looseness b → a ≡ b
 same_part a b h = sym (part_back a) ∙ ap (λ (n : ℕ). get_or every_part n Primary) h ∙ part_back b
@@ -157,17 +106,7 @@ operator_sound p (t ∷ more) o rest e =
 
 operator_again : (o : Op) → operator_of (operator_token o) ≡ Some o
 operator_again op.Or = refl
-operator_again op.And = refl
-operator_again op.Eq = refl
-operator_again op.Ne = refl
-operator_again op.Lt = refl
-operator_again op.Le = refl
-operator_again op.Gt = refl
-operator_again op.Ge = refl
-operator_again op.Add = refl
-operator_again op.Sub = refl
-operator_again op.Mul = refl
-operator_again op.Div = refl
+operator_again other = refl
 
 pub operator_complete : (p : Part) (o : Op) (rest : List Token) → line_of o ≡ p → operator_at p (operator_token o ∷ rest) ≡ Some (o, rest)
 unfolding operator_at
@@ -189,17 +128,7 @@ rank (t ∷ rest) = rank_of (operator_of t) t
 
 pub rank_operator : (o : Op) (rest : List Token) → rank (operator_token o ∷ rest) ≡ looseness (line_of o)
 rank_operator op.Or rest = refl
-rank_operator op.And rest = refl
-rank_operator op.Eq rest = refl
-rank_operator op.Ne rest = refl
-rank_operator op.Lt rest = refl
-rank_operator op.Le rest = refl
-rank_operator op.Gt rest = refl
-rank_operator op.Ge rest = refl
-rank_operator op.Add rest = refl
-rank_operator op.Sub rest = refl
-rank_operator op.Mul rest = refl
-rank_operator op.Div rest = refl
+rank_operator other rest = refl
 
 less_differs : (a b : ℕ) → b < a → eqb a b ≡ false
 less_differs a b h = grind (arith, nat_tests)

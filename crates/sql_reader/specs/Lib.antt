@@ -3,6 +3,4 @@ pub mod Lexical
 pub mod Grammar
 pub mod Spelling
 pub mod Written
-pub mod Scan
-pub mod Descent
-pub mod Sentences
+pub mod Reading

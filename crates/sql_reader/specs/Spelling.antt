@@ -1,5 +1,6 @@
 -- Which text spells which statement.
-use Rattle.std.specs.Prelude.{◌≡◌, ℕ, List, Option, None, Some, Result, Ok, Err}
+use Rattle.std.specs.Prelude.{◌≡◌, ℕ, List, Option, None, Some, Result}
+use Rattle.desk_values.specs.Answers.{Answers, IsTold}
 use Rattle.sql_reader.specs.declared.error.SqlErr.{SqlErr}
 use Rattle.sql_reader.specs.declared.error.SqlErr.TheVariants as error
 use Rattle.desk_values.specs.declared.text.TxtErr.{TxtErr}
@@ -23,15 +24,18 @@ sql_err text_error.TooLong = error.Syntax
 sql_err text_error.NotUtf8 = error.Syntax
 sql_err text_error.Memory = error.Memory
 
--- the error tells the truth: Syntax comes only where reading gives nothing, Memory at any time
-abbrev pub Fails : {Y : Type 0} → SqlErr → Option Y → Type 0
-Fails error.Syntax read = read ≡ None
-Fails error.Memory read = Unit {0}
+-- an error tells that nothing is spelled, or want of memory, which tells nothing
+abbrev pub told : {Y : Type 0} → SqlErr → Option (Option Y)
+told error.Syntax = Some None
+told error.Memory = None
 
--- What was returned, seen by view, is what reading gives, and Syntax where it gives nothing. Want of memory may come any time.
+-- the error tells what was to be read, if it tells anything
+abbrev pub Fails : {Y : Type 0} → SqlErr → Option Y → Type 0
+Fails e read = IsTold (told e) read
+
+-- what was returned, seen by view, is what was to be read, unless memory ran out
 abbrev pub Gives : {X Y : Type 0} → (X → Y) → Result X SqlErr → Option Y → Type 0
-Gives view (Ok x) read = read ≡ Some (view x)
-Gives view (Err e) read = Fails e read
+Gives view returned read = Answers (λ x. Some (view x)) told returned read
 
 -- the same of what may be absent
 abbrev pub Finds : {X Y : Type 0} → (X → Y) → Option X → Option Y → Type 0

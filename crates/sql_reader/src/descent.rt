@@ -5,7 +5,7 @@ ghost use Rattle.std.specs.Prelude.{◌≡◌, ◌<◌};
 ghost use Rattle.sql_tree.specs.Plain.{term_of};
 ghost use Rattle.sql_reader.specs.Grammar.{looseness, right_of};
 ghost use Rattle.sql_reader.specs.Spelling.{Gives, Finds};
-ghost use Rattle.sql_reader.specs.Descent.{after_word, after_sign, operator_of, operator_at, chain_at, null_test, primary_in, factor_in, compared_in, comparison_in, negation_in, part_in, inner_at, part_at};
+ghost use Rattle.sql_reader.specs.Reading.{after_word, after_sign, operator_of, operator_at, chain_at, null_test, primary_in, factor_in, compared_in, comparison_in, negation_in, part_in, inner_at, part_at};
 
 use crate::error::SqlErr;
 use crate::part::Part;
@@ -16,7 +16,7 @@ use desk_values::keyword::Keyword;
 use std::alloc::Global;
 
 /// What comes after the word, where it is first.
-#[tactic(auto, unfolding(crate::specs::Descent::after_word))]
+#[tactic(auto, unfolding(crate::specs::Reading::after_word))]
 pub fn after_word(word: Keyword, tokens: &[Token]) -> Option<&[Token]>
     ensures { Finds (λ rest. rest.now) result (after_word word tokens.now) }
 {
@@ -27,7 +27,7 @@ pub fn after_word(word: Keyword, tokens: &[Token]) -> Option<&[Token]>
 }
 
 /// What comes after the sign, where it is first.
-#[tactic(auto, unfolding(crate::specs::Descent::after_sign))]
+#[tactic(auto, unfolding(crate::specs::Reading::after_sign))]
 pub fn after_sign(sign: Sign, tokens: &[Token]) -> Option<&[Token]>
     ensures { Finds (λ rest. rest.now) result (after_sign sign tokens.now) }
 {
@@ -62,7 +62,7 @@ fn token_operator(token: &Token) -> Option<Op>
 }
 
 // The operator of the part, where one is first, and what comes after it.
-#[tactic(auto, unfolding(crate::specs::Descent::operator_at))]
+#[tactic(auto, unfolding(crate::specs::Reading::operator_at))]
 fn operator(part: Part, tokens: &[Token]) -> Option<(Op, &[Token])>
     ensures { Finds (λ x. (x.0, x.1.now)) result (operator_at part tokens.now) }
 {
@@ -72,7 +72,7 @@ fn operator(part: Part, tokens: &[Token]) -> Option<(Op, &[Token])>
 }
 
 // NULL or NOT NULL after IS.
-#[tactic(auto, unfolding(crate::specs::Descent::null_test))]
+#[tactic(auto, unfolding(crate::specs::Reading::null_test))]
 fn null_test(alloc: Global, left: Expr, tokens: &[Token]) -> Result<(Expr, &[Token]), SqlErr>
     ensures { Gives (λ x. (term_of x.0, x.1.now)) result (null_test (term_of left) tokens.now) }
 {
@@ -86,7 +86,7 @@ fn null_test(alloc: Global, left: Expr, tokens: &[Token]) -> Result<(Expr, &[Tok
 
 /// The part of an expression at the front, nested at most `depth` deep, and the rest.
 #[cycle(descent)]
-#[tactic(auto, unfolding(crate::specs::Descent::part_at))]
+#[tactic(auto, unfolding(crate::specs::Reading::part_at))]
 pub fn part(
     alloc: Global,
     wanted: Part,
@@ -149,7 +149,7 @@ fn chain(
 }
 
 #[cycle(descent)]
-#[tactic(auto, unfolding(crate::specs::Descent::negation_in, crate::specs::Descent::part_at))]
+#[tactic(auto, unfolding(crate::specs::Reading::negation_in, crate::specs::Reading::part_at))]
 fn negation(alloc: Global, tokens: &[Token], depth: u32) -> Result<(Expr, &[Token]), SqlErr>
     ensures { Gives (λ x. (term_of x.0, x.1.now)) result (part_at depth Part.Negation tokens.now) }
 {
@@ -161,7 +161,7 @@ fn negation(alloc: Global, tokens: &[Token], depth: u32) -> Result<(Expr, &[Toke
 }
 
 #[cycle(descent)]
-#[tactic(auto, unfolding(crate::specs::Descent::comparison_in, crate::specs::Descent::compared_in, crate::specs::Descent::part_at))]
+#[tactic(auto, unfolding(crate::specs::Reading::comparison_in, crate::specs::Reading::compared_in, crate::specs::Reading::part_at))]
 fn comparison(alloc: Global, tokens: &[Token], depth: u32) -> Result<(Expr, &[Token]), SqlErr>
     ensures { Gives (λ x. (term_of x.0, x.1.now)) result (part_at depth Part.Comparison tokens.now) }
 {
@@ -179,7 +179,7 @@ fn comparison(alloc: Global, tokens: &[Token], depth: u32) -> Result<(Expr, &[To
 }
 
 #[cycle(descent)]
-#[tactic(auto, unfolding(crate::specs::Descent::factor_in, crate::specs::Descent::part_at))]
+#[tactic(auto, unfolding(crate::specs::Reading::factor_in, crate::specs::Reading::part_at))]
 fn factor(alloc: Global, tokens: &[Token], depth: u32) -> Result<(Expr, &[Token]), SqlErr>
     ensures { Gives (λ x. (term_of x.0, x.1.now)) result (part_at depth Part.Factor tokens.now) }
 {
@@ -191,7 +191,7 @@ fn factor(alloc: Global, tokens: &[Token], depth: u32) -> Result<(Expr, &[Token]
 }
 
 #[cycle(descent)]
-#[tactic(auto, unfolding(crate::specs::Descent::primary_in, crate::specs::Descent::part_at))]
+#[tactic(auto, unfolding(crate::specs::Reading::primary_in, crate::specs::Reading::part_at))]
 fn primary(alloc: Global, tokens: &[Token], depth: u32) -> Result<(Expr, &[Token]), SqlErr>
     ensures { Gives (λ x. (term_of x.0, x.1.now)) result (part_at depth Part.Primary tokens.now) }
 {

@@ -3,13 +3,16 @@ ghost use Rattle.sql_reader.specs.declared.error.SqlErr.TheVariants.{Memory as O
 
 use desk_values::{Memory, TxtErr};
 use std::alloc::{AllocError, AllocFailed};
+use thiserror::Error;
 
 /// Why a text gave no statement.
-#[derive(Clone, Copy, Debug, PartialEq, Eq)]
+#[derive(Clone, Copy, Debug, PartialEq, Eq, Error)]
 pub enum SqlErr {
     /// The text spells no statement.
+    #[error("the text is no statement")]
     Syntax,
     /// Memory ran out.
+    #[error("out of memory")]
     Memory,
 }
 

@@ -6,6 +6,7 @@
 
 mod descent;
 mod error;
+mod laws;
 mod part;
 mod read;
 mod scanner;
@@ -16,11 +17,10 @@ mod write;
 mod writer;
 
 pub use error::SqlErr;
-pub use read::{one_statement, read_statement};
+pub use laws::{fewest_parentheses, one_statement, statement_as_spelled};
+pub use read::read_statement;
 pub use tree::{
-    Agg, Aggs, Expr, Exprs, Input, Inputs, Items, Key, Keys, Names, Op, Sets, Setting, Statement,
+    Agg, Aggs, CopiedTree, Expr, Exprs, Input, Inputs, Items, Key, Keys, Names, Op, Sets, Setting,
+    Statement,
 };
-pub use write::{fewest_parentheses, write_statement};
-
-#[cfg(test)]
-mod tests;
+pub use write::write_statement;

@@ -1,7 +1,7 @@
 ghost use Rattle.std.specs.Prelude.{◌≡◌, ℕ, List, Some, IfOk};
 ghost use Rattle.sql_tree.specs.Plain.{Plan, plan_of, Name};
 ghost use Rattle.sql_reader.specs.Spelling.{Spells, IsStatement, Gives};
-ghost use Rattle.sql_reader.specs.Sentences.{read_at};
+ghost use Rattle.sql_reader.specs.Reading.{statement_of};
 
 use crate::error::SqlErr;
 use crate::scanner::scan;
@@ -18,7 +18,9 @@ use std::alloc::Global;
 ///
 /// `Syntax` exactly where the text spells no statement, and `Memory` where memory runs out.
 pub fn read_statement(alloc: Global, text: &Txt) -> Result<Statement, SqlErr>
-    // The text spells what is given.
+    // What is given is a function of the text.
+    ensures reads { Gives plan_of result (statement_of text.now) }
+    // The text spells it.
     ensures ok { IfOk result (λ statement. Spells text.now (plan_of statement)) }
     // It can be written.
     ensures written { IfOk result (λ statement. IsStatement (plan_of statement)) }
@@ -28,15 +30,10 @@ pub fn read_statement(alloc: Global, text: &Txt) -> Result<Statement, SqlErr>
     read(alloc, text.as_str().as_bytes())
 }
 
-#[tactic(auto, unfolding(crate::specs::Sentences::read_at))]
+#[tactic(auto, unfolding(crate::specs::Reading::statement_of))]
 fn read(alloc: Global, text: &[u8]) -> Result<Statement, SqlErr>
-    ensures { Gives plan_of result (read_at text.now) }
+    ensures { Gives plan_of result (statement_of text.now) }
 {
     let tokens = scan(alloc, text)?;
     statement(alloc, &tokens)
 }
-
-/// A text spells at most one statement. The call does nothing: its clause is the law.
-pub fn one_statement()
-    ensures { (text : List ℕ) (a b : Plan Name) → Spells text a → Spells text b → a ≡ b }
-{}

@@ -4,12 +4,12 @@ ghost use Rattle.std.specs.Prelude.{◌≡◌, ◌∷◌, IfOk, MatchOption, fal
 ghost use Rattle.std.specs.List.{prefix_len};
 ghost use Rattle.sql_reader.specs.Spelling.{Gives};
 ghost use Rattle.sql_reader.specs.Lexical.{is_space, is_part, folded};
-ghost use Rattle.sql_reader.specs.Scan.{begins_quote, txt_at, keyword_at, word_at, value_at, number_at, bind_number, bind_at, content_at, string_at, sign_at, run_of, behind_run, token_at, step_at, tokens_at, scanned};
+ghost use Rattle.sql_reader.specs.Reading.{begins_quote, txt_at, word_at, value_at, number_at, bind_number, bind_at, content_at, string_at, sign_at, run_of, behind_run, token_at, step_at, tokens_at, scanned};
 
 use crate::error::SqlErr;
 use crate::token::{SIGNS, Sign, Token};
-use desk_values::Txt;
-use desk_values::keyword::{KEYWORDS, Keyword, NAME_LIMIT};
+use desk_values::keyword::{Keyword, NAME_LIMIT};
+use desk_values::{Txt, find_word};
 use std::alloc::{AllocError, Global};
 
 fn is_space(byte: u8) -> bool
@@ -38,21 +38,11 @@ fn run_len(bytes: &[u8]) -> usize
     bytes.iter().take_while(|byte| is_word_byte(**byte)).count()
 }
 
-#[tactic(auto, unfolding(crate::specs::Scan::txt_at))]
+#[tactic(auto, unfolding(crate::specs::Reading::txt_at))]
 fn text_of(alloc: Global, bytes: &[u8]) -> Result<Txt, SqlErr>
     ensures { Gives (λ text. text) result (txt_at bytes.now) }
 {
     Ok(Txt::from_bytes(alloc, bytes)?)
-}
-
-#[tactic(auto, unfolding(crate::specs::Scan::keyword_at))]
-fn keyword(word: &[u8]) -> Option<Keyword>
-    ensures { result ≡ keyword_at word.now }
-{
-    KEYWORDS
-        .iter()
-        .copied()
-        .find(|keyword| keyword.word() == word)
 }
 
 fn lower(alloc: Global, run: &[u8]) -> Result<Vec<u8>, AllocError>
@@ -63,12 +53,12 @@ fn lower(alloc: Global, run: &[u8]) -> Result<Vec<u8>, AllocError>
         .collect(alloc)
 }
 
-#[tactic(auto, unfolding(crate::specs::Scan::word_at))]
+#[tactic(auto, unfolding(crate::specs::Reading::word_at))]
 fn word(alloc: Global, run: &[u8]) -> Result<Token, SqlErr>
     ensures { Gives (λ t. t) result (word_at run.now) }
 {
     let folded = lower(alloc, run)?;
-    if let Some(keyword) = keyword(&folded) {
+    if let Some(keyword) = find_word::<Keyword>(&folded) {
         return Ok(Token::Word(keyword));
     }
     if folded.len() > NAME_LIMIT {
@@ -77,7 +67,7 @@ fn word(alloc: Global, run: &[u8]) -> Result<Token, SqlErr>
     Ok(Token::Name(text_of(alloc, &folded)?))
 }
 
-#[tactic(auto, unfolding(crate::specs::Scan::number_at))]
+#[tactic(auto, unfolding(crate::specs::Reading::number_at))]
 fn number(run: &[u8]) -> Result<Token, SqlErr>
     ensures { Gives (λ t. t) result (number_at run.now) }
 {
@@ -86,7 +76,7 @@ fn number(run: &[u8]) -> Result<Token, SqlErr>
 }
 
 // The number of the digits, where it is in range.
-#[tactic(auto, unfolding(crate::specs::Scan::value_at))]
+#[tactic(auto, unfolding(crate::specs::Reading::value_at))]
 fn value(run: &[u8]) -> Option<i64>
     ensures { result ≡ value_at run.now }
 {
@@ -104,7 +94,7 @@ fn value(run: &[u8]) -> Option<i64>
     Some(value as i64)
 }
 
-#[tactic(auto, unfolding(crate::specs::Scan::bind_at))]
+#[tactic(auto, unfolding(crate::specs::Reading::bind_at))]
 fn bind(run: &[u8]) -> Result<Token, SqlErr>
     ensures { Gives (λ t. t) result (bind_at run.now) }
 {
@@ -113,7 +103,7 @@ fn bind(run: &[u8]) -> Result<Token, SqlErr>
 }
 
 // A number from 1 to 16.
-#[tactic(auto, unfolding(crate::specs::Scan::bind_number))]
+#[tactic(auto, unfolding(crate::specs::Reading::bind_number))]
 fn bind_value(run: &[u8]) -> Option<u32>
     ensures { result ≡ bind_number run.now }
 {
@@ -153,7 +143,7 @@ fn after_quote(bytes: &[u8]) -> Option<&[u8]>
     (*first == b'\'').then_some(rest)
 }
 
-#[tactic(auto, unfolding(crate::specs::Scan::string_at))]
+#[tactic(auto, unfolding(crate::specs::Reading::string_at))]
 fn string(alloc: Global, bytes: &[u8]) -> Result<(Token, &[u8]), SqlErr>
     ensures { Gives (λ x. (x.0, x.1.now)) result (string_at bytes.now) }
 {
@@ -162,7 +152,7 @@ fn string(alloc: Global, bytes: &[u8]) -> Result<(Token, &[u8]), SqlErr>
 }
 
 // The longest sign.
-#[tactic(auto, unfolding(crate::specs::Scan::sign_at))]
+#[tactic(auto, unfolding(crate::specs::Reading::sign_at))]
 fn sign(bytes: &[u8]) -> Result<(Token, &[u8]), SqlErr>
     ensures { Gives (λ x. (x.0, x.1.now)) result (sign_at bytes.now) }
 {
@@ -177,7 +167,7 @@ fn sign(bytes: &[u8]) -> Result<(Token, &[u8]), SqlErr>
     Err(SqlErr::Syntax)
 }
 
-#[tactic(auto, unfolding(crate::specs::Scan::token_at))]
+#[tactic(auto, unfolding(crate::specs::Reading::token_at))]
 fn token<'a>(
     alloc: Global,
     first: u8,
@@ -206,7 +196,7 @@ fn token<'a>(
 }
 
 // One space or one token, and the rest.
-#[tactic(auto, unfolding(crate::specs::Scan::step_at))]
+#[tactic(auto, unfolding(crate::specs::Reading::step_at))]
 fn step(alloc: Global, bytes: &[u8]) -> Result<(Option<Token>, &[u8]), SqlErr>
     ensures { Gives (λ x. (x.0, x.1.now)) result (step_at bytes.now) }
 {
@@ -221,7 +211,7 @@ fn step(alloc: Global, bytes: &[u8]) -> Result<(Option<Token>, &[u8]), SqlErr>
 }
 
 /// The tokens that the bytes spell.
-#[tactic(auto, unfolding(crate::specs::Scan::scanned))]
+#[tactic(auto, unfolding(crate::specs::Reading::scanned))]
 pub fn scan(alloc: Global, bytes: &[u8]) -> Result<Vec<Token>, SqlErr>
     ensures { Gives (λ tokens. tokens.items) result (scanned bytes.now) }
 {

@@ -4,8 +4,7 @@ ghost use Rattle.std.specs.Prelude.{◌≡◌, map, ◌∷◌, [], List, Option}
 ghost use Rattle.sql_reader.specs.declared.token.Token.{Token as OneToken};
 ghost use Rattle.sql_tree.specs.Plain.{Term, Total, Entry, Change, term_of, condition_of, total_of, entry_of, change_of, asked_of, plan_of, Name};
 ghost use Rattle.sql_reader.specs.Spelling.{Gives, Finds};
-ghost use Rattle.sql_reader.specs.Descent.{expression_at};
-ghost use Rattle.sql_reader.specs.Sentences.{list_at, name_at, key_at, enclosed_at, counted_at, aggregate_at, draw_at, input_at, setting_at, where_at, order_at, for_update_at, from_at, is_aggregate_word, begins_aggregate, aggregates_at, rows_at, listed_at, dual_at, items_at, select_at, columns_at, inputs_at, insert_at, update_at, delete_at, set_at, body_at, statement_at};
+ghost use Rattle.sql_reader.specs.Reading.{expression_at, list_at, name_at, key_at, enclosed_at, counted_at, aggregate_at, draw_at, input_at, setting_at, where_at, order_at, for_update_at, from_at, is_aggregate_word, begins_aggregate, aggregates_at, rows_at, listed_at, dual_at, items_at, select_at, columns_at, inputs_at, insert_at, update_at, delete_at, set_at, body_at, statement_at};
 
 use crate::descent::{after_sign, after_word, expect_sign, expect_word, part};
 use crate::error::SqlErr;
@@ -55,7 +54,7 @@ fn list<T: Member>(alloc: Global, tokens: &[Token]) -> Result<(List<T>, &[Token]
 
 impl Member for Expr {
     ghost use Rattle.sql_tree.specs.Plain.{Term as Tree, Name, term_of as tree};
-    ghost use Rattle.sql_reader.specs.Descent.{expression_at as read_expression};
+    ghost use Rattle.sql_reader.specs.Reading.{expression_at as read_expression};
 
     ghost Plain = { Tree Name };
 
@@ -76,7 +75,7 @@ pub fn expression(alloc: Global, tokens: &[Token]) -> Result<(Expr, &[Token]), S
 }
 
 /// The name at the front, and the rest.
-#[tactic(auto, unfolding(crate::specs::Sentences::name_at))]
+#[tactic(auto, unfolding(crate::specs::Reading::name_at))]
 pub fn name(tokens: &[Token]) -> Result<(Txt, &[Token]), SqlErr>
     ensures { Gives (λ x. (x.0, x.1.now)) result (name_at tokens.now) }
 {
@@ -88,7 +87,7 @@ pub fn name(tokens: &[Token]) -> Result<(Txt, &[Token]), SqlErr>
 
 impl Member for Txt {
     ghost use Rattle.std.specs.Prelude.{ℕ, List as Bytes};
-    ghost use Rattle.sql_reader.specs.Sentences.{name_at as reading_of};
+    ghost use Rattle.sql_reader.specs.Reading.{name_at as reading_of};
 
     ghost Plain = { Bytes ℕ };
 
@@ -101,7 +100,7 @@ impl Member for Txt {
     }
 }
 
-#[tactic(auto, unfolding(crate::specs::Sentences::key_at))]
+#[tactic(auto, unfolding(crate::specs::Reading::key_at))]
 fn key(tokens: &[Token]) -> Result<(Key, &[Token]), SqlErr>
     ensures { Gives (λ x. (x.0, x.1.now)) result (key_at tokens.now) }
 {
@@ -110,15 +109,27 @@ fn key(tokens: &[Token]) -> Result<(Key, &[Token]), SqlErr>
         return Ok((Key { column, desc: true }, rest));
     }
     match after_word(Keyword::Asc, after) {
-        Some(rest) => Ok((Key { column, desc: false }, rest)),
-        None => Ok((Key { column, desc: false }, after)),
+        Some(rest) => Ok((
+            Key {
+                column,
+                desc: false,
+            },
+            rest,
+        )),
+        None => Ok((
+            Key {
+                column,
+                desc: false,
+            },
+            after,
+        )),
     }
 }
 
 impl Member for Key {
     ghost use Rattle.sql_tree.specs.declared.tree.Key.{Key as Plainly};
     ghost use Rattle.sql_tree.specs.Plain.{Name};
-    ghost use Rattle.sql_reader.specs.Sentences.{key_at as reading_of};
+    ghost use Rattle.sql_reader.specs.Reading.{key_at as reading_of};
 
     ghost Plain = { Plainly Name };
 
@@ -132,7 +143,7 @@ impl Member for Key {
 }
 
 // An expression in parentheses.
-#[tactic(auto, unfolding(crate::specs::Sentences::enclosed_at))]
+#[tactic(auto, unfolding(crate::specs::Reading::enclosed_at))]
 fn enclosed(alloc: Global, tokens: &[Token]) -> Result<(Expr, &[Token]), SqlErr>
     ensures { Gives (λ x. (term_of x.0, x.1.now)) result (enclosed_at tokens.now) }
 {
@@ -142,7 +153,7 @@ fn enclosed(alloc: Global, tokens: &[Token]) -> Result<(Expr, &[Token]), SqlErr>
 }
 
 // A star in parentheses.
-#[tactic(auto, unfolding(crate::specs::Sentences::counted_at))]
+#[tactic(auto, unfolding(crate::specs::Reading::counted_at))]
 fn counted(tokens: &[Token]) -> Result<&[Token], SqlErr>
     ensures { Gives (λ rest. rest.now) result (counted_at tokens.now) }
 {
@@ -151,7 +162,7 @@ fn counted(tokens: &[Token]) -> Result<&[Token], SqlErr>
     expect_sign(Sign::Close, after)
 }
 
-#[tactic(auto, unfolding(crate::specs::Sentences::aggregate_at))]
+#[tactic(auto, unfolding(crate::specs::Reading::aggregate_at))]
 fn aggregate(alloc: Global, tokens: &[Token]) -> Result<(Agg, &[Token]), SqlErr>
     ensures { Gives (λ x. (total_of x.0, x.1.now)) result (aggregate_at tokens.now) }
 {
@@ -178,7 +189,7 @@ fn aggregate(alloc: Global, tokens: &[Token]) -> Result<(Agg, &[Token]), SqlErr>
 
 impl Member for Agg {
     ghost use Rattle.sql_tree.specs.Plain.{Total as Plainly, Name, total_of as plain};
-    ghost use Rattle.sql_reader.specs.Sentences.{aggregate_at as reading_of};
+    ghost use Rattle.sql_reader.specs.Reading.{aggregate_at as reading_of};
 
     ghost Plain = { Plainly Name };
 
@@ -192,7 +203,7 @@ impl Member for Agg {
 }
 
 // A name, a point and NEXTVAL, where they are first.
-#[tactic(auto, unfolding(crate::specs::Sentences::draw_at))]
+#[tactic(auto, unfolding(crate::specs::Reading::draw_at))]
 fn draw(tokens: &[Token]) -> Option<(&Txt, &[Token])>
     ensures { Finds (λ x. (x.0.now, x.1.now)) result (draw_at tokens.now) }
 {
@@ -202,7 +213,7 @@ fn draw(tokens: &[Token]) -> Option<(&Txt, &[Token])>
     Some((name, rest))
 }
 
-#[tactic(auto, unfolding(crate::specs::Sentences::name_at))]
+#[tactic(auto, unfolding(crate::specs::Reading::name_at))]
 fn first_name(tokens: &[Token]) -> Option<(&Txt, &[Token])>
     ensures { Finds (λ x. (x.0.now, x.1.now)) result (name_at tokens.now) }
 {
@@ -212,7 +223,7 @@ fn first_name(tokens: &[Token]) -> Option<(&Txt, &[Token])>
     }
 }
 
-#[tactic(auto, unfolding(crate::specs::Sentences::input_at))]
+#[tactic(auto, unfolding(crate::specs::Reading::input_at))]
 fn input(alloc: Global, tokens: &[Token]) -> Result<(Input, &[Token]), SqlErr>
     ensures { Gives (λ x. (entry_of x.0, x.1.now)) result (input_at tokens.now) }
 {
@@ -225,7 +236,7 @@ fn input(alloc: Global, tokens: &[Token]) -> Result<(Input, &[Token]), SqlErr>
 
 impl Member for Input {
     ghost use Rattle.sql_tree.specs.Plain.{Entry as Plainly, Name, entry_of as plain};
-    ghost use Rattle.sql_reader.specs.Sentences.{input_at as reading_of};
+    ghost use Rattle.sql_reader.specs.Reading.{input_at as reading_of};
 
     ghost Plain = { Plainly Name };
 
@@ -238,7 +249,7 @@ impl Member for Input {
     }
 }
 
-#[tactic(auto, unfolding(crate::specs::Sentences::setting_at))]
+#[tactic(auto, unfolding(crate::specs::Reading::setting_at))]
 fn setting(alloc: Global, tokens: &[Token]) -> Result<(Setting, &[Token]), SqlErr>
     ensures { Gives (λ x. (change_of x.0, x.1.now)) result (setting_at tokens.now) }
 {
@@ -250,7 +261,7 @@ fn setting(alloc: Global, tokens: &[Token]) -> Result<(Setting, &[Token]), SqlEr
 
 impl Member for Setting {
     ghost use Rattle.sql_tree.specs.Plain.{Change as Plainly, Name, change_of as plain};
-    ghost use Rattle.sql_reader.specs.Sentences.{setting_at as reading_of};
+    ghost use Rattle.sql_reader.specs.Reading.{setting_at as reading_of};
 
     ghost Plain = { Plainly Name };
 
@@ -263,7 +274,7 @@ impl Member for Setting {
     }
 }
 
-#[tactic(auto, unfolding(crate::specs::Sentences::where_at))]
+#[tactic(auto, unfolding(crate::specs::Reading::where_at))]
 fn condition(alloc: Global, tokens: &[Token]) -> Result<(Option<Expr>, &[Token]), SqlErr>
     ensures { Gives (λ x. (condition_of x.0, x.1.now)) result (where_at tokens.now) }
 {
@@ -274,7 +285,7 @@ fn condition(alloc: Global, tokens: &[Token]) -> Result<(Option<Expr>, &[Token])
     Ok((Some(expr), rest))
 }
 
-#[tactic(auto, unfolding(crate::specs::Sentences::order_at))]
+#[tactic(auto, unfolding(crate::specs::Reading::order_at))]
 fn order(alloc: Global, tokens: &[Token]) -> Result<(Keys, &[Token]), SqlErr>
     ensures { Gives (λ x. (x.0, x.1.now)) result (order_at tokens.now) }
 {
@@ -284,7 +295,7 @@ fn order(alloc: Global, tokens: &[Token]) -> Result<(Keys, &[Token]), SqlErr>
     list(alloc, expect_word(Keyword::By, after)?)
 }
 
-#[tactic(auto, unfolding(crate::specs::Sentences::for_update_at))]
+#[tactic(auto, unfolding(crate::specs::Reading::for_update_at))]
 fn for_update(tokens: &[Token]) -> Result<(bool, &[Token]), SqlErr>
     ensures { Gives (λ x. (x.0, x.1.now)) result (for_update_at tokens.now) }
 {
@@ -295,7 +306,7 @@ fn for_update(tokens: &[Token]) -> Result<(bool, &[Token]), SqlErr>
 }
 
 // FROM and the table.
-#[tactic(auto, unfolding(crate::specs::Sentences::from_at))]
+#[tactic(auto, unfolding(crate::specs::Reading::from_at))]
 fn from(tokens: &[Token]) -> Result<(Txt, &[Token]), SqlErr>
     ensures { Gives (λ x. (x.0, x.1.now)) result (from_at tokens.now) }
 {
@@ -320,7 +331,7 @@ fn aggregate_word(word: Keyword) -> bool
     )
 }
 
-#[tactic(auto, unfolding(crate::specs::Sentences::aggregates_at))]
+#[tactic(auto, unfolding(crate::specs::Reading::aggregates_at))]
 fn select_aggregates(alloc: Global, tokens: &[Token]) -> Result<(Statement, &[Token]), SqlErr>
     ensures { Gives (λ x. (plan_of x.0, x.1.now)) result (aggregates_at tokens.now) }
 {
@@ -335,7 +346,7 @@ fn select_aggregates(alloc: Global, tokens: &[Token]) -> Result<(Statement, &[To
 }
 
 // What comes after the items of a SELECT of rows.
-#[tactic(auto, unfolding(crate::specs::Sentences::rows_at))]
+#[tactic(auto, unfolding(crate::specs::Reading::rows_at))]
 fn select_rows(
     alloc: Global,
     items: Items,
@@ -357,7 +368,7 @@ fn select_listed(alloc: Global, tokens: &[Token]) -> Result<(Statement, &[Token]
     select_rows(alloc, Items::Exprs(exprs), after)
 }
 
-#[tactic(auto, unfolding(crate::specs::Sentences::dual_at))]
+#[tactic(auto, unfolding(crate::specs::Reading::dual_at))]
 fn dual(tokens: &[Token]) -> Result<&[Token], SqlErr>
     ensures { Gives (λ rest. rest.now) result (dual_at tokens.now) }
 {
@@ -377,7 +388,7 @@ fn select_items(alloc: Global, tokens: &[Token]) -> Result<(Statement, &[Token])
     }
 }
 
-#[tactic(auto, unfolding(crate::specs::Sentences::select_at))]
+#[tactic(auto, unfolding(crate::specs::Reading::select_at))]
 fn select(alloc: Global, tokens: &[Token]) -> Result<(Statement, &[Token]), SqlErr>
     ensures { Gives (λ x. (plan_of x.0, x.1.now)) result (select_at tokens.now) }
 {
@@ -388,7 +399,7 @@ fn select(alloc: Global, tokens: &[Token]) -> Result<(Statement, &[Token]), SqlE
     select_items(alloc, tokens)
 }
 
-#[tactic(auto, unfolding(crate::specs::Sentences::columns_at))]
+#[tactic(auto, unfolding(crate::specs::Reading::columns_at))]
 fn columns(alloc: Global, tokens: &[Token]) -> Result<(Option<Names>, &[Token]), SqlErr>
     ensures { Gives (λ x. (x.0, x.1.now)) result (columns_at tokens.now) }
 {
@@ -399,7 +410,7 @@ fn columns(alloc: Global, tokens: &[Token]) -> Result<(Option<Names>, &[Token]),
     Ok((Some(names), expect_sign(Sign::Close, after)?))
 }
 
-#[tactic(auto, unfolding(crate::specs::Sentences::inputs_at))]
+#[tactic(auto, unfolding(crate::specs::Reading::inputs_at))]
 fn inputs(alloc: Global, tokens: &[Token]) -> Result<(Inputs, &[Token]), SqlErr>
     ensures { Gives (λ x. (map entry_of x.0, x.1.now)) result (inputs_at tokens.now) }
 {
@@ -409,7 +420,7 @@ fn inputs(alloc: Global, tokens: &[Token]) -> Result<(Inputs, &[Token]), SqlErr>
     Ok((inputs, expect_sign(Sign::Close, after)?))
 }
 
-#[tactic(auto, unfolding(crate::specs::Sentences::insert_at))]
+#[tactic(auto, unfolding(crate::specs::Reading::insert_at))]
 fn insert(alloc: Global, tokens: &[Token]) -> Result<(Statement, &[Token]), SqlErr>
     ensures { Gives (λ x. (plan_of x.0, x.1.now)) result (insert_at tokens.now) }
 {
@@ -420,7 +431,7 @@ fn insert(alloc: Global, tokens: &[Token]) -> Result<(Statement, &[Token]), SqlE
     Ok((Statement::Insert(table, names, inputs), rest))
 }
 
-#[tactic(auto, unfolding(crate::specs::Sentences::update_at))]
+#[tactic(auto, unfolding(crate::specs::Reading::update_at))]
 fn update(alloc: Global, tokens: &[Token]) -> Result<(Statement, &[Token]), SqlErr>
     ensures { Gives (λ x. (plan_of x.0, x.1.now)) result (update_at tokens.now) }
 {
@@ -431,7 +442,7 @@ fn update(alloc: Global, tokens: &[Token]) -> Result<(Statement, &[Token]), SqlE
     Ok((Statement::Update(table, sets, condition), rest))
 }
 
-#[tactic(auto, unfolding(crate::specs::Sentences::delete_at))]
+#[tactic(auto, unfolding(crate::specs::Reading::delete_at))]
 fn delete(alloc: Global, tokens: &[Token]) -> Result<(Statement, &[Token]), SqlErr>
     ensures { Gives (λ x. (plan_of x.0, x.1.now)) result (delete_at tokens.now) }
 {
@@ -440,7 +451,7 @@ fn delete(alloc: Global, tokens: &[Token]) -> Result<(Statement, &[Token]), SqlE
     Ok((Statement::Delete(table, condition), rest))
 }
 
-#[tactic(auto, unfolding(crate::specs::Sentences::set_at))]
+#[tactic(auto, unfolding(crate::specs::Reading::set_at))]
 fn set_transaction(tokens: &[Token]) -> Result<(Statement, &[Token]), SqlErr>
     ensures { Gives (λ x. (plan_of x.0, x.1.now)) result (set_at tokens.now) }
 {
@@ -449,7 +460,7 @@ fn set_transaction(tokens: &[Token]) -> Result<(Statement, &[Token]), SqlErr>
     Ok((Statement::SetReadOnly, expect_word(Keyword::Only, after)?))
 }
 
-#[tactic(auto, unfolding(crate::specs::Sentences::body_at))]
+#[tactic(auto, unfolding(crate::specs::Reading::body_at))]
 fn body(alloc: Global, tokens: &[Token]) -> Result<(Statement, &[Token]), SqlErr>
     ensures { Gives (λ x. (plan_of x.0, x.1.now)) result (body_at tokens.now) }
 {
@@ -469,7 +480,7 @@ fn body(alloc: Global, tokens: &[Token]) -> Result<(Statement, &[Token]), SqlErr
 }
 
 /// The statement that the tokens are.
-#[tactic(auto, unfolding(crate::specs::Sentences::statement_at))]
+#[tactic(auto, unfolding(crate::specs::Reading::statement_at))]
 pub fn statement(alloc: Global, tokens: &[Token]) -> Result<Statement, SqlErr>
     ensures { Gives plan_of result (statement_at tokens.now) }
 {

@@ -1,8 +1,7 @@
 //! The trees with names as the text has them, in lower case. Each list that was read has 1 to 16 members.
 
-pub use sql_tree::{Agg, Expr, Input, Items, Key, Op, Setting, Statement};
-
 use desk_values::{List, Txt};
+pub use sql_tree::{Agg, CopiedTree, Expr, Input, Items, Key, Op, Setting, Statement};
 
 /// Columns to order by.
 pub type Keys = List<Key>;

@@ -26,9 +26,3 @@ pub fn write_statement(alloc: Global, statement: &Statement) -> Result<Bytes, Me
 {
     text(alloc, statement)
 }
-
-/// No tokens that are the statement have fewer parentheses than those that are written. The call does nothing: its
-/// clause is the law.
-pub fn fewest_parentheses()
-    ensures { (statement : Plan Name) (tokens : List Token) → IsStatementOf tokens statement → opened (statement_tokens statement) ≤ opened tokens }
-{}

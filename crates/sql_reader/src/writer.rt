@@ -313,7 +313,7 @@ impl Listed for Txt {
     }
 }
 
-#[tactic(auto, using(crate::proofs::Joined::joined_map))]
+#[tactic(auto, using(crate::proofs::Rewritten::joined_map))]
 fn selection(out: &mut Bytes, items: &Items) -> Result<(), Memory>
     ensures { OnOk result (out.new ≡ out.old ++ spaced_all (selection_tokens (asked_of items.now))) }
 {
@@ -370,14 +370,14 @@ fn columns(out: &mut Bytes, names: &Option<Names>) -> Result<(), Memory>
     }
 }
 
-#[tactic(auto, using(crate::proofs::Joined::joined_map))]
+#[tactic(auto, using(crate::proofs::Rewritten::joined_map))]
 fn given(out: &mut Bytes, inputs: &Inputs) -> Result<(), Memory>
     ensures { OnOk result (out.new ≡ out.old ++ spaced_all (joined given_tokens (map entry_of inputs.now))) }
 {
     list(out, inputs.as_slice())
 }
 
-#[tactic(auto, using(crate::proofs::Joined::joined_map))]
+#[tactic(auto, using(crate::proofs::Rewritten::joined_map))]
 fn settings(out: &mut Bytes, sets: &Sets) -> Result<(), Memory>
     ensures { OnOk result (out.new ≡ out.old ++ spaced_all (joined assignment_tokens (map change_of sets.now))) }
 {
@@ -477,7 +477,7 @@ fn first(statement: &Statement) -> Keyword
 }
 
 /// The text of a statement: its tokens, parted by single spaces.
-#[tactic(auto, using(crate::proofs::Joined::written_is))]
+#[tactic(auto, using(crate::proofs::Rewritten::written_is))]
 pub fn text(alloc: Global, statement: &Statement) -> Result<Bytes, Memory>
     ensures { IfOk result (λ bytes. bytes ≡ written (plan_of statement.now)) }
 {

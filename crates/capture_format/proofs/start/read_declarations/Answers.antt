@@ -33,7 +33,7 @@ returns-in-NextRow-clause-ok c =
     let row = c.in-NextRow.row in
     let next : next_line_of c.lines.rest.now ≡ Some (NextRow row, after) = c.in_ok-line.ensures ∙ ap (λ (l : StartLine). Some (l, after)) c.in-NextRow.is in
     let more = draft_more c.args.bytes.now c.lines.draft c.lines.rest.now (NextRow row, after) c.lines.invariant.so_far next c.in_ok-finish.ensures.rule in
-    record { before = more.before; so_far = more.so_far; are_lines = more.are_lines; last = ap (λ (s : State). s.last) more.leads; start_is = c.in_ok-finish.ensures.ok ∙ ap (λ (s : State). s.start) (sym more.leads) }
+    record { before = more.before; so_far = more.so_far; are_lines = more.are_lines; last = ap (λ (s : State). s.last) more.leads; start_is = ap (λ (s : State). s.start) (c.in_ok-finish.ensures.ok ∙ sym more.leads) }
 
 pub returns-in_err-add_line : goal.returns-in_err-add_line
 returns-in_err-add_line c =

@@ -8,7 +8,7 @@ use Rattle.desk_files.proofs.writes.write_all.Goals as goal
 pub loop-write-preserved : goal.loop-write-preserved
 loop-write-preserved g c = record {
   so_far = one_written c.args.writes.now c.loop-write.write-index c.write-item.result (g.F.Files.content c.args.files.now) (g.F.Files.content c.loop-write.files) (g.F.Files.content c.write.new.self) (omega arith) c.write-item.is c.loop-write.invariant.so_far
-  c.as_slice.result.now c.as_slice.ensures c.in_ok-write.ensures.ok;
+      c.as_slice.result.now c.as_slice.ensures c.in_ok-write.ensures.ok;
   faults = c.in_ok-write.ensures.leaves.faults ∙ c.loop-write.invariant.faults;
 }
 

@@ -2,8 +2,8 @@ use Rattle.std.proofs.Common.{length, sym}
 use Rattle.std.proofs.lemmas.Result.{err_from_is_err_and}
 use Rattle.sql_tree.specs.Plain.{term_of}
 use Rattle.sql_reader.specs.Grammar.{right_of}
-use Rattle.sql_reader.specs.Descent.{chain_at, part_at}
-use Rattle.sql_reader.proofs.Descends.{chain_begins, chain_fails, chain_goes_on, nothing_nests, one_level}
+use Rattle.sql_reader.specs.Reading.{chain_at, part_at}
+use Rattle.sql_reader.proofs.Loops.{chain_begins, chain_fails, chain_goes_on, nothing_nests, one_level}
 use Rattle.sql_reader.proofs.descent.+descent.Goals as goal
 
 pub chain-returns-in_err-first : goal.chain-returns-in_err-first

@@ -1,7 +1,7 @@
 use Rattle.std.proofs.Common.{◌≡◌, ◌+◌, ◌-◌, ◌*◌, length}
 use Rattle.sql_tree.specs.Plain.{term_of}
 use Rattle.sql_reader.specs.Grammar.{looseness, right_of}
-use Rattle.sql_reader.specs.Descent.{more_at, chain_at, part_at}
+use Rattle.sql_reader.specs.Reading.{more_at, chain_at, part_at}
 use Rattle.sql_reader.proofs.descent.+descent.Given as goal
 
 -- Each call goes to a tighter part, or one level deeper.

@@ -2,7 +2,7 @@ use Rattle.std.proofs.Common.{◌∙◌, subst, List, ℕ}
 use Rattle.std.specs.Prelude.{IfOk, Some}
 use Rattle.sql_tree.specs.Plain.{Plan, plan_of, Name}
 use Rattle.sql_reader.specs.Spelling.{Spells, Gives}
-use Rattle.sql_reader.proofs.AllStatements.{ok_spells, ok_written, only_spelled}
+use Rattle.sql_reader.proofs.Complete.{ok_spells, ok_written, only_spelled}
 use Rattle.sql_reader.proofs.read.read_statement.Goals as goal
 
 pub returns-clause-ok : goal.returns-clause-ok

@@ -1,5 +1,5 @@
-use Rattle.sql_reader.specs.Scan.{content_at}
-use Rattle.sql_reader.proofs.Fronts.{content_twice, content_other, content_end, content_none}
+use Rattle.sql_reader.specs.Reading.{content_at}
+use Rattle.sql_reader.proofs.Loops.{content_twice, content_other, content_end, content_none}
 use Rattle.sql_reader.proofs.scanner.content.Goals as goal
 use Rattle.sql_reader.proofs.scanner.content.Goals.{then-first-ne39, else-first-ne39+in-Some-after_quote}
 

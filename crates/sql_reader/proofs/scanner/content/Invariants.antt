@@ -1,6 +1,6 @@
 use Rattle.std.proofs.Common.{◌≡◌, length}
-use Rattle.sql_reader.specs.Scan.{content_at}
-use Rattle.sql_reader.proofs.Fronts.{content_front}
+use Rattle.sql_reader.specs.Reading.{content_at}
+use Rattle.sql_reader.proofs.Loops.{content_front}
 use Rattle.sql_reader.proofs.scanner.content.Given as goal
 
 abbrev pub invariant-loop-first : goal.invariant-loop-first

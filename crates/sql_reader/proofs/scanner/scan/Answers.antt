@@ -2,8 +2,8 @@ use Rattle.std.proofs.Common.{◌∙◌, sym, length, eq-eqb}
 use Rattle.std.proofs.lemmas.Bool.{eqb-true}
 use Rattle.std.proofs.lemmas.Result.{err_from_is_err_and}
 use Rattle.std.proofs.lemmas.List.{append-nil}
-use Rattle.sql_reader.specs.Scan.{scanned, tokens_at}
-use Rattle.sql_reader.proofs.Fronts.{tokens_go_on, tokens_fail, tokens_done, tokens_left}
+use Rattle.sql_reader.specs.Reading.{scanned, tokens_at}
+use Rattle.sql_reader.proofs.Loops.{tokens_go_on, tokens_fail, tokens_done, tokens_left}
 use Rattle.sql_reader.proofs.scanner.scan.Goals as goal
 use Rattle.sql_reader.proofs.scanner.scan.Goals.{in-Some+in_ok-push, in_default}
 

@@ -1,6 +1,6 @@
 use Rattle.std.proofs.Common.{◌≡◌, ◌-◌, length}
-use Rattle.sql_reader.specs.Scan.{tokens_at}
-use Rattle.sql_reader.proofs.Fronts.{tokens_front}
+use Rattle.sql_reader.specs.Reading.{tokens_at}
+use Rattle.sql_reader.proofs.Loops.{tokens_front}
 use Rattle.sql_reader.proofs.scanner.scan.Given as goal
 
 abbrev pub invariant-loop : goal.invariant-loop

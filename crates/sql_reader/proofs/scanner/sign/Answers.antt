@@ -1,7 +1,7 @@
 use Rattle.std.proofs.Common.{◌≡◌, ℕ, false, List, subst, ◌∙◌}
 use Rattle.sql_reader.specs.Words.{sign_text}
-use Rattle.sql_reader.specs.Scan.{begins, all_signs}
-use Rattle.sql_reader.proofs.Fronts.{find_next}
+use Rattle.sql_reader.specs.Reading.{begins, all_signs}
+use Rattle.sql_reader.proofs.Loops.{find_next}
 use Rattle.sql_reader.proofs.scanner.sign.Goals as goal
 
 pub loop-sign-preserved : goal.loop-sign-preserved

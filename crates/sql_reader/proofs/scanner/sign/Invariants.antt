@@ -1,6 +1,6 @@
 use Rattle.std.proofs.Common.{◌≡◌, drop}
 use Rattle.std.specs.List.{find}
-use Rattle.sql_reader.specs.Scan.{begins, all_signs}
+use Rattle.sql_reader.specs.Reading.{begins, all_signs}
 use Rattle.sql_reader.specs.Words.{sign_text}
 use Rattle.sql_reader.proofs.scanner.sign.Given as goal
 

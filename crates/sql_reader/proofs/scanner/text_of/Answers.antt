@@ -1,6 +1,6 @@
 use Rattle.std.proofs.Common.{ap, ◌∙◌, sym, Some, Err}
 use Rattle.std.proofs.lemmas.Result.{err_from_is_err_and}
-use Rattle.sql_reader.proofs.Txt.{txt_ok, txt_err}
+use Rattle.sql_reader.proofs.Scanning.{txt_ok, txt_err}
 use Rattle.sql_reader.proofs.scanner.text_of.Goals as goal
 
 pub returns-in_err-from_bytes : goal.returns-in_err-from_bytes

@@ -1,5 +1,5 @@
 use Rattle.std.proofs.Common.{◌≡◌, ◌<◌, ◌^◌, drop}
-use Rattle.sql_reader.specs.Scan.{value_after}
+use Rattle.sql_reader.specs.Reading.{value_after}
 use Rattle.sql_reader.proofs.scanner.value.Given as goal
 
 abbrev pub invariant-loop-digit : goal.invariant-loop-digit

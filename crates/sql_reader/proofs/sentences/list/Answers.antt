@@ -1,7 +1,7 @@
 use Rattle.std.proofs.Common.{◌≡◌, ◌++◌, ◌∷◌, [], map, refl}
 use Rattle.std.proofs.lemmas.List.{map_push}
-use Rattle.sql_reader.specs.Sentences.{list_at}
-use Rattle.sql_reader.proofs.Lists.{nothing_before, list_goes_on, list_ends, list_fails, list_full}
+use Rattle.sql_reader.specs.Reading.{list_at}
+use Rattle.sql_reader.proofs.Loops.{nothing_before, list_goes_on, list_ends, list_fails, list_full}
 use Rattle.std.proofs.lemmas.Result.{err_from_is_err_and}
 use Rattle.sql_reader.proofs.sentences.list.Goals as goal
 

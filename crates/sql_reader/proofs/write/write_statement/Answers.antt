@@ -1,5 +1,5 @@
 use Rattle.sql_tree.specs.Plain.{plan_of}
-use Rattle.sql_reader.proofs.Retexts.{writes_it}
+use Rattle.sql_reader.proofs.Rewritten.{writes_it}
 use Rattle.sql_reader.proofs.write.write_statement.Goals as goal
 
 pub returns-clause-spells : goal.returns-clause-spells

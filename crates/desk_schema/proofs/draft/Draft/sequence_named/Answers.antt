@@ -1,4 +1,4 @@
-use Rattle.std.proofs.Common.{◌≡◌, ◌∙◌, ℕ, List, ap, arith}
+use Rattle.std.proofs.Common.{arith}
 use Rattle.std.proofs.lemmas.Grind.{common_steps}
 use Rattle.desk_schema.proofs.Sequences.{found_some, found_none}
 use Rattle.desk_schema.proofs.draft.Draft.sequence_named.Goals as goal

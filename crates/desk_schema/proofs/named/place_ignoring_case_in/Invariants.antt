@@ -1,9 +1,0 @@
-use Rattle.std.proofs.Common.{map}
-use Rattle.std.specs.Str.{str_eq_ignore_ascii_case}
-use Rattle.desk_schema.specs.Schema.{place_ignoring_case}
-use Rattle.desk_schema.proofs.Places.{Passed}
-use Rattle.desk_schema.proofs.named.place_ignoring_case_in.Given as goal
-
--- the place in all is the place in what is left, and as many more as were passed
-abbrev pub invariant-loop-i : goal.invariant-loop-i
-invariant-loop-i g l = Passed g.N.Named.name_in (λ other. str_eq_ignore_ascii_case other l.name) l.items l.i (place_ignoring_case (map g.N.Named.name_in l.items) l.name)

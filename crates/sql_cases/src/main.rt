@@ -1,0 +1,57 @@
+//! Cases of the reader of SQL, one on each line: what to print, `form`, `tree` or `read`, and a text. For each it prints
+//! the written form of the statement that the text spells, its tree, or that it is read; `syntax` where it spells none.
+//!
+//! Enters: lines of the standard input. Leaves: as many lines. It touches the standard input and output alone. A
+//! control character stands in both as its code between `\` and `;`, and so does `\`.
+#![tactic(auto)]
+
+mod escape;
+mod shown;
+
+ghost use Rattle.std.specs.Prelude.{IfOk};
+ghost use Rattle.sql_tree.specs.Plain.{plan_of};
+ghost use Rattle.sql_reader.specs.Spelling.{IsStatement};
+
+use desk_values::{Bytes, Memory, Txt};
+use sql_reader::{CopiedTree, SqlErr, Statement, read_statement, write_statement};
+use std::alloc::Global;
+
+fn main(rt: HostRuntime) -> Result<(), anyhow::Error> {
+    let alloc = rt.alloc();
+    for line in rt.lines(alloc) {
+        let line = line?;
+        let (wanted, text) = line.as_str().split_once(' ').unwrap_or(("", ""));
+        let answer = answered(alloc, wanted, text)?;
+        println!(rt; "{answer}")?;
+    }
+    Ok(())
+}
+
+fn answered(alloc: Global, wanted: &str, text: &str) -> Result<String, anyhow::Error> {
+    let text = escape::unescaped(alloc, text)?;
+    let text = Txt::from_bytes(alloc, text.as_bytes())?;
+    match read_statement(alloc, &text) {
+        Ok(statement) => match wanted {
+            "form" => form(alloc, statement),
+            "tree" => Ok(shown::statement(alloc, &statement)?),
+            _ => Ok(String::from_str(alloc, "read")?),
+        },
+        Err(SqlErr::Syntax) => Ok(String::from_str(alloc, "syntax")?),
+        Err(SqlErr::Memory) => Err(Memory.into()),
+    }
+}
+
+// The written form of the statement, which is that of a copy too.
+fn form(alloc: Global, statement: Statement) -> Result<String, anyhow::Error>
+    requires { IsStatement (plan_of statement) }
+{
+    let written = write_statement(alloc, &statement)?;
+    let copy = statement.copy()?;
+    drop(statement);
+    let written_again = write_statement(alloc, &copy)?;
+    if written.as_slice() != written_again.as_slice() {
+        return Ok(String::from_str(alloc, "a copy differs")?);
+    }
+    let written = str::from_utf8(written.as_slice())?;
+    Ok(escape::escaped(alloc, written)?)
+}

@@ -1,5 +1,0 @@
-use Rattle.sql_reader.proofs.AllStatements.{spells_one}
-use Rattle.sql_reader.proofs.read.one_statement.Goals as goal
-
-pub returns : goal.returns
-returns c = λ text a b p q. spells_one text a b p q
