@@ -9,8 +9,8 @@ fn txt(alloc: Global, text: &str) -> Result<Txt, Memory> {
 }
 
 // The lines that follow keep the rules of a start, so that only memory can want.
-fn added(result: Result<(), DraftErr>) -> Result<(), Memory> {
-    result.map_err(|_| Memory)
+fn added(answer: Result<(), DraftErr>) -> Result<(), Memory> {
+    answer.map_err(|_| Memory)
 }
 
 fn add_column(

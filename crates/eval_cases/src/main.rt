@@ -21,6 +21,7 @@ use sql_reader::read_statement;
 use std::alloc::Global;
 
 /// What each case is for.
+#[derive(Drop)]
 struct Desk {
     start: Start,
     binds: Binds,

@@ -1,5 +1,5 @@
 -- Inputs that are more or fewer than the columns are refused.
-use Rattle.std.proofs.Common.{◌≡◌, ◌<◌, ℕ, List, [], ◌∷◌, length, refl, arith}
+use Rattle.std.proofs.Common.{ℕ, ◌≡◌, ◌<◌, List, [], ◌∷◌, length, refl, arith}
 use Rattle.std.specs.Prelude.{false, map, Option}
 use Rattle.desk_values.specs.declared.value.Value.{Value}
 use Rattle.desk_schema.specs.declared.schema.Column.{Column}
