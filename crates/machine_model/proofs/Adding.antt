@@ -1,0 +1,121 @@
+-- How faults and tests add up along a list.
+use Rattle.std.proofs.Common.{◌≡◌, ℕ, ◌+◌, ◌<◌, ◌≤◌, List, [], ◌∷◌, length, drop, get_or, map, ◌++◌, append_assoc, refl, ap, sym, ◌∙◌, add-one, drop-cons, drop_of_length-le}
+use Rattle.std.specs.Prelude.{Bool, true, false, ◌||◌, ◌&&◌, if◌then◌else◌, Result, Ok}
+use Rattle.std.specs.Prelude.{nat_eq, None, Some}
+use Rattle.std.specs.List.{cons_option, filter, filter_map, list_any}
+use Rattle.std.proofs.lemmas.List.Folds.{list_any-append}
+use Rattle.desk_values.specs.declared.value.Value.{Value}
+use Rattle.desk_values.specs.Comparison.{same_key}
+use Rattle.desk_values.specs.declared.fault.Fault.{Fault}
+use Rattle.sql_eval.specs.declared.faults.Faults.{Faults}
+use Rattle.sql_eval.specs.Faults.{divides, overflows, any_fault, joined, noted}
+use Rattle.machine_model.specs.declared.session.Session.{Session}
+use Rattle.machine_model.specs.declared.session.HeldKey.{HeldKey}
+use Rattle.machine_model.specs.Evaluation.{holds_key}
+use Rattle.machine_model.specs.Writes.{is_locked_key}
+use Rattle.machine_model.specs.Found.{faults_over, no_faults}
+use Rattle.machine_model.specs.View.{key_of_table, keys_held}
+
+or_assoc : (a b c : Bool) → ((a || b) || c) ≡ (a || (b || c))
+or_assoc true b c = refl
+or_assoc false b c = refl
+
+or_false : (b : Bool) → (b || false) ≡ b
+or_false true = refl
+or_false false = refl
+
+pub joined_none : (f : Faults) → joined f no_faults ≡ f
+unfolding joined
+joined_none f = rw (or_false f.divides, or_false f.overflows) refl
+
+pub none_joined : (f : Faults) → joined no_faults f ≡ f
+unfolding joined
+none_joined f = refl
+
+pub noted_ok : {A : Type 0} (f : Faults) (a : A) → noted f (Ok a) ≡ f
+unfolding noted
+noted_ok f a = rw (or_false f.divides, or_false f.overflows) refl
+
+pub any_fault_none : {R A : Type 0} (part : R → Result A Fault) → any_fault part [] ≡ no_faults
+unfolding any_fault
+any_fault_none part = refl
+
+pub noted_more : {R A : Type 0} (part : R → Result A Fault) (f : Faults) (x : R) (xs : List R) → joined (noted f (part x)) (any_fault part xs) ≡ joined f (any_fault part (x ∷ xs))
+unfolding joined noted any_fault
+noted_more part f x xs = rw (or_assoc f.divides (divides (part x)) (list_any (λ r. divides (part r)) xs), or_assoc f.overflows (overflows (part x)) (list_any (λ r. overflows (part r)) xs)) refl
+
+pub joined_more : {X : Type 0} (faults : X → Faults) (f : Faults) (x : X) (xs : List X) → joined (joined f (faults x)) (faults_over faults xs) ≡ joined f (faults_over faults (x ∷ xs))
+unfolding joined faults_over
+joined_more faults f x xs = rw (or_assoc f.divides (faults x).divides (list_any (λ y. (faults y).divides) xs), or_assoc f.overflows (faults x).overflows (list_any (λ y. (faults y).overflows) xs)) refl
+
+pub faults_over_none : {X : Type 0} (faults : X → Faults) → faults_over faults [] ≡ no_faults
+unfolding faults_over
+faults_over_none faults = refl
+
+-- those that pass both tests are found in either order
+and_swap : (a b : Bool) (c d : Bool) → c ≡ d → ((a && b) || c) ≡ ((b && a) || d)
+and_swap true true c d e = refl
+and_swap true false c d e = e
+and_swap false true c d e = e
+and_swap false false c d e = e
+
+any_filter : {X : Type 0} (p q : X → Bool) (xs : List X) → list_any p (filter q xs) ≡ list_any (λ x. q x && p x) xs
+any_filter p q [] = refl
+any_filter p q (x ∷ xs) = elim (q x) as (λ b. list_any p (if b then x ∷ filter q xs else filter q xs) ≡ ((b && p x) || list_any (λ y. q y && p y) xs)) [
+  | true ↦ ap (λ c. p x || c) (any_filter p q xs)
+  | false ↦ any_filter p q xs
+]
+
+both_swapped : {X : Type 0} (p q : X → Bool) (xs : List X) → list_any (λ x. q x && p x) xs ≡ list_any (λ x. p x && q x) xs
+both_swapped p q [] = refl
+both_swapped p q (x ∷ xs) = and_swap (q x) (p x) _ _ (both_swapped p q xs)
+
+pub any_filtered : {X : Type 0} (p q : X → Bool) (xs : List X) → list_any p (filter q xs) ≡ list_any q (filter p xs)
+any_filtered p q xs = any_filter p q xs ∙ both_swapped p q xs ∙ sym (any_filter q p xs)
+
+-- ---- steps of loops over a list, whose items are seen by g
+
+module _ {X Y : Type 0} (g : X → Y) (xs : List X) (i : ℕ) where
+  pub front : (x : X) → i < length xs → x ≡ get_or xs i x → map g (drop i xs) ≡ g x ∷ map g (drop (i + 1) xs)
+  front x within read = rw (add-one, drop-cons xs i x, ← read) refl
+
+  pub none_left : length xs ≤ i → map g (drop i xs) ≡ []
+  none_left beyond = ap (map g) (drop_of_length-le xs {i = i} beyond)
+
+  module _ {A : Type 0} (part : Y → Result A Fault) (f all : Faults) (before : joined f (any_fault part (map g (drop i xs))) ≡ all) where
+    pub fault_step : (new : Faults) (x : X) → i < length xs → x ≡ get_or xs i x → new ≡ noted f (part (g x)) → joined new (any_fault part (map g (drop (i + 1) xs))) ≡ all
+    fault_step new x within read is = ap (λ n. joined n (any_fault part (map g (drop (i + 1) xs)))) is ∙ noted_more part f (g x) (map g (drop (i + 1) xs)) ∙ ap (λ ys. joined f (any_fault part ys)) (sym (front x within read)) ∙ before
+
+    pub fault_end : length xs ≤ i → f ≡ all
+    fault_end beyond = sym (joined_none f) ∙ ap (λ n. joined f n) (sym (any_fault_none part)) ∙ ap (λ ys. joined f (any_fault part ys)) (sym (none_left beyond)) ∙ before
+
+  module _ (faults : Y → Faults) (f all : Faults) (before : joined f (faults_over faults (map g (drop i xs))) ≡ all) where
+    pub faults_step : (new : Faults) (x : X) → i < length xs → x ≡ get_or xs i x → new ≡ joined f (faults (g x)) → joined new (faults_over faults (map g (drop (i + 1) xs))) ≡ all
+    faults_step new x within read is = ap (λ n. joined n (faults_over faults (map g (drop (i + 1) xs)))) is ∙ joined_more faults f (g x) (map g (drop (i + 1) xs)) ∙ ap (λ ys. joined f (faults_over faults ys)) (sym (front x within read)) ∙ before
+
+    pub faults_end : length xs ≤ i → f ≡ all
+    faults_end beyond = sym (joined_none f) ∙ ap (λ n. joined f n) (sym (faults_over_none faults)) ∙ ap (λ ys. joined f (faults_over faults ys)) (sym (none_left beyond)) ∙ before
+
+  module _ {Z : Type 0} (h : Y → Z) (made all : List Z) (before : made ++ map h (map g (drop i xs)) ≡ all) where
+    pub value_step : (new : List Z) (z : Z) (x : X) → i < length xs → x ≡ get_or xs i x → z ≡ h (g x) → new ≡ made ++ z ∷ [] → new ++ map h (map g (drop (i + 1) xs)) ≡ all
+    value_step new z x within read value pushed = rw (pushed, append_assoc, value) (ap (λ ys. made ++ map h ys) (sym (front x within read)) ∙ before)
+
+-- ---- tests of what is chosen or joined
+
+and_false : (a : Bool) → (a && false) ≡ false
+and_false true = refl
+and_false false = refl
+
+any_of_table : (level table : ℕ) (key : Value) (held : List HeldKey) → list_any (λ (h : HeldKey). nat_eq h.table table && same_key level key h.key) held ≡ list_any (same_key level key) (filter_map (key_of_table table) held)
+any_of_table level table key [] = refl
+any_of_table level table key (h ∷ held) = elim (nat_eq h.table table) as (λ b. ((b && same_key level key h.key) || list_any (λ (k : HeldKey). nat_eq k.table table && same_key level key k.key) held) ≡ list_any (same_key level key) (cons_option (if b then Some h.key else None) (filter_map (key_of_table table) held))) [
+  | true ↦ ap (λ c. same_key level key h.key || c) (any_of_table level table key held)
+  | false ↦ any_of_table level table key held
+]
+
+pub any_held : (level table : ℕ) (key : Value) (sessions : List Session) → list_any (holds_key level table key) sessions ≡ is_locked_key level (keys_held sessions table) key
+any_held level table key [] = refl
+any_held level table key (s ∷ sessions) =
+    ap (λ b. b || list_any (holds_key level table key) sessions) (any_of_table level table key s.own.keys)
+    ∙ ap (λ b. list_any (same_key level key) (filter_map (key_of_table table) s.own.keys) || b) (any_held level table key sessions)
+    ∙ sym (list_any-append (same_key level key) (filter_map (key_of_table table) s.own.keys) (keys_held sessions table))

@@ -1,0 +1,11 @@
+pub mod Rows
+pub mod State
+pub mod View
+pub mod Request
+pub mod Draws
+pub mod Causes
+pub mod Found
+pub mod Writes
+pub mod Answer
+pub mod Step
+pub mod Evaluation

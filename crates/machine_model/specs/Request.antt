@@ -1,0 +1,50 @@
+-- What a call asks for, once its service is looked up or its text is read and checked.
+use Rattle.std.specs.Prelude.{ℕ, List, Option, None, Some, Result, Ok, Err}
+use Rattle.desk_values.specs.declared.value.Value.{Value}
+use Rattle.desk_values.specs.declared.call.Call.{Call}
+use Rattle.desk_values.specs.declared.call.Call.TheVariants.{Connect, Sql, Disconnect}
+use Rattle.desk_values.specs.declared.fault.Fault.{Fault}
+use Rattle.desk_schema.specs.declared.schema.Rights.{Rights}
+use Rattle.desk_schema.specs.Schema.{SchemaView, rights_of}
+use Rattle.sql_reader.specs.Reading.{statement_of}
+use Rattle.sql_eval.specs.Check.{check_of}
+use Rattle.sql_tree.specs.Plain.{Plan, select, next, insert, update, delete, commit, rollback, set_read_only}
+
+pub data Request : Type 0 where
+  -- a connection, with the rights of its service where there is such a service
+  connect : Option Rights → Request
+  disconnect : Request
+  -- a text that is no statement
+  unreadable : Request
+  -- a statement that a check refuses
+  unsound : Fault → Request
+  -- a checked statement and its binds
+  statement : Plan ℕ → List Value → Request
+
+abbrev pub checked : List Value → Result (Plan ℕ) Fault → Request
+checked binds (Ok plan) = statement plan binds
+checked binds (Err fault) = unsound fault
+
+abbrev pub read : SchemaView → List Value → Option (Plan (List ℕ)) → Request
+read schema binds None = unreadable
+read schema binds (Some parsed) = checked binds (check_of schema binds parsed)
+
+abbrev pub request_of : SchemaView → Call → Request
+request_of schema (Connect service) = connect (rights_of schema.services service)
+request_of schema Disconnect = disconnect
+request_of schema (Sql text binds) = read schema binds (statement_of text)
+
+-- the table of a statement
+abbrev pub table_of : Plan ℕ → Option ℕ
+table_of (select table asked condition keys for_update) = Some table
+table_of (next sequence) = None
+table_of (insert table named entries) = Some table
+table_of (update table changes condition) = Some table
+table_of (delete table condition) = Some table
+table_of commit = None
+table_of rollback = None
+table_of set_read_only = None
+
+abbrev pub table_in : Request → Option ℕ
+table_in (statement plan binds) = table_of plan
+table_in other = None

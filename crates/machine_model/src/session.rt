@@ -1,0 +1,66 @@
+//! Sessions, and what their transactions have of their own.
+
+ghost use Rattle.std.specs.Prelude.{◌≡◌, [], OnOk, OnErr};
+ghost use Rattle.machine_model.specs.State.{disconnected, nothing};
+
+use crate::rows::Rows;
+use desk_schema::Rights;
+use desk_values::{List, Value};
+use std::alloc::Global;
+
+/// A session of the server.
+#[derive(Drop)]
+pub struct Session {
+    /// Its rights, `None` where it is not connected.
+    pub rights: Option<Rights>,
+    /// The commit number that its transaction reads at, `None` where it reads the latest commit.
+    pub snapshot: Option<u64>,
+    /// What its transaction has of its own.
+    pub own: Transaction,
+}
+
+/// What a transaction has of its own.
+#[derive(Drop)]
+pub struct Transaction {
+    /// Its changes, ascending by row.
+    pub changes: Rows,
+    /// The rows that it holds, in the order in which it came to hold them.
+    pub rows: List<u64>,
+    /// The keys that it holds, likewise.
+    pub keys: List<HeldKey>,
+}
+
+/// A key that a transaction holds.
+#[derive(Drop)]
+pub struct HeldKey {
+    /// The number of the table.
+    pub table: u32,
+    /// The value of the key.
+    pub key: Value,
+}
+
+impl Transaction {
+    /// A transaction that is not under way.
+    pub fn new(alloc: Global) -> Self
+        ensures { result ≡ nothing }
+    {
+        Transaction {
+            changes: Rows::new(alloc),
+            rows: List::new(alloc),
+            keys: List::new(alloc),
+        }
+    }
+}
+
+impl Session {
+    /// A session that is not connected.
+    pub fn new(alloc: Global) -> Self
+        ensures { result ≡ disconnected }
+    {
+        Session {
+            rights: None,
+            snapshot: None,
+            own: Transaction::new(alloc),
+        }
+    }
+}
