@@ -8,8 +8,6 @@ mod causes;
 #[cfg(test)]
 mod fixtures;
 #[cfg(test)]
-mod found;
-#[cfg(test)]
 mod holds;
 #[cfg(test)]
 mod seeing;

@@ -14,7 +14,7 @@ ghost use Rattle.sql_reader.specs.Spelling.{IsStatement};
 
 use desk_values::{Bytes, Memory, Txt};
 use sql_reader::{CopiedTree, SqlErr, Statement, read_statement, write_statement};
-use std::alloc::Global;
+use std::alloc::{AllocError, Global};
 
 fn main(rt: HostRuntime) -> Result<(), anyhow::Error> {
     let alloc = rt.alloc();
@@ -46,12 +46,29 @@ fn form(alloc: Global, statement: Statement) -> Result<String, anyhow::Error>
     requires { IsStatement (plan_of statement) }
 {
     let written = write_statement(alloc, &statement)?;
-    let copy = statement.copy()?;
-    drop(statement);
-    let written_again = write_statement(alloc, &copy)?;
+    let written_again = form_of_copy(alloc, statement)?;
+    Ok(shown_form(alloc, &written, &written_again)?)
+}
+
+fn form_of_copy(alloc: Global, statement: Statement) -> Result<Bytes, Memory>
+    requires { IsStatement (plan_of statement) }
+{
+    let copy = copied(statement)?;
+    write_statement(alloc, &copy)
+}
+
+fn copied(statement: Statement) -> Result<Statement, Memory>
+    ensures { IfOk result (λ copy. plan_of copy ≡ plan_of statement) }
+{
+    statement.copy()
+}
+
+fn shown_form(alloc: Global, written: &Bytes, written_again: &Bytes) -> Result<String, AllocError> {
     if written.as_slice() != written_again.as_slice() {
-        return Ok(String::from_str(alloc, "a copy differs")?);
+        return String::from_str(alloc, "a copy differs");
     }
-    let written = str::from_utf8(written.as_slice())?;
-    Ok(escape::escaped(alloc, written)?)
+    match str::from_utf8(written.as_slice()) {
+        Ok(text) => escape::escaped(alloc, text),
+        Err(_) => String::from_str(alloc, "not a text"),
+    }
 }
