@@ -8,7 +8,6 @@
 mod escape;
 mod shown;
 
-ghost use Rattle.std.specs.Prelude.{IfOk};
 ghost use Rattle.sql_tree.specs.Plain.{plan_of};
 ghost use Rattle.sql_reader.specs.Spelling.{IsStatement};
 
@@ -53,14 +52,9 @@ fn form(alloc: Global, statement: Statement) -> Result<String, anyhow::Error>
 fn form_of_copy(alloc: Global, statement: Statement) -> Result<Bytes, Memory>
     requires { IsStatement (plan_of statement) }
 {
-    let copy = copied(statement)?;
+    let copy = statement.copy()?;
+    drop(statement);
     write_statement(alloc, &copy)
-}
-
-fn copied(statement: Statement) -> Result<Statement, Memory>
-    ensures { IfOk result (λ copy. plan_of copy ≡ plan_of statement) }
-{
-    statement.copy()
 }
 
 fn shown_form(alloc: Global, written: &Bytes, written_again: &Bytes) -> Result<String, AllocError> {
