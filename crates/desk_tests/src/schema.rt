@@ -1,7 +1,5 @@
-use desk_schema::{Column, Draft, DraftErr, Kind, Rights, Start};
-use desk_values::{
-    Copied, Image, List, Txt, Value, Values, Word, find_word, read_values, write_values,
-};
+use desk_schema::{Draft, DraftErr, Kind, Rights, Start};
+use desk_values::{Copied, Txt, Value, Values, find_word, read_values};
 use std::alloc::Global;
 use std::process::Abort;
 use std::test::Fail;
@@ -99,81 +97,6 @@ fn draft_of(alloc: Global, lines: &str) -> Result<Draft, Fail> {
 fn start_of(alloc: Global, lines: &str) -> Result<Start, Fail> {
     let (front, next_row) = lines.rsplit_once("\nnextrow ").ok_or("a next row")?;
     Ok(draft_of(alloc, front)?.finish(next_row.trim().parse::<u64>()?)?)
-}
-
-/// A kind and its limits.
-fn write_kind(text: &mut String, kind: Kind) -> Result<(), Fail> {
-    match kind {
-        Kind::Int(low, high) => write!(text, "int {low} {high}")?,
-        Kind::Text(most) => write!(text, "text {most}")?,
-        Kind::Seq(sequence) => write!(text, "seq {sequence}")?,
-    }
-    Ok(())
-}
-
-fn write_columns(text: &mut String, columns: &[Column]) -> Result<(), Fail> {
-    for column in columns {
-        write!(text, "col {} ", column.name.as_str())?;
-        write_kind(text, column.kind)?;
-        let nulls = if column.not_null { "notnull" } else { "null" };
-        writeln!(text, " {nulls}")?;
-    }
-    Ok(())
-}
-
-fn write_row(alloc: Global, text: &mut String, image: &Image) -> Result<(), Fail> {
-    let values = image.left.as_ref().ok_or("values")?;
-    let mut bytes = List::new(alloc);
-    write_values(values.as_slice(), &mut bytes)?;
-    let values = std::str::from_utf8(bytes.as_slice())?;
-    writeln!(text, "row {} {} {values}", image.row, image.table)?;
-    Ok(())
-}
-
-/// The sequences and the services of a start.
-fn write_names(text: &mut String, start: &Start) -> Result<(), Fail> {
-    for (i, name) in start.schema().sequences().iter().enumerate() {
-        let next = start.next_value(i as u32).ok_or("a next value")?;
-        writeln!(text, "seq {} {next}", name.as_str())?;
-    }
-    for service in start.schema().services() {
-        writeln!(
-            text,
-            "svc {} {}",
-            service.name.as_str(),
-            service.rights.word()
-        )?;
-    }
-    Ok(())
-}
-
-/// The lines of a start, by what its calls tell of it.
-fn text_of(alloc: Global, start: &Start) -> Result<String, Fail> {
-    let mut text = String::new(alloc);
-    write_names(&mut text, start)?;
-    for (i, table) in start.schema().tables().iter().enumerate() {
-        writeln!(text, "table {}", table.name.as_str())?;
-        write_columns(&mut text, start.schema().columns(i as u32))?;
-    }
-    for image in start.rows().as_slice() {
-        write_row(alloc, &mut text, image)?;
-    }
-    writeln!(text, "nextrow {}", start.next_row())?;
-    Ok(text)
-}
-
-#[test]
-fn a_start_and_its_copy_have_what_was_added(rt: HostRuntime) -> Result<(), Fail> {
-    let alloc = rt.alloc();
-    let start = start_of(alloc, LARGE_BANK)?;
-    assert_eq!(rt; text_of(alloc, &start)?.as_str(), LARGE_BANK);
-    assert_eq!(rt; text_of(alloc, &start.copy()?)?.as_str(), LARGE_BANK);
-    assert_eq!(rt; start.schema().level(), 1);
-    assert_eq!(rt; start.schema().columns(2).len(), 0);
-    assert_eq!(rt; start.schema().column(1, 0), Some((Kind::Seq(0), true)));
-    assert_eq!(rt; start.schema().column(1, 2), None);
-    assert_eq!(rt; start.next_value(1), None);
-    Ok(())
 }
 
 #[test]
