@@ -1,5 +1,5 @@
 -- Reading replies undoes writing them.
-use Rattle.std.proofs.Common.{◌≡◌, ℕ, Bool, ◌||◌, ◌^◌, ◌<◌, ◌≤◌, true, false, eqb, List, [], ◌∷◌, ◌++◌, length, get_or, drop, map, Option, Some, None, Err, refl, sym, ap, subst, ◌∙◌, arith, inl, inr, lit<, lit≤, append_assoc, append-nil}
+use Rattle.std.proofs.Common.{◌≡◌, ℕ, Bool, ◌||◌, ◌^◌, ◌<◌, true, false, eqb, List, [], ◌∷◌, ◌++◌, length, get_or, drop, map, Option, Some, None, Err, refl, sym, ap, subst, ◌∙◌, arith, inl, inr, lit<, lit≤, append_assoc, append-nil}
 use Rattle.std.specs.Prelude.{codes, IfSome}
 use Rattle.std.specs.Option.{option_map}
 use Rattle.std.specs.List.{AllByRecursion, join_with_byte, flat_map}
@@ -24,6 +24,7 @@ use Rattle.desk_values.specs.Text.{values_text, rows_text, left_text, image_text
 use Rattle.desk_values.specs.Reading.{Reads, ◌>>=◌, number_of, number_below, each_of, values_of}
 use Rattle.capture_format.specs.ReplyReading.{filled_of, open_rows_of, rows_of, left_of, image_of, images_of, fault_of, field_outcome_of, word_outcome_of, outcome_behind, outcome_of, draws_of, made_of, reply_of}
 use Rattle.desk_values.specs.Good.{rows_ascend, all_draws}
+use Rattle.capture_format.proofs.Fields.{by_word, one_text, no_word}
 use Rattle.desk_values.proofs.Options.{bind_some, map_some, if_some, unless_some, unless_when, when_some, chosen, at_end_some}
 use Rattle.desk_values.proofs.Readers.{IsReader, first_of}
 use Rattle.desk_values.proofs.Cuts.{IsCut, cut_at-joined, cut_at_parts, cut_at_lacks, pieces-joined, pieces-none, pieces-cut, pieces_some, join-pieces, joined_reader, onto_items, onto_items-append}
@@ -298,25 +299,14 @@ values_field values fits = Consists-weaker is_listed is_field is_listed-field (v
 space_lacks : (bytes : List ℕ) → Consists is_field bytes → Lacks 32 bytes
 space_lacks bytes are = Lacks-from is_field 32 refl bytes are
 
-word_case : (word text : List ℕ) (made outcome : Outcome) → IsGoodOutcome made → text ≡ outcome_text made → bytes_eq word text ≡ true → made ≡ outcome → IsGoodOutcome outcome × (word ≡ outcome_text outcome)
-word_case word text made outcome good spelled is e =
-    subst (λ (o : Outcome). IsGoodOutcome o × (word ≡ outcome_text o)) e (good, is_codes word text is ∙ spelled)
-
 word_taken : (word : List ℕ) (outcome : Outcome) → word_outcome_of word ≡ Some outcome → IsGoodOutcome outcome × (word ≡ outcome_text outcome)
 unfolding word_outcome_of
-word_taken word outcome e =
-    elim (chosen (bytes_eq word (codes "rolledback")) (Some RolledBack) _ (Some outcome) e) [
-      | inl is ↦ word_case word (codes "rolledback") RolledBack outcome tt refl is.0 (same_Some _ outcome is.1)
-      | inr e ↦ elim (chosen (bytes_eq word (codes "marked")) (Some Marked) _ (Some outcome) e.1) [
-        | inl is ↦ word_case word (codes "marked") Marked outcome tt refl is.0 (same_Some _ outcome is.1)
-        | inr e ↦ elim (chosen (bytes_eq word (codes "connected")) (Some Connected) _ (Some outcome) e.1) [
-          | inl is ↦ word_case word (codes "connected") Connected outcome tt refl is.0 (same_Some _ outcome is.1)
-          | inr e ↦
-              let is = if_some (bytes_eq word (codes "disconnected")) Disconnected outcome e.1 in
-              word_case word (codes "disconnected") Disconnected outcome tt refl is.0 is.1
-        ]
-      ]
-    ]
+word_taken word outcome =
+    let P : Outcome → Type 0 = λ o. IsGoodOutcome o × (word ≡ outcome_text o) in
+    one_text word (codes "rolledback") RolledBack _ P outcome (λ is. (tt, is))
+    (one_text word (codes "marked") Marked _ P outcome (λ is. (tt, is))
+    (one_text word (codes "connected") Connected _ P outcome (λ is. (tt, is))
+    (one_text word (codes "disconnected") Disconnected None P outcome (λ is. (tt, is)) (no_word (P outcome) outcome))))
 
 fault_taken : (field : List ℕ) (fault : Fault) → fault_of field ≡ Some fault → Unit {0} × (field ≡ decimal (fault_number fault))
 fault_taken field fault e =
@@ -330,28 +320,13 @@ fault_again fault good =
 fault_reader : IsReader fault_of (λ fault. Unit {0}) (λ fault. decimal (fault_number fault))
 fault_reader = record { takes = fault_taken; again = fault_again }
 
-field_case : {T : Type 0} {read : List ℕ → Option T} {Fits : T → Type 0} {text : T → List ℕ} (is : IsReader read Fits text) (make : T → Outcome) (name : List ℕ) → ((x : T) → Fits x → IsGoodOutcome (make x)) → ((x : T) → name ++ 32 ∷ text x ≡ outcome_text (make x)) → (word field : List ℕ) (outcome : Outcome) → bytes_eq word name ≡ true → option_map make (read field) ≡ Some outcome → IsGoodOutcome outcome × (word ++ 32 ∷ field ≡ outcome_text outcome)
-field_case {read = read} is make name good spelled word field outcome named e =
-    let found = map_some make (read field) outcome e in
-    let taken = is.takes field found.0 found.1 in
-    subst (λ (o : Outcome). IsGoodOutcome o × (word ++ 32 ∷ field ≡ outcome_text o)) found.2
-    (good found.0 taken.0, ap (λ (bs : List ℕ). bs ++ 32 ∷ field) (is_codes word name named) ∙ ap (λ (bs : List ℕ). name ++ 32 ∷ bs) taken.1 ∙ spelled found.0)
-
 field_taken : (word field : List ℕ) (outcome : Outcome) → field_outcome_of word field ≡ Some outcome → IsGoodOutcome outcome × (word ++ 32 ∷ field ≡ outcome_text outcome)
 unfolding field_outcome_of
-field_taken word field outcome e =
-    elim (chosen (bytes_eq word (codes "rows")) (option_map Rows (rows_of field)) _ (Some outcome) e) [
-      | inl is ↦ field_case rows_reader Rows (codes "rows") (λ x h. h) (λ x. refl) word field outcome is.0 is.1
-      | inr e ↦ elim (chosen (bytes_eq word (codes "count")) (option_map Count (number_of field)) _ (Some outcome) e.1) [
-        | inl is ↦ field_case numbers Count (codes "count") (λ x h. h) (λ x. refl) word field outcome is.0 is.1
-        | inr e ↦ elim (chosen (bytes_eq word (codes "committed")) (option_map Committed (images_of field)) _ (Some outcome) e.1) [
-          | inl is ↦ field_case images_reader Committed (codes "committed") (λ x h. h) (λ x. refl) word field outcome is.0 is.1
-          | inr e ↦
-              let is = when_some (bytes_eq word (codes "refused")) (option_map Refused (fault_of field)) outcome e.1 in
-              field_case fault_reader Refused (codes "refused") (λ x h. h) (λ x. refl) word field outcome is.0 is.1
-        ]
-      ]
-    ]
+field_taken word field outcome =
+    by_word IsGoodOutcome outcome_text (codes "rows") Rows rows_reader (λ x h. (h, refl)) word field outcome _
+    (by_word IsGoodOutcome outcome_text (codes "count") Count numbers (λ x h. (h, refl)) word field outcome _
+    (by_word IsGoodOutcome outcome_text (codes "committed") Committed images_reader (λ x h. (h, refl)) word field outcome _
+    (by_word IsGoodOutcome outcome_text (codes "refused") Refused fault_reader (λ x h. (h, refl)) word field outcome None (no_word _ outcome))))
 
 -- an outcome at the front
 abbrev IsFront : List ℕ → Outcome × List ℕ → Type 0

@@ -24,8 +24,9 @@ use Rattle.capture_format.specs.declared.session_line.SessionLine.{SessionLine}
 use Rattle.capture_format.specs.declared.session_line.SessionLine.TheVariants.{Head, Call, End}
 use Rattle.capture_format.specs.SessionFile.{number_text, call_line_text, session_line_text, IsCallLine, IsSessionLine}
 use Rattle.capture_format.specs.SessionReading.{number_at, commit_number_of, commit_number_at, before_space, behind_space, exchange_of, call_line_of, head_of, head_or_call, session_line_of}
-use Rattle.capture_format.proofs.Cuts.{all_append, all_weaker}
-use Rattle.capture_format.proofs.Alphabet.{IsDigit, IsTextByte, digits_decimal, text_call}
+use Rattle.capture_format.proofs.Cuts.{all_weaker}
+use Rattle.capture_format.proofs.Alphabet.{IsDigit, is_text, digits_decimal, text_call, text_then}
+use Rattle.desk_values.proofs.Bytes.{Lacks-from}
 use Rattle.capture_format.proofs.Spaces.{before_space-joined, before_space_takes, behind_space_takes}
 
 -- ---- numbers, each with a space behind it
@@ -148,11 +149,8 @@ not_head line fits =
 
 -- ---- what was asked and what was answered
 
-no_arrow_in : (byte : ℕ) → IsTextByte byte → byte ≢ 62
-no_arrow_in byte text = text.no_arrow
-
 no_arrow_before : (call : AnyCall) → IsCall call → Lacks 62 (call_text call ++ 32 ∷ [])
-no_arrow_before call fits = all_append (λ b. b ≢ 62) (call_text call) (32 ∷ []) (all_weaker IsTextByte (λ b. b ≢ 62) no_arrow_in (call_text call) (text_call call fits)) (λ same. absurd (omega arith), tt)
+no_arrow_before call fits = Lacks-from is_text 62 refl (call_text call ++ 32 ∷ []) (text_then (call_text call) (32 ∷ []) (text_call call fits) (refl, tt))
 
 abbrev pub exchange_text : Exchange → List ℕ
 exchange_text x = call_text x.call ++ 32 ∷ 62 ∷ 32 ∷ reply_text x.reply

@@ -6,5 +6,5 @@ use Rattle.capture_format.specs.SessionFile.{IsSessionLine, session_line_text}
 use Rattle.capture_format.specs.SessionReading.{session_line_of}
 use Rattle.capture_format.proofs.SessionReader.{session_lines}
 
-pub lines : IsReader session_line_of IsSessionLine session_line_text
-lines = session_lines call_reader reply_reader
+pub session_reader : IsReader session_line_of IsSessionLine session_line_text
+session_reader = session_lines call_reader reply_reader

@@ -1,14 +1,14 @@
 pub mod Cuts
 pub mod NameReading
+pub mod Fields
 pub mod CallReading
 pub mod ReplyReading
-pub mod Reading
 pub mod SessionFile
 pub mod SessionReading
-pub mod SessionRest
+pub mod SessionView
 pub mod SimpleReading
 pub mod SimpleStatement
 pub mod StartFile
 pub mod StartReading
-pub mod StartSteps
+pub mod StartStage
 pub mod Supported

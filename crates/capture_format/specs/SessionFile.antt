@@ -1,13 +1,19 @@
--- The file of a session: its lines, their texts, and which line may follow which.
-use Rattle.std.specs.Prelude.{◌≡◌, ℕ, zero, suc, ◌+◌, ◌<◌, ◌≤◌, ◌^◌, List, [], ◌∷◌, ◌++◌, Option, None, Some, codes}
-use Rattle.std.specs.List.{flat_map, last_or}
+-- The file of a session: its lines as a form, and the bytes of its calls.
+use Rattle.std.specs.Prelude.{◌≡◌, ℕ, zero, suc, ◌+◌, ◌<◌, ◌≤◌, ◌^◌, Bool, true, false, List, [], ◌∷◌, ◌++◌, length, codes}
+use Rattle.std.specs.List.{AllByRecursion}
 use Rattle.std.specs.Fmt.{decimal}
 use Rattle.desk_values.specs.declared.capture.Captured.{Captured}
 use Rattle.desk_values.specs.Good.{IsCall, IsGoodReply}
 use Rattle.desk_values.specs.Text.{call_text, reply_text}
+use Rattle.file_lines.specs.File.{IsBadAt}
+use Rattle.file_lines.specs.Form.{Form, Comes, text_of}
 use Rattle.capture_format.specs.declared.session_line.CallLine.{CallLine}
+use Rattle.capture_format.specs.declared.session_line.TheConstants.{LAST_MOMENT}
 use Rattle.capture_format.specs.declared.session_line.SessionLine.{SessionLine}
 use Rattle.capture_format.specs.declared.session_line.SessionLine.TheVariants.{Head, Call, End}
+use Rattle.capture_format.specs.declared.session.Stage.{Stage}
+use Rattle.capture_format.specs.declared.session.Stage.TheVariants.{Empty, Headed, Ended}
+use Rattle.capture_format.specs.SessionView.{SessionView}
 
 -- a commit's number, or `-`
 abbrev pub number_text : ℕ → List ℕ
@@ -27,8 +33,8 @@ session_line_text End = codes "end"
 -- the parts of a call's line are within their limits
 pub record IsCallLine (line : CallLine) : Type 0 where
   pub stamp : line.stamp < 2 ^ 32
-  pub began : line.began ≤ 1000000000000
-  pub ended : line.ended ≤ 1000000000000
+  pub began : line.began ≤ LAST_MOMENT
+  pub ended : line.ended ≤ LAST_MOMENT
   pub seen : line.seen < 2 ^ 64
   pub number : line.number < 2 ^ 64
   pub call : IsCall line.call
@@ -40,61 +46,73 @@ IsSessionLine (Head session) = session < 2 ^ 32
 IsSessionLine (Call line) = IsCallLine line
 IsSessionLine End = Unit {0}
 
--- the line may stand after this one: stamps rise, and nothing follows the end
-abbrev pub MayStandAfter : SessionLine → SessionLine → Type 0
-MayStandAfter End next = ⊥
-MayStandAfter (Head session) (Head other) = ⊥
-MayStandAfter (Head session) (Call next) = IsCallLine next
-MayStandAfter (Head session) End = Unit {0}
-MayStandAfter (Call line) (Head session) = ⊥
-MayStandAfter (Call line) (Call next) = (line.stamp < next.stamp) × IsCallLine next
-MayStandAfter (Call line) End = Unit {0}
-
--- the line may stand first: the head with the session's number
-abbrev pub MayBegin : ℕ → SessionLine → Type 0
-MayBegin session (Head number) = number ≡ session
-MayBegin session (Call line) = ⊥
-MayBegin session End = ⊥
-
--- after the last line before it, if there is one
-abbrev pub MayComeNext : ℕ → Option SessionLine → SessionLine → Type 0
-MayComeNext session None next = MayBegin session next
-MayComeNext session (Some last) next = MayStandAfter last next
-
--- the line may follow these lines in the file of this session
-abbrev pub MayFollow : ℕ → List SessionLine → SessionLine → Type 0
-MayFollow session before next = MayComeNext session (last_or None before) next
-
--- each of the lines may follow those before it
-abbrev pub MayGoOn : ℕ → List SessionLine → List SessionLine → Type 0
-MayGoOn session before [] = Unit {0}
-MayGoOn session before (line ∷ lines) = MayFollow session before line × MayGoOn session (before ++ line ∷ []) lines
-
--- each line may follow those before it, and the first may begin the file of this session
-abbrev pub AreSessionLines : ℕ → List SessionLine → Type 0
-AreSessionLines session lines = MayGoOn session [] lines
-
--- the texts of the lines, each with its line feed
-abbrev pub session_lines_text : List SessionLine → List ℕ
-session_lines_text lines = flat_map (λ line. session_line_text line ++ 10 ∷ []) lines
-
--- the bytes are these lines in order, of which the last is the end
-pub record IsSessionFile (session : ℕ) (bytes : List ℕ) (lines : List SessionLine) : Type 0 where
-  pub lines_are : AreSessionLines session lines
-  pub text : bytes ≡ session_lines_text lines
-  pub ended : last_or None lines ≡ Some End
-
 -- the call of a line, in this session and at this place
 abbrev pub captured_of : ℕ → ℕ → CallLine → Captured
 captured_of session place line = record { session = session; place = place; stamp = line.stamp; seen = line.seen; number = line.number; began = line.began; ended = line.ended; call = line.call; reply = line.reply }
 
--- the calls of the lines, the first with this place
-abbrev pub calls_from : ℕ → ℕ → List SessionLine → List Captured
-calls_from session place [] = []
-calls_from session place (Head number ∷ lines) = calls_from session place lines
-calls_from session place (Call line ∷ lines) = captured_of session place line ∷ calls_from session (place + 1) lines
-calls_from session place (End ∷ lines) = calls_from session place lines
+-- the line has what it needs: the session's number, or a stamp over the one before; and nothing follows the end
+abbrev pub MayCome : SessionView → SessionLine → Type 0
+MayCome s (Head number) = (s.stage ≡ Empty) × (number ≡ s.session)
+MayCome s (Call line) = (s.stage ≡ Headed) × (s.least ≤ line.stamp)
+MayCome s End = s.stage ≡ Headed
 
--- the bytes are the file of this session with these calls
-abbrev pub SpellsSession : ℕ → List ℕ → List Captured → Type 0
-SpellsSession session bytes calls = (lines : List SessionLine) × IsSessionFile session bytes lines × (calls ≡ calls_from session 0 lines)
+-- what a line adds
+abbrev pub with_line : SessionView → SessionLine → SessionView
+with_line s (Head number) = record s { stage = Headed }
+with_line s (Call line) = record s { least = line.stamp + 1; calls = s.calls ++ captured_of s.session (length s.calls) line ∷ [] }
+with_line s End = record s { stage = Ended }
+
+-- before the first line
+abbrev pub new_view : ℕ → SessionView
+new_view session = record { session = session; stage = Empty; least = 0; calls = [] }
+
+abbrev pub is_last : Stage → Bool
+is_last Ended = true
+is_last other = false
+
+abbrev pub is_ended : SessionView → Bool
+is_ended s = is_last s.stage
+
+abbrev pub session_form : Form SessionView SessionLine
+session_form = record { Fits = IsSessionLine; text = session_line_text; May = MayCome; added = with_line }
+
+-- the line of this number is the first that is not whole or may not come
+abbrev pub IsBadSession : ℕ → List ℕ → ℕ → Type 0
+IsBadSession session bytes n = IsBadAt (Comes session_form) is_ended (new_view session) 1 bytes n
+
+-- what the line of a captured call says
+abbrev pub line_of : Captured → CallLine
+line_of call = record { stamp = call.stamp; began = call.began; ended = call.ended; seen = call.seen; number = call.number; call = call.call; reply = call.reply }
+
+-- the lines of calls, and the end
+abbrev pub last_lines : List Captured → List SessionLine
+last_lines [] = End ∷ []
+last_lines (call ∷ calls) = Call (line_of call) ∷ last_lines calls
+
+-- the bytes of the file of a session
+abbrev pub session_text : ℕ → List Captured → List ℕ
+session_text session calls = text_of session_form (Head session ∷ last_lines calls)
+
+-- a call of this session at this place, with at least this stamp
+pub record IsCallAt (session place least : ℕ) (call : Captured) : Type 0 where
+  pub session_is : call.session ≡ session
+  pub place_is : call.place ≡ place
+  pub stamp : least ≤ call.stamp
+  pub began : call.began ≤ LAST_MOMENT
+  pub ended : call.ended ≤ LAST_MOMENT
+  pub reply : IsGoodReply call.reply
+
+-- calls of this session at places from this one on, with rising stamps from this one on
+abbrev pub AreCallsFrom : ℕ → ℕ → ℕ → List Captured → Type 0
+AreCallsFrom session place least [] = Unit {0}
+AreCallsFrom session place least (call ∷ calls) = IsCallAt session place least call × AreCallsFrom session (place + 1) (call.stamp + 1) calls
+
+-- the calls of a session
+abbrev pub AreCallsOf : ℕ → List Captured → Type 0
+AreCallsOf session calls = AreCallsFrom session 0 0 calls
+
+-- the bytes are the file of this session with these calls, whose parts are within the limits of their types
+pub record IsSessionFile (session : ℕ) (bytes : List ℕ) (calls : List Captured) : Type 0 where
+  pub calls_are : AreCallsOf session calls
+  pub fit : AllByRecursion (λ call. IsCallLine (line_of call)) calls
+  pub text : bytes ≡ session_text session calls

@@ -1,16 +1,20 @@
--- The start file: which lines have a text, and what they say together.
-use Rattle.std.specs.Prelude.{◌≡◌, ℕ, ◌<◌, ◌^◌, List, [], ◌∷◌, None, Some, FitsSigned}
+-- The start file: its lines as a form, and the bytes of a start.
+use Rattle.std.specs.Prelude.{◌≡◌, ℕ, ◌<◌, ◌≤◌, ◌^◌, ◌==◌, Bool, List, FitsSigned}
 use Rattle.std.specs.Int.{w64}
-use Rattle.std.specs.List.{AllByRecursion, last_or}
 use Rattle.desk_values.specs.Good.{IsValues}
+use Rattle.desk_schema.specs.declared.line.TheConstants.{SESSION_LIMIT}
 use Rattle.desk_schema.specs.declared.line.StartLine.{StartLine}
 use Rattle.desk_schema.specs.declared.line.StartLine.TheVariants.{Head, Level, Seq as SeqLine, Service, Table, Column, Row, NextRow, Sessions, End}
 use Rattle.desk_schema.specs.declared.line.ColumnKind.{ColumnKind}
 use Rattle.desk_schema.specs.declared.line.ColumnKind.TheVariants.{Int, Text, Seq}
 use Rattle.desk_schema.specs.Name.{IsName}
-use Rattle.desk_schema.specs.Line.{lines_text}
-use Rattle.desk_schema.specs.State.{state_of}
-use Rattle.desk_schema.specs.Rules.{AreLines}
+use Rattle.desk_schema.specs.Line.{line_text, lines_text}
+use Rattle.desk_schema.specs.Start.{StartView, file_lines}
+use Rattle.desk_schema.specs.State.{State, nothing, added}
+use Rattle.desk_schema.specs.Rules.{MayFollow}
+use Rattle.desk_schema.specs.File.{IsStart}
+use Rattle.file_lines.specs.File.{IsBadAt}
+use Rattle.file_lines.specs.Form.{Form, Comes}
 use Rattle.capture_format.specs.declared.start.StartFile.{StartFile}
 
 -- the parts of a column's kind are within the limits of their types
@@ -32,17 +36,23 @@ IsStartLine (NextRow row) = row < 2 ^ 64
 IsStartLine (Sessions count) = count < 2 ^ 32
 IsStartLine End = Unit {0}
 
--- the bytes are these lines in order, of which the last is the end
-pub record IsStartFile (bytes : List ℕ) (lines : List StartLine) : Type 0 where
-  pub each : AllByRecursion IsStartLine lines
-  pub lines_are : AreLines lines
-  pub text : bytes ≡ lines_text lines
-  pub ended : last_or None lines ≡ Some End
+-- the lines, with the rules of each and what it adds to the start
+abbrev pub start_form : Form State StartLine
+start_form = record { Fits = IsStartLine; text = line_text; May = MayFollow; added = added }
 
--- what the lines say
-abbrev pub file_of : List StartLine → StartFile
-file_of lines = let state = state_of lines in record { start = state.start; sessions = state.sessions }
+abbrev pub is_ended : State → Bool
+is_ended state = state.last == 10
+
+-- the line of this number is the first that is not whole or may not come
+abbrev pub IsBadStart : List ℕ → ℕ → Type 0
+IsBadStart bytes n = IsBadAt (Comes start_form) is_ended nothing 1 bytes n
+
+-- the bytes of a start file
+abbrev pub start_text : StartView → ℕ → List ℕ
+start_text start sessions = lines_text (file_lines start sessions)
 
 -- the bytes are the start file that says this
-abbrev pub SpellsStart : List ℕ → StartFile → Type 0
-SpellsStart bytes file = (lines : List StartLine) × IsStartFile bytes lines × (file ≡ file_of lines)
+pub record IsStartFile (bytes : List ℕ) (file : StartFile) : Type 0 where
+  pub is_start : IsStart file.start
+  pub sessions : file.sessions ≤ SESSION_LIMIT
+  pub text : bytes ≡ start_text file.start file.sessions

@@ -92,6 +92,3 @@ fn push_call(call: &Call, to: &mut Bytes) -> Result<(), Memory>
         Call::Disconnect => to.append(b"disconnect"),
     }
 }
-
-#[cfg(test)]
-mod tests;

@@ -1,4 +1,6 @@
 //! The bytes of a file are the file of one thing alone, and so are those of a call and of a reply.
+//!
+//! With the contracts of the readers and writers, each undoes the other.
 
 ghost use Rattle.std.specs.Prelude.{◌≡◌, ◌<◌, ◌^◌, ℕ, List};
 ghost use Rattle.desk_values.specs.declared.call.Call.{Call};
@@ -7,17 +9,17 @@ ghost use Rattle.desk_values.specs.declared.capture.Captured.{Captured};
 ghost use Rattle.desk_values.specs.Good.{IsCall, IsGoodReply};
 ghost use Rattle.desk_values.specs.Text.{call_text, reply_text};
 ghost use Rattle.capture_format.specs.declared.start.StartFile.{StartFile};
-ghost use Rattle.capture_format.specs.StartFile.{SpellsStart};
-ghost use Rattle.capture_format.specs.SessionFile.{SpellsSession};
+ghost use Rattle.capture_format.specs.StartFile.{IsStartFile};
+ghost use Rattle.capture_format.specs.SessionFile.{IsSessionFile};
 
 /// Bytes are the start file of at most one start.
 pub fn one_start()
-    ensures { (bytes : List ℕ) (file other : StartFile) → SpellsStart bytes file → SpellsStart bytes other → file ≡ other }
+    ensures { (bytes : List ℕ) (file other : StartFile) → IsStartFile bytes file → IsStartFile bytes other → file ≡ other }
 {}
 
 /// Bytes are the file of a session with at most one list of calls.
 pub fn one_session()
-    ensures { (session : ℕ) (bytes : List ℕ) (calls others : List Captured) → SpellsSession session bytes calls → SpellsSession session bytes others → calls ≡ others }
+    ensures { (session : ℕ) (bytes : List ℕ) (calls others : List Captured) → session < 2 ^ 32 → IsSessionFile session bytes calls → IsSessionFile session bytes others → calls ≡ others }
 {}
 
 /// A text is the text of at most one call.

@@ -359,6 +359,3 @@ fn push_made(made: Option<u64>, to: &mut Bytes) -> Result<(), Memory>
         None => to.push(b'-'),
     }
 }
-
-#[cfg(test)]
-mod tests;

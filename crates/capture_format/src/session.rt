@@ -1,67 +1,149 @@
-ghost use Rattle.std.specs.Prelude.{◌≡◌, List, IfOk};
-ghost use Rattle.desk_values.specs.declared.capture.Captured.{Captured as AnyCaptured};
-ghost use Rattle.capture_format.specs.Reading.{ReadsCalls};
-ghost use Rattle.capture_format.specs.SessionFile.{SpellsSession, captured_of};
-ghost use Rattle.capture_format.specs.SessionRest.{IsRest};
+//! Session files, read from their bytes.
 
-use crate::form::FormErr;
-use crate::session_line::{CallLine, SessionLine, read_head, read_session_line};
-use desk_values::fields::cut;
-use desk_values::{CallList, Captured, Reserved};
+ghost use Rattle.std.specs.Prelude.{◌≡◌};
+ghost use Rattle.file_lines.specs.File.{ReadsFile};
+ghost use Rattle.file_lines.specs.Form.{AddsLine};
+ghost use Rattle.capture_format.specs.SessionFile.{session_form, is_ended, new_view, captured_of, IsBadSession, IsSessionFile};
+
+use crate::session_line::{CallLine, SessionLine, read_session_line};
+use desk_values::{CallList, Captured, ReadErr, Reserved};
+use file_lines::{FormErr, LineFile, read_lines};
 use std::alloc::Global;
+use std::marker::Model;
 
 /// The calls that the file of this session spells, in order, with every kind of call and reply. The file is lines, each
 /// with a line feed: `session 1 N` with the session's number, a line for each call, and `end`. A call's line is its
 /// stamp, when it began and ended in microseconds from the capture's start, how many numbered commits it had seen, its own
 /// commit's number or `-`, the call, `>` and the reply, with spaces between:
 /// `0 4 9 0 - connect tmain > connected [] -`. Stamps rise from line to line; neither moment is after [`LAST_MOMENT`].
-/// `NotYet` exactly where the bytes are no file of this session; `Memory` for want of memory.
+/// `Bad` exactly where the bytes are no file of this session, with the first line that is not whole or may not come where
+/// it stands; `Memory` for want of memory.
 ///
 /// [`LAST_MOMENT`]: crate::LAST_MOMENT
-pub fn read_any_session(alloc: Global, bytes: &[u8], session: u32) -> Result<CallList, FormErr>
-    ensures ok { IfOk result (λ calls. SpellsSession session bytes.now calls.items) }
-    ensures only { (calls : List AnyCaptured) → SpellsSession session bytes.now calls → ReadsCalls result calls }
+pub fn read_session(alloc: Global, bytes: &[u8], session: u32) -> Result<CallList, FormErr>
+    ensures { ReadsFile result (λ calls. IsSessionFile session bytes.now calls.items) (IsBadSession session bytes.now) }
 {
-    let Some((head, rest)) = cut(bytes, b'\n') else {
-        return Err(FormErr::NotYet);
-    };
-    let Some(number) = read_head(head) else {
-        return Err(FormErr::NotYet);
-    };
-    if number != session {
-        return Err(FormErr::NotYet);
+    let mut draft = SessionDraft::new(alloc, session);
+    match read_lines(bytes, &mut draft) {
+        Ok(()) => Ok(draft.calls),
+        Err(error) => Err(error),
     }
-    read_calls(alloc, rest, session)
 }
 
-// The calls of the lines after the first.
-fn read_calls(alloc: Global, bytes: &[u8], session: u32) -> Result<CallList, FormErr>
-    ensures ok { IfOk result (λ calls. IsRest session 0 0 calls.items bytes.now) }
-    ensures only { (calls : List AnyCaptured) → IsRest session 0 0 calls bytes.now → ReadsCalls result calls }
-{
-    let mut calls = Reserved::new(alloc);
-    let mut least: u64 = 0;
-    let mut rest = bytes;
-    'lines: while let Some((text, after)) = cut(rest, b'\n') {
-        match read_session_line(alloc, text)? {
-            SessionLine::Head(_) => return Err(FormErr::NotYet),
-            SessionLine::End => {
-                if after.is_empty() {
-                    return Ok(calls);
-                }
-                return Err(FormErr::NotYet);
-            }
-            SessionLine::Call(line) => {
-                if (line.stamp as u64) < least {
-                    return Err(FormErr::NotYet);
-                }
-                least = line.stamp as u64 + 1;
-                calls.push(captured(session, calls.len() as u32, line))?;
-            }
+/// How far the lines have come.
+#[derive(Clone, Copy)]
+enum Stage {
+    Empty,
+    Headed,
+    Ended,
+}
+
+/// The lines so far.
+#[derive(Drop)]
+struct SessionDraft {
+    alloc: Global,
+    session: u32,
+    stage: Stage,
+    // the least stamp of the next call
+    least: u64,
+    calls: CallList,
+}
+
+impl Model for SessionDraft {
+    ghost use Rattle.std.specs.Prelude.{◌≤◌, ◌^◌, length};
+    ghost use Rattle.capture_format.specs.SessionView.{SessionView};
+
+    ghost Value = { SessionView };
+
+    ghost view = { λ a. record { session = a.session; stage = a.stage; least = a.least; calls = a.calls.items } };
+
+    ghost invariant = { λ a. (length a.calls.items ≤ a.least) × (a.least ≤ 2 ^ 32) };
+}
+
+impl LineFile for SessionDraft {
+    ghost use Rattle.capture_format.specs.SessionView.{SessionView};
+    ghost use Rattle.file_lines.specs.Form.{Comes};
+
+    ghost State = { SessionView };
+
+    ghost state = { λ draft. draft };
+
+    ghost comes = { Comes session_form };
+
+    ghost done = { is_ended };
+
+    fn add(&mut self, line: &[u8]) -> Result<(), ReadErr> {
+        match read_session_line(self.alloc, line) {
+            Ok(line) => self.add_line(line),
+            Err(error) => Err(error),
         }
-        rest = after;
     }
-    Err(FormErr::NotYet)
+
+    fn is_done(&self) -> bool {
+        matches!(self.stage, Stage::Ended)
+    }
+}
+
+impl SessionDraft {
+    fn new(alloc: Global, session: u32) -> SessionDraft
+        ensures { result ≡ new_view session }
+    {
+        SessionDraft {
+            alloc,
+            session,
+            stage: Stage::Empty,
+            least: 0,
+            calls: Reserved::new(alloc),
+        }
+    }
+
+    fn add_line(&mut self, line: SessionLine) -> Result<(), ReadErr>
+        ensures { AddsLine session_form result self.old line self.new }
+    {
+        match line {
+            SessionLine::Head(number) => self.add_head(number),
+            SessionLine::Call(line) => self.add_call(line),
+            SessionLine::End => self.add_end(),
+        }
+    }
+
+    fn add_head(&mut self, number: u32) -> Result<(), ReadErr>
+        ensures { AddsLine session_form result self.old (SessionLine.Head number) self.new }
+    {
+        let Stage::Empty = self.stage else {
+            return Err(ReadErr::Bad);
+        };
+        if number != self.session {
+            return Err(ReadErr::Bad);
+        }
+        self.stage = Stage::Headed;
+        Ok(())
+    }
+
+    fn add_call(&mut self, line: CallLine) -> Result<(), ReadErr>
+        ensures { AddsLine session_form result self.old (SessionLine.Call line) self.new }
+    {
+        let Stage::Headed = self.stage else {
+            return Err(ReadErr::Bad);
+        };
+        if (line.stamp as u64) < self.least {
+            return Err(ReadErr::Bad);
+        }
+        self.least = line.stamp as u64 + 1;
+        let place = self.calls.len() as u32;
+        self.calls.push(captured(self.session, place, line))?;
+        Ok(())
+    }
+
+    fn add_end(&mut self) -> Result<(), ReadErr>
+        ensures { AddsLine session_form result self.old SessionLine.End self.new }
+    {
+        let Stage::Headed = self.stage else {
+            return Err(ReadErr::Bad);
+        };
+        self.stage = Stage::Ended;
+        Ok(())
+    }
 }
 
 fn captured(session: u32, place: u32, line: CallLine) -> Captured

@@ -1,19 +1,21 @@
 //! Start files, read from their bytes.
 
-ghost use Rattle.std.specs.Prelude.{◌≡◌, ◌⊎◌, IfOk, OnOk, IfSome, IfNone, IsErrOf};
+ghost use Rattle.std.specs.Prelude.{◌≡◌, ℕ, OnOk, IfSome, IfNone, IsErrOf, IsTrue};
 ghost use Rattle.desk_schema.specs.Line.{with_name};
-ghost use Rattle.desk_schema.specs.State.{added, nothing};
-ghost use Rattle.desk_schema.specs.Rules.{IsKind, MayFollow};
-ghost use Rattle.capture_format.specs.declared.start.StartFile.{StartFile as AnyFile};
-ghost use Rattle.capture_format.specs.Reading.{ReadsFile};
-ghost use Rattle.capture_format.specs.StartFile.{SpellsStart};
-ghost use Rattle.capture_format.specs.StartSteps.{ReadsNext, ReadsPart, DraftSoFar, IsNoStart, IsDeclared, IsUnderWay, IsNextRow, next_line_of, tail_of};
+ghost use Rattle.desk_schema.specs.State.{added};
+ghost use Rattle.desk_schema.specs.Rules.{IsKind, IsWithin, MayFollow};
+ghost use Rattle.file_lines.specs.File.{ReadsFile};
+ghost use Rattle.file_lines.specs.Form.{AddsLine};
+ghost use Rattle.capture_format.specs.StartFile.{start_form, is_ended, IsBadStart, IsStartFile};
+ghost use Rattle.capture_format.specs.StartStage.{IsStage, LeadsTo, state_at};
 
-use crate::form::FormErr;
 use crate::start_line::read_start_line;
 use desk_schema::{ColumnKind, Draft, Kind, SESSION_LIMIT, Start, StartLine};
-use desk_values::fields::cut;
+use desk_values::ReadErr;
+use file_lines::{FormErr, LineFile, read_lines};
 use std::alloc::Global;
+use std::marker::Model;
+use std::mem;
 
 /// What a start file says.
 #[derive(Drop)]
@@ -28,103 +30,163 @@ pub struct StartFile {
 /// feed: `start 1`; `level 1`; sequences as `seq s 10`, with the next value; services as `svc main rw`, or `ro`; tables as
 /// `table acct`, each with its columns as `col id int 0 9 notnull`, or `null`, of the kinds `int LOW HIGH`, `text BYTES` and
 /// `seq NAME`; rows as `row 1 0 [i1]`, with their number, their table's and their values; `nextrow 2`; `sessions 1`, up to
-/// 64; `end`. `NotYet` exactly where the bytes are no start file, one that breaks a rule of [`Draft`] among them; `Memory`
-/// for want of memory.
-pub fn read_any_start(alloc: Global, bytes: &[u8]) -> Result<StartFile, FormErr>
-    ensures ok { IfOk result (λ file. SpellsStart bytes.now file) }
-    ensures only { (file : AnyFile) → SpellsStart bytes.now file → ReadsFile result file }
+/// 64; `end`. `Bad` exactly where the bytes are no start file, one that breaks a rule of [`Draft`] among them, with the
+/// first line that is not whole or may not come where it stands; `Memory` for want of memory.
+pub fn read_start(alloc: Global, bytes: &[u8]) -> Result<StartFile, FormErr>
+    ensures { ReadsFile result (IsStartFile bytes.now) (IsBadStart bytes.now) }
 {
-    let (start, rest) = read_declarations(alloc, bytes)?;
-    let sessions = read_tail(alloc, rest)?;
-    Ok(StartFile { start, sessions })
+    let mut draft = StartDraft {
+        alloc,
+        stage: Stage::Empty,
+    };
+    match read_lines(bytes, &mut draft) {
+        Ok(()) => Ok(draft.finish()),
+        Err(error) => Err(error),
+    }
 }
 
-// The start that the lines up to the next row declare, and the bytes after them.
-fn read_declarations(alloc: Global, bytes: &[u8]) -> Result<(Start, &[u8]), FormErr>
-    ensures ok { IfOk result (λ x. IsDeclared bytes.now x.0 x.1.now) }
-    ensures not_yet { IsErrOf result FormErr.NotYet → IsNoStart bytes.now }
-{
-    let (mut draft, mut rest) = read_opening(alloc, bytes)?;
-    'lines: loop {
-        let (line, after) = next_line(alloc, rest)?;
-        if let StartLine::NextRow(row) = line {
-            return Ok((draft.finish(row)?, after));
+/// How far the lines have come.
+#[derive(Drop)]
+enum Stage {
+    Empty,
+    Headed,
+    Drafting(Draft),
+    Declared(Start),
+    Counted(Start, u32),
+    Ended(Start, u32),
+}
+
+/// The lines so far. Contracts see the state that they lead to.
+#[derive(Drop)]
+struct StartDraft {
+    alloc: Global,
+    stage: Stage,
+}
+
+impl Model for StartDraft {
+    ghost use Rattle.desk_schema.specs.State.{State};
+    ghost use Rattle.capture_format.specs.StartStage.{IsStage, state_at};
+
+    ghost Value = { State };
+
+    ghost view = { λ a. state_at a.stage };
+
+    ghost invariant = { λ a. IsStage a.stage };
+}
+
+impl LineFile for StartDraft {
+    ghost use Rattle.desk_schema.specs.State.{State as Declared};
+    ghost use Rattle.file_lines.specs.Form.{Comes};
+
+    ghost State = { Declared };
+
+    ghost state = { λ draft. draft };
+
+    ghost comes = { Comes start_form };
+
+    ghost done = { is_ended };
+
+    fn add(&mut self, line: &[u8]) -> Result<(), ReadErr> {
+        match read_start_line(self.alloc, line) {
+            Ok(line) => self.add_line(line),
+            Err(error) => Err(error),
         }
-        add_line(&mut draft, line)?;
-        rest = after;
+    }
+
+    fn is_done(&self) -> bool {
+        matches!(&self.stage, Stage::Ended(_, _))
     }
 }
 
-// A draft with the first two lines, and the bytes after them.
-fn read_opening(alloc: Global, bytes: &[u8]) -> Result<(Draft, &[u8]), FormErr>
-    ensures ok { IfOk result (λ x. DraftSoFar bytes.now x.0 x.1.now × (x.0 ≡ added (added nothing StartLine.Head) (StartLine.Level 1))) }
-    ensures not_yet { IsErrOf result FormErr.NotYet → IsNoStart bytes.now }
-{
-    let (first, rest) = next_line(alloc, bytes)?;
-    let StartLine::Head = first else {
-        return Err(FormErr::NotYet);
-    };
-    let (second, rest) = next_line(alloc, rest)?;
-    let StartLine::Level(level) = second else {
-        return Err(FormErr::NotYet);
-    };
-    Ok((Draft::new(alloc, level)?, rest))
-}
-
-// The first line, and the bytes after its line feed.
-#[tactic(auto, unfolding(crate::specs::StartSteps::next_line_of))]
-fn next_line(alloc: Global, bytes: &[u8]) -> Result<(StartLine, &[u8]), FormErr>
-    ensures { ReadsNext result (next_line_of bytes.now) }
-{
-    let (text, rest) = cut(bytes, b'\n').ok_or(FormErr::NotYet)?;
-    Ok((read_start_line(alloc, text)?, rest))
-}
-
-// The number of sessions, where only it and the last line are left.
-#[tactic(auto, unfolding(crate::specs::StartSteps::tail_of))]
-fn read_tail(alloc: Global, bytes: &[u8]) -> Result<u32, FormErr>
-    ensures { ReadsPart result (tail_of bytes.now) }
-{
-    let (first, rest) = next_line(alloc, bytes)?;
-    let StartLine::Sessions(count) = first else {
-        return Err(FormErr::NotYet);
-    };
-    if count > SESSION_LIMIT {
-        return Err(FormErr::NotYet);
+impl StartDraft {
+    fn add_line(&mut self, line: StartLine) -> Result<(), ReadErr>
+        ensures { AddsLine start_form result self.old line self.new }
+    {
+        let stage = mem::replace(&mut self.stage, Stage::Empty);
+        self.stage = next_stage(self.alloc, stage, line)?;
+        Ok(())
     }
-    let (second, rest) = next_line(alloc, rest)?;
-    let StartLine::End = second else {
-        return Err(FormErr::NotYet);
-    };
-    if rest.is_empty() {
-        Ok(count)
-    } else {
-        Err(FormErr::NotYet)
+
+    // What the lines say, once all have come.
+    fn finish(self) -> StartFile
+        requires { IsTrue (is_ended self) }
+        ensures start { result.start ≡ self.start }
+        ensures sessions { result.sessions ≡ self.sessions }
+    {
+        match self.stage {
+            Stage::Ended(start, sessions) => StartFile { start, sessions },
+            _ => unreachable!(),
+        }
     }
 }
 
-// Adds a line that is not that of the next row.
-fn add_line(draft: &mut Draft, line: StartLine) -> Result<(), FormErr>
-    requires under_way { IsUnderWay draft.old }
+// The stage that the line leads to.
+fn next_stage(alloc: Global, stage: Stage, line: StartLine) -> Result<Stage, ReadErr>
+    requires { IsStage stage }
+    ensures { LeadsTo result (state_at stage) line }
+{
+    match stage {
+        Stage::Empty => match line {
+            StartLine::Head => Ok(Stage::Headed),
+            _ => Err(ReadErr::Bad),
+        },
+        Stage::Headed => match line {
+            StartLine::Level(level) => Ok(Stage::Drafting(Draft::new(alloc, level)?)),
+            _ => Err(ReadErr::Bad),
+        },
+        Stage::Drafting(draft) => next_of_draft(draft, line),
+        Stage::Declared(start) => match line {
+            StartLine::Sessions(count) => {
+                if count <= SESSION_LIMIT {
+                    Ok(Stage::Counted(start, count))
+                } else {
+                    Err(ReadErr::Bad)
+                }
+            }
+            _ => Err(ReadErr::Bad),
+        },
+        Stage::Counted(start, count) => match line {
+            StartLine::End => Ok(Stage::Ended(start, count)),
+            _ => Err(ReadErr::Bad),
+        },
+        Stage::Ended(_, _) => Err(ReadErr::Bad),
+    }
+}
+
+fn next_of_draft(mut draft: Draft, line: StartLine) -> Result<Stage, ReadErr>
+    requires { IsWithin 2 7 draft.last }
+    ensures { LeadsTo result draft line }
+{
+    if let StartLine::NextRow(row) = line {
+        return Ok(Stage::Declared(draft.finish(row)?));
+    }
+    add_declaration(&mut draft, line)?;
+    Ok(Stage::Drafting(draft))
+}
+
+// Adds a line that stands between the level and the next row.
+fn add_declaration(draft: &mut Draft, line: StartLine) -> Result<(), ReadErr>
+    requires within { IsWithin 2 7 draft.old.last }
+    requires other { (row : ℕ) → ¬ (line ≡ StartLine.NextRow row) }
     ensures ok { OnOk result (draft.new ≡ added draft.old line) }
     ensures rule { OnOk result (MayFollow draft.old line) }
-    ensures under_way { OnOk result (IsUnderWay draft.new) }
-    ensures not_yet { IsErrOf result FormErr.NotYet → IsNextRow line ⊎ (¬ (MayFollow draft.old line)) }
+    ensures within { OnOk result (IsWithin 2 7 draft.new.last) }
+    ensures bad { IsErrOf result ReadErr.Bad → ¬ MayFollow draft.old line }
 {
     match line {
         StartLine::Seq(name, next) => draft.add_seq(&name, next)?,
         StartLine::Service(name, rights) => draft.add_service(&name, rights)?,
         StartLine::Table(name) => draft.add_table(&name)?,
         StartLine::Column(name, kind, not_null) => {
-            let kind = numbered(draft, kind).ok_or(FormErr::NotYet)?;
+            let kind = numbered(draft, kind).ok_or(ReadErr::Bad)?;
             draft.add_col(&name, kind, not_null)?;
         }
         StartLine::Row(row, table, values) => draft.add_row(row, table, values)?,
-        StartLine::Head => return Err(FormErr::NotYet),
-        StartLine::Level(_) => return Err(FormErr::NotYet),
-        StartLine::NextRow(_) => return Err(FormErr::NotYet),
-        StartLine::Sessions(_) => return Err(FormErr::NotYet),
-        StartLine::End => return Err(FormErr::NotYet),
+        StartLine::Head => return Err(ReadErr::Bad),
+        StartLine::Level(_) => return Err(ReadErr::Bad),
+        StartLine::NextRow(_) => return Err(ReadErr::Bad),
+        StartLine::Sessions(_) => return Err(ReadErr::Bad),
+        StartLine::End => return Err(ReadErr::Bad),
     }
     Ok(())
 }

@@ -1,29 +1,17 @@
 //! A line of a start file, read from its bytes.
 
-ghost use Rattle.std.specs.Prelude.{◌≡◌};
+ghost use Rattle.std.specs.Prelude.{◌≡◌, ◌^◌};
 ghost use Rattle.std.specs.Option.{option_map};
-ghost use Rattle.desk_values.specs.Reading.{Reads};
-ghost use Rattle.capture_format.specs.Reading.{ReadsFront};
-ghost use Rattle.capture_format.specs.StartReading.{word_of, rights_of, nulls_of, sequence_of, service_of, range_at, length_at, drawn_at, kind_at, column_of, row_of, fields_of, worded_of, start_line_of};
+ghost use Rattle.desk_values.specs.Reading.{Reads, number_of, number_below, integer_of, values_of};
+ghost use Rattle.capture_format.specs.Fields.{two_of};
+ghost use Rattle.capture_format.specs.NameReading.{as_name};
+ghost use Rattle.capture_format.specs.StartReading.{rights_of, nulls_of, shape_behind, shape_of, line_behind, worded_of, start_line_of};
 
 use crate::name::read_name;
-use desk_schema::{ColumnKind, Rights, StartLine};
+use desk_schema::{ColumnKind, StartLine};
 use desk_values::fields::{cut, read_i64, read_u32, read_u64};
-use desk_values::{ReadErr, read_values};
+use desk_values::{ReadErr, find_word, read_values};
 use std::alloc::Global;
-
-/// The first field of a line of several fields.
-#[derive(Clone, Copy)]
-enum Word {
-    Level,
-    Sequence,
-    Service,
-    Table,
-    Column,
-    Row,
-    NextRow,
-    Sessions,
-}
 
 /// The line that the bytes spell, without its line feed. `Bad` where they spell none.
 #[tactic(auto, unfolding(crate::specs::StartReading::start_line_of))]
@@ -44,95 +32,76 @@ fn read_worded(alloc: Global, bytes: &[u8]) -> Result<StartLine, ReadErr>
     ensures { Reads result (worded_of bytes.now) }
 {
     let (word, rest) = cut(bytes, b' ').ok_or(ReadErr::Bad)?;
-    let word = read_word(word).ok_or(ReadErr::Bad)?;
-    read_fields(alloc, word, rest)
+    read_behind(alloc, word, rest)
 }
 
-#[tactic(auto, unfolding(crate::specs::StartReading::word_of))]
-fn read_word(bytes: &[u8]) -> Option<Word>
-    ensures { result ≡ word_of bytes.now }
+// The line with this first field.
+#[tactic(auto, unfolding(crate::specs::StartReading::line_behind))]
+fn read_behind(alloc: Global, word: &[u8], rest: &[u8]) -> Result<StartLine, ReadErr>
+    ensures { Reads result (line_behind word.now rest.now) }
 {
-    if bytes == b"level".as_slice() {
-        Some(Word::Level)
-    } else if bytes == b"seq".as_slice() {
-        Some(Word::Sequence)
-    } else if bytes == b"svc".as_slice() {
-        Some(Word::Service)
-    } else if bytes == b"table".as_slice() {
-        Some(Word::Table)
-    } else if bytes == b"col".as_slice() {
-        Some(Word::Column)
-    } else if bytes == b"row".as_slice() {
-        Some(Word::Row)
-    } else if bytes == b"nextrow".as_slice() {
-        Some(Word::NextRow)
-    } else if bytes == b"sessions".as_slice() {
-        Some(Word::Sessions)
+    if word == b"level".as_slice() {
+        Ok(StartLine::Level(read_u32(rest).ok_or(ReadErr::Bad)?))
+    } else if word == b"seq".as_slice() {
+        read_sequence(alloc, rest)
+    } else if word == b"svc".as_slice() {
+        read_service(alloc, rest)
+    } else if word == b"table".as_slice() {
+        Ok(StartLine::Table(read_name(alloc, rest)?))
+    } else if word == b"col".as_slice() {
+        read_column(alloc, rest)
+    } else if word == b"row".as_slice() {
+        read_row(alloc, rest)
+    } else if word == b"nextrow".as_slice() {
+        Ok(StartLine::NextRow(read_u64(rest).ok_or(ReadErr::Bad)?))
+    } else if word == b"sessions".as_slice() {
+        Ok(StartLine::Sessions(read_u32(rest).ok_or(ReadErr::Bad)?))
     } else {
-        None
+        Err(ReadErr::Bad)
     }
 }
 
-fn read_fields(alloc: Global, word: Word, bytes: &[u8]) -> Result<StartLine, ReadErr>
-    ensures { Reads result (fields_of word bytes.now) }
-{
-    match word {
-        Word::Level => Ok(StartLine::Level(read_u32(bytes).ok_or(ReadErr::Bad)?)),
-        Word::Sequence => read_sequence(alloc, bytes),
-        Word::Service => read_service(alloc, bytes),
-        Word::Table => Ok(StartLine::Table(read_name(alloc, bytes)?)),
-        Word::Column => read_column(alloc, bytes),
-        Word::Row => read_row(alloc, bytes),
-        Word::NextRow => Ok(StartLine::NextRow(read_u64(bytes).ok_or(ReadErr::Bad)?)),
-        Word::Sessions => Ok(StartLine::Sessions(read_u32(bytes).ok_or(ReadErr::Bad)?)),
-    }
-}
-
-#[tactic(auto, unfolding(crate::specs::StartReading::sequence_of))]
+#[tactic(auto, unfolding(crate::specs::Fields::two_of))]
 fn read_sequence(alloc: Global, bytes: &[u8]) -> Result<StartLine, ReadErr>
-    ensures { Reads result (sequence_of bytes.now) }
+    ensures { Reads result (option_map (λ p. StartLine.Seq p.0 p.1) (two_of 32 as_name number_of bytes.now)) }
 {
     let (name, next) = cut(bytes, b' ').ok_or(ReadErr::Bad)?;
     let name = read_name(alloc, name)?;
     Ok(StartLine::Seq(name, read_u64(next).ok_or(ReadErr::Bad)?))
 }
 
-#[tactic(auto, unfolding(crate::specs::StartReading::service_of))]
+#[tactic(auto, unfolding(crate::specs::Fields::two_of))]
 fn read_service(alloc: Global, bytes: &[u8]) -> Result<StartLine, ReadErr>
-    ensures { Reads result (service_of bytes.now) }
+    ensures { Reads result (option_map (λ p. StartLine.Service p.0 p.1) (two_of 32 as_name rights_of bytes.now)) }
 {
     let (name, rights) = cut(bytes, b' ').ok_or(ReadErr::Bad)?;
     let name = read_name(alloc, name)?;
-    Ok(StartLine::Service(name, read_rights(rights).ok_or(ReadErr::Bad)?))
+    Ok(StartLine::Service(name, find_word(rights).ok_or(ReadErr::Bad)?))
 }
 
-#[tactic(auto, unfolding(crate::specs::StartReading::rights_of))]
-fn read_rights(bytes: &[u8]) -> Option<Rights>
-    ensures { result ≡ rights_of bytes.now }
-{
-    match bytes {
-        b"rw" => Some(Rights::ReadWrite),
-        b"ro" => Some(Rights::ReadOnly),
-        _ => None,
-    }
-}
-
-#[tactic(auto, unfolding(crate::specs::StartReading::column_of))]
+#[tactic(auto, unfolding(crate::specs::Fields::two_of))]
 fn read_column(alloc: Global, bytes: &[u8]) -> Result<StartLine, ReadErr>
-    ensures { Reads result (column_of bytes.now) }
+    ensures { Reads result (option_map (λ p. StartLine.Column p.0 p.1.0 p.1.1) (two_of 32 as_name shape_of bytes.now)) }
 {
     let (name, rest) = cut(bytes, b' ').ok_or(ReadErr::Bad)?;
     let name = read_name(alloc, name)?;
-    let (kind, nulls) = read_kind(alloc, rest)?;
-    Ok(StartLine::Column(name, kind, read_nulls(nulls).ok_or(ReadErr::Bad)?))
+    let (kind, not_null) = read_shape(alloc, rest)?;
+    Ok(StartLine::Column(name, kind, not_null))
 }
 
-// A column's kind, and what stands behind the space after it.
-#[tactic(auto, unfolding(crate::specs::StartReading::kind_at))]
-fn read_kind(alloc: Global, bytes: &[u8]) -> Result<(ColumnKind, &[u8]), ReadErr>
-    ensures { ReadsFront result (kind_at bytes.now) }
+// What a column holds, and whether it is not null.
+#[tactic(auto, unfolding(crate::specs::StartReading::shape_of))]
+fn read_shape(alloc: Global, bytes: &[u8]) -> Result<(ColumnKind, bool), ReadErr>
+    ensures { Reads result (shape_of bytes.now) }
 {
     let (word, rest) = cut(bytes, b' ').ok_or(ReadErr::Bad)?;
+    read_shape_behind(alloc, word, rest)
+}
+
+#[tactic(auto, unfolding(crate::specs::StartReading::shape_behind))]
+fn read_shape_behind(alloc: Global, word: &[u8], rest: &[u8]) -> Result<(ColumnKind, bool), ReadErr>
+    ensures { Reads result (shape_behind word.now rest.now) }
+{
     match word {
         b"int" => read_range(rest).ok_or(ReadErr::Bad),
         b"text" => read_length(rest).ok_or(ReadErr::Bad),
@@ -141,31 +110,36 @@ fn read_kind(alloc: Global, bytes: &[u8]) -> Result<(ColumnKind, &[u8]), ReadErr
     }
 }
 
-#[tactic(auto, unfolding(crate::specs::StartReading::range_at))]
-fn read_range(bytes: &[u8]) -> Option<(ColumnKind, &[u8])>
-    ensures { option_map (λ x. (x.0, x.1.now)) result ≡ range_at bytes.now }
+#[tactic(auto, unfolding(crate::specs::Fields::two_of))]
+fn read_range(bytes: &[u8]) -> Option<(ColumnKind, bool)>
+    ensures { result ≡ option_map (λ p. (ColumnKind.Int p.0 p.1.0, p.1.1)) (two_of 32 integer_of (two_of 32 integer_of nulls_of) bytes.now) }
 {
     let (low, rest) = cut(bytes, b' ')?;
-    let (high, rest) = cut(rest, b' ')?;
+    let (high, nulls) = cut(rest, b' ')?;
     let low = read_i64(low)?;
     let high = read_i64(high)?;
-    Some((ColumnKind::Int(low, high), rest))
+    Some((ColumnKind::Int(low, high), read_nulls(nulls)?))
 }
 
-#[tactic(auto, unfolding(crate::specs::StartReading::length_at))]
-fn read_length(bytes: &[u8]) -> Option<(ColumnKind, &[u8])>
-    ensures { option_map (λ x. (x.0, x.1.now)) result ≡ length_at bytes.now }
+#[tactic(auto, unfolding(crate::specs::Fields::two_of))]
+fn read_length(bytes: &[u8]) -> Option<(ColumnKind, bool)>
+    ensures { result ≡ option_map (λ p. (ColumnKind.Text p.0, p.1)) (two_of 32 (number_below (2 ^ 32)) nulls_of bytes.now) }
 {
-    let (most, rest) = cut(bytes, b' ')?;
-    Some((ColumnKind::Text(read_u32(most)?), rest))
+    let (most, nulls) = cut(bytes, b' ')?;
+    let most = read_u32(most)?;
+    Some((ColumnKind::Text(most), read_nulls(nulls)?))
 }
 
-#[tactic(auto, unfolding(crate::specs::StartReading::drawn_at))]
-fn read_drawn(alloc: Global, bytes: &[u8]) -> Result<(ColumnKind, &[u8]), ReadErr>
-    ensures { ReadsFront result (drawn_at bytes.now) }
+#[tactic(auto, unfolding(crate::specs::Fields::two_of))]
+fn read_drawn(alloc: Global, bytes: &[u8]) -> Result<(ColumnKind, bool), ReadErr>
+    ensures { Reads result (option_map (λ p. (ColumnKind.Seq p.0, p.1)) (two_of 32 as_name nulls_of bytes.now)) }
 {
-    let (name, rest) = cut(bytes, b' ').ok_or(ReadErr::Bad)?;
-    Ok((ColumnKind::Seq(read_name(alloc, name)?), rest))
+    let (name, nulls) = cut(bytes, b' ').ok_or(ReadErr::Bad)?;
+    let name = read_name(alloc, name)?;
+    Ok((
+        ColumnKind::Seq(name),
+        read_nulls(nulls).ok_or(ReadErr::Bad)?,
+    ))
 }
 
 #[tactic(auto, unfolding(crate::specs::StartReading::nulls_of))]
@@ -181,9 +155,9 @@ fn read_nulls(bytes: &[u8]) -> Option<bool>
     }
 }
 
-#[tactic(auto, unfolding(crate::specs::StartReading::row_of))]
+#[tactic(auto, unfolding(crate::specs::Fields::two_of))]
 fn read_row(alloc: Global, bytes: &[u8]) -> Result<StartLine, ReadErr>
-    ensures { Reads result (row_of bytes.now) }
+    ensures { Reads result (option_map (λ p. StartLine.Row p.0 p.1.0 p.1.1) (two_of 32 number_of (two_of 32 (number_below (2 ^ 32)) values_of) bytes.now)) }
 {
     let (row, rest) = cut(bytes, b' ').ok_or(ReadErr::Bad)?;
     let (table, values) = cut(rest, b' ').ok_or(ReadErr::Bad)?;

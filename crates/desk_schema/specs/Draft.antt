@@ -3,6 +3,8 @@ use Rattle.std.specs.Prelude.{ℕ, ◌≡◌, ◌↔◌, List, Result, Ok, Err}
 use Rattle.std.specs.List.{Contains}
 use Rattle.desk_values.specs.declared.value.Value.{Value}
 use Rattle.desk_values.specs.declared.value.Image.{Image}
+use Rattle.desk_values.specs.declared.read_err.ReadErr.{ReadErr}
+use Rattle.desk_values.specs.declared.read_err.ReadErr.TheVariants as line
 use Rattle.desk_schema.specs.declared.line.StartLine.{StartLine}
 use Rattle.desk_schema.specs.declared.draft.DraftErr.{DraftErr}
 use Rattle.desk_schema.specs.declared.draft.DraftErr.TheVariants.{Rule, Memory}
@@ -57,3 +59,8 @@ abbrev pub JudgesUnlessMemory : {T : Type 0} → Result T DraftErr → Type 0 �
 JudgesUnlessMemory (Ok _) Kept = Kept
 JudgesUnlessMemory (Err Rule) Kept = ¬ Kept
 JudgesUnlessMemory (Err Memory) Kept = Unit {0}
+
+-- a line that breaks a rule is a bad line of its file
+abbrev pub line_err : DraftErr → ReadErr
+line_err Rule = line.Bad
+line_err Memory = line.Memory

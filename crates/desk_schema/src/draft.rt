@@ -16,7 +16,7 @@ use crate::rules::{
 };
 use crate::schema::{Column, Kind, Rights, Schema, Service, Table};
 use crate::start::Start;
-use desk_values::{Copied, Image, List, Memory, Txt, Values};
+use desk_values::{Copied, Image, List, Memory, ReadErr, Txt, Values};
 use std::alloc::{AllocFailed, Global};
 use std::marker::Model;
 use thiserror::Error;
@@ -45,6 +45,19 @@ impl<T: Drop> From<AllocFailed<T>> for DraftErr {
 
     fn from(_error: AllocFailed<T>) -> DraftErr {
         DraftErr::Memory
+    }
+}
+
+impl From<DraftErr> for ReadErr {
+    ghost use Rattle.desk_schema.specs.Draft.{line_err};
+
+    ghost from_gives = { λ r e. e ≡ line_err r };
+
+    fn from(error: DraftErr) -> ReadErr {
+        match error {
+            DraftErr::Rule => ReadErr::Bad,
+            DraftErr::Memory => ReadErr::Memory,
+        }
     }
 }
 

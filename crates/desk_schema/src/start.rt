@@ -85,6 +85,13 @@ impl Start {
         self.next_values.get(seq as usize).copied()
     }
 
+    /// The next value of each sequence, by number.
+    pub fn next_values(&self) -> &[u64]
+        ensures { result.now ≡ self.now.next_values }
+    {
+        self.next_values.as_slice()
+    }
+
     /// Whether the two starts are equal. Services are compared in order.
     pub fn same(&self, other: &Start) -> bool
         ensures { IsTrue result ↔ (self.now ≡ other.now) }

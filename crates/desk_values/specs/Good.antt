@@ -66,6 +66,30 @@ pub record IsGoodReply (reply : Reply) : Type 0 where
   pub draws : AllByRecursion IsGoodDraw reply.draws
   pub made : IfSome reply.made (λ row. row < 2 ^ 64)
 
+-- ---- the shape of a reply: what its types do not give
+
+abbrev pub HasValues : List Value → Type 0
+HasValues values = 0 < length values
+
+abbrev pub IsDraw : Value → Type 0
+IsDraw (Draw sequence n) = Unit {0}
+IsDraw other = ⊥
+
+pub record IsShapedImage (image : Image) : Type 0 where
+  pub table : image.table < TABLE_LIMIT
+  pub left : IfSome image.left HasValues
+
+abbrev pub IsShapedOutcome : Outcome → Type 0
+IsShapedOutcome (Rows rows) = AllByRecursion HasValues rows
+IsShapedOutcome (Committed images) = AllByRecursion IsShapedImage images × Ascend images
+IsShapedOutcome other = Unit {0}
+
+-- no row is empty, nor is what an image leaves; images stand by rising row, in tables that there may be; only draws stand
+-- among the draws
+pub record HasGoodShape (reply : Reply) : Type 0 where
+  pub outcome : IsShapedOutcome reply.outcome
+  pub draws : AllByRecursion IsDraw reply.draws
+
 -- a call that has a text
 abbrev pub IsCall : Call → Type 0
 IsCall (Connect service) = IsTxt service

@@ -75,17 +75,27 @@ pub struct Reply {
 }
 
 impl Reply {
-    ghost use Rattle.desk_values.specs.Good.{IsGoodReply};
+    ghost use Rattle.desk_values.specs.Good.{HasGoodShape, IsGoodReply};
 
     /// Whether the reply can be written as a text. No row is empty, nor is what an image leaves; images stand by rising
     /// row, in tables up to 31; and only draws stand among the draws.
     pub fn good(&self) -> bool
-        ensures { IsTrue result ↔ IsGoodReply self.now }
+        ensures text { IsTrue result ↔ IsGoodReply self.now }
+        ensures shape { IsTrue result ↔ HasGoodShape self.now }
     {
         if let Some(row) = &self.made {
             let _row = *row;
         }
         is_good_outcome(&self.outcome) && all_draws(self.draws.as_slice())
+    }
+
+    /// A reply of a good shape has a text, since its numbers and texts are within the limits of their types. It costs
+    /// nothing.
+    pub fn know_good(&self)
+        requires { HasGoodShape self.now }
+        ensures { IsGoodReply self.now }
+    {
+        prove!(self.good());
     }
 }
 

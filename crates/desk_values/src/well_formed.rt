@@ -3,6 +3,7 @@
 ghost use Rattle.std.specs.Prelude.{◌≡◌, ◌↔◌, IsTrue};
 ghost use Rattle.std.specs.List.{AllByRecursion};
 ghost use Rattle.desk_values.specs.Good.{IsValue, IsValues, IsGoodRow, IsGoodImage, IsGoodDraw, IsGoodOutcome, Ascend};
+ghost use Rattle.desk_values.specs.Good.{HasValues, IsDraw, IsShapedImage, IsShapedOutcome};
 ghost use Rattle.desk_values.specs.Good.{rows_ascend, is_draw, all_draws};
 
 use crate::call::Outcome;
@@ -36,6 +37,7 @@ fn is_ascending(images: &[Image]) -> bool
 pub fn all_draws(values: &[Value]) -> bool
     ensures value { result ≡ all_draws values.now }
     ensures fact { IsTrue result ↔ AllByRecursion IsGoodDraw values.now }
+    ensures shape { IsTrue result ↔ AllByRecursion IsDraw values.now }
 {
     for value in values {
         if !is_draw(value) {
@@ -48,6 +50,7 @@ pub fn all_draws(values: &[Value]) -> bool
 fn is_draw(value: &Value) -> bool
     ensures value { result ≡ is_draw value.now }
     ensures fact { IsTrue result ↔ IsGoodDraw value.now }
+    ensures shape { IsTrue result ↔ IsDraw value.now }
 {
     match value {
         Value::Draw(sequence, drawn) => {
@@ -91,14 +94,16 @@ fn know_values(values: &[Value])
 }
 
 fn is_good_row(row: &Values) -> bool
-    ensures { IsTrue result ↔ IsGoodRow row.now }
+    ensures text { IsTrue result ↔ IsGoodRow row.now }
+    ensures shape { IsTrue result ↔ HasValues row.now }
 {
     know_values(row.as_slice());
     !row.is_empty()
 }
 
 fn are_good_rows(rows: &[Values]) -> bool
-    ensures { IsTrue result ↔ AllByRecursion IsGoodRow rows.now }
+    ensures text { IsTrue result ↔ AllByRecursion IsGoodRow rows.now }
+    ensures shape { IsTrue result ↔ AllByRecursion HasValues rows.now }
 {
     for row in rows {
         if !is_good_row(row) {
@@ -109,7 +114,8 @@ fn are_good_rows(rows: &[Values]) -> bool
 }
 
 fn is_good_image(image: &Image) -> bool
-    ensures { IsTrue result ↔ IsGoodImage image.now }
+    ensures text { IsTrue result ↔ IsGoodImage image.now }
+    ensures shape { IsTrue result ↔ IsShapedImage image.now }
 {
     let _row = image.row;
     if image.table >= TABLE_LIMIT {
@@ -122,7 +128,8 @@ fn is_good_image(image: &Image) -> bool
 }
 
 fn are_good_images(images: &[Image]) -> bool
-    ensures { IsTrue result ↔ AllByRecursion IsGoodImage images.now }
+    ensures text { IsTrue result ↔ AllByRecursion IsGoodImage images.now }
+    ensures shape { IsTrue result ↔ AllByRecursion IsShapedImage images.now }
 {
     for image in images {
         if !is_good_image(image) {
@@ -132,8 +139,10 @@ fn are_good_images(images: &[Image]) -> bool
     true
 }
 
+/// Whether an outcome can be written as a text.
 pub fn is_good_outcome(outcome: &Outcome) -> bool
-    ensures { IsTrue result ↔ IsGoodOutcome outcome.now }
+    ensures text { IsTrue result ↔ IsGoodOutcome outcome.now }
+    ensures shape { IsTrue result ↔ IsShapedOutcome outcome.now }
 {
     match outcome {
         Outcome::Rows(rows) => are_good_rows(rows.as_slice()),

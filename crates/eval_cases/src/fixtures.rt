@@ -1,119 +1,59 @@
 //! A schema, rows and binds, which every case is for.
 
-use desk_schema::{Draft, DraftErr, Kind, Start};
-use desk_values::{Binds, Image, Images, List, Memory, Txt, Value, Values};
+use case_text::start_of;
+use desk_schema::Start;
+use desk_values::{Binds, Copied, Image, Images, List, ReadErr, Values, read_values};
 use std::alloc::Global;
 
-fn txt(alloc: Global, text: &str) -> Result<Txt, Memory> {
-    Txt::from_bytes(alloc, text.as_bytes()).map_err(|_| Memory)
-}
+// Sequences `s` and `z`, a table `t` of two numbers, a text, and draws from the first, the first and the second
+// sequence, and a table `acct` of balances.
+const START: &str = "1 seq s 10|seq z 10|table t\
+    |col id int -9223372036854775808 9223372036854775807 notnull|col n int 0 9 null|col x text 20 null\
+    |col d seq 0 null|col e seq 0 null|col f seq 1 null\
+    |table acct|col id int -1000000 1000000 notnull|col bal int -1000000 1000000 null|nextrow 3";
 
-// The lines that follow keep the rules of a start, so that only memory can want.
-fn added(answer: Result<(), DraftErr>) -> Result<(), Memory> {
-    answer.map_err(|_| Memory)
-}
+// The values of the rows of `t`.
+const ROWS: &str = "[i5,-,tabc,d0.10,d0.11,d1.10] [i-3,i7,tab%20,d0.10,d0.11,d1.10] \
+    [i9223372036854775807,i1,tab,d0.10,d0.11,d1.10] [i0,-,-,d0.10,d0.11,d1.10] \
+    [i-9223372036854775808,i2,tb,d0.10,d0.11,d1.10]";
 
-fn add_column(
-    alloc: Global,
-    draft: &mut Draft,
-    name: &str,
-    kind: Kind,
-    not_null: bool,
-) -> Result<(), Memory> {
-    let name = txt(alloc, name)?;
-    added(draft.add_col(&name, kind, not_null))
-}
+// The binds: 9, Null, `abd`, row 7, row 8, draw 10 of `s`, the least and the greatest number, `ab `, `ab`.
+const BINDS: &[u8] =
+    b"[i9,-,tabd,r7,r8,d0.10,i-9223372036854775808,i9223372036854775807,tab%20,tab]";
 
-// A table of two numbers, a text, and draws from the first, the first and the second sequence.
-fn add_wide_table(alloc: Global, draft: &mut Draft) -> Result<(), Memory> {
-    let name = txt(alloc, "t")?;
-    added(draft.add_table(&name))?;
-    add_column(alloc, draft, "id", Kind::Int(i64::MIN, i64::MAX), true)?;
-    add_column(alloc, draft, "n", Kind::Int(0, 9), false)?;
-    add_column(alloc, draft, "x", Kind::Text(20), false)?;
-    add_column(alloc, draft, "d", Kind::Seq(0), false)?;
-    add_column(alloc, draft, "e", Kind::Seq(0), false)?;
-    add_column(alloc, draft, "f", Kind::Seq(1), false)
-}
-
-fn add_accounts(alloc: Global, draft: &mut Draft) -> Result<(), Memory> {
-    let name = txt(alloc, "acct")?;
-    added(draft.add_table(&name))?;
-    add_column(alloc, draft, "id", Kind::Int(-1000000, 1000000), true)?;
-    add_column(alloc, draft, "bal", Kind::Int(-1000000, 1000000), false)
-}
-
-/// Sequences `s` and `z`, the wide table `t`, and a table `acct` of balances.
-pub(crate) fn start(alloc: Global) -> Result<Start, Memory> {
-    let mut draft = Draft::new(alloc, 1).map_err(|_| Memory)?;
-    added(draft.add_seq(&txt(alloc, "s")?, 10))?;
-    added(draft.add_seq(&txt(alloc, "z")?, 10))?;
-    add_wide_table(alloc, &mut draft)?;
-    add_accounts(alloc, &mut draft)?;
-    draft.finish(3).map_err(|_| Memory)
-}
-
-fn add_row(
-    alloc: Global,
-    rows: &mut Images,
-    id: i64,
-    n: Option<i64>,
-    x: Option<&str>,
-) -> Result<(), Memory> {
-    let mut values: Values = List::new(alloc);
-    values.push(Value::Int(id))?;
-    values.push(n.map_or(Value::Null, |n| Value::Int(n)))?;
-    match x {
-        Some(x) => values.push(Value::Text(txt(alloc, x)?))?,
-        None => values.push(Value::Null)?,
-    }
-    values.push(Value::Draw(0, 10))?;
-    values.push(Value::Draw(0, 11))?;
-    values.push(Value::Draw(1, 10))?;
-    rows.push(Image {
-        row: 7,
-        table: 0,
-        left: Some(values),
-    })?;
-    Ok(())
+/// The start of the two tables.
+pub(crate) fn start(alloc: Global) -> Result<Start, ReadErr> {
+    start_of(alloc, START)
 }
 
 /// Rows of `t`: 5, Null, `abc`; -3, 7, `ab `; the greatest number, 1, `ab`; 0, Null, Null; the least number, 2, `b`.
-pub(crate) fn rows(alloc: Global) -> Result<Images, Memory> {
+pub(crate) fn rows(alloc: Global) -> Result<Images, ReadErr> {
     let mut rows = List::new(alloc);
-    add_row(alloc, &mut rows, 5, None, Some("abc"))?;
-    add_row(alloc, &mut rows, -3, Some(7), Some("ab "))?;
-    add_row(alloc, &mut rows, i64::MAX, Some(1), Some("ab"))?;
-    add_row(alloc, &mut rows, 0, None, None)?;
-    add_row(alloc, &mut rows, i64::MIN, Some(2), Some("b"))?;
+    for values in ROWS.split(' ') {
+        rows.push(row_of(alloc, values)?)?;
+    }
     Ok(rows)
 }
 
-/// The values of the row of `acct`: 1 and a balance of 100.
-pub(crate) fn balance_row(alloc: Global) -> Result<Values, Memory> {
-    let mut values = List::new(alloc);
-    values.push(Value::Int(1))?;
-    values.push(Value::Int(100))?;
-    Ok(values)
+fn row_of(alloc: Global, values: &str) -> Result<Image, ReadErr> {
+    Ok(Image {
+        row: 7,
+        table: 0,
+        left: Some(read_values(alloc, values.as_bytes())?),
+    })
 }
 
-/// The binds: 9, Null, `abd`, row 7, row 8, draw 10 of `s`, the least and the greatest number, `ab `, `ab`.
-pub(crate) fn binds(alloc: Global) -> Result<Binds, Memory> {
-    let values = [
-        Value::Int(9),
-        Value::Null,
-        Value::Text(txt(alloc, "abd")?),
-        Value::Row(7),
-        Value::Row(8),
-        Value::Draw(0, 10),
-        Value::Int(i64::MIN),
-        Value::Int(i64::MAX),
-        Value::Text(txt(alloc, "ab ")?),
-        Value::Text(txt(alloc, "ab")?),
-    ];
+/// The values of the row of `acct`: 1 and a balance of 100.
+pub(crate) fn balance_row(alloc: Global) -> Result<Values, ReadErr> {
+    read_values(alloc, b"[i1,i100]")
+}
+
+/// The binds of every case.
+pub(crate) fn binds(alloc: Global) -> Result<Binds, ReadErr> {
+    let values = read_values(alloc, BINDS)?;
     let mut binds = Binds::new(alloc);
-    for value in values {
-        binds.push(value).map_err(|_| Memory)?;
+    for value in values.as_slice() {
+        binds.push(value.copy()?).map_err(|_| ReadErr::Bad)?;
     }
     Ok(binds)
 }

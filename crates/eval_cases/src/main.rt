@@ -16,9 +16,9 @@ mod shown;
 use anyhow::anyhow;
 use desk_schema::Start;
 use desk_values::{Binds, Image, Images, Txt};
-use sql_eval::{CheckErr, Ready, ReadyItems, check, eval, total, truth_of};
+use sql_eval::{CheckErr, Ready, ReadyAgg, ReadyItems, check, eval, total, truth_of};
 use sql_reader::read_statement;
-use std::alloc::Global;
+use std::alloc::{AllocError, Global};
 
 /// What each case is for.
 #[derive(Drop)]
@@ -125,12 +125,22 @@ fn totals_of_rows(alloc: Global, desk: &Desk, rest: &str) -> Result<String, anyh
         return Err(anyhow!("no totals"));
     };
     let level: u32 = level.parse()?;
+    Ok(shown_totals(alloc, desk, level, rows.as_slice(), aggs.as_slice())?)
+}
+
+fn shown_totals(
+    alloc: Global,
+    desk: &Desk,
+    level: u32,
+    rows: &[&Image],
+    aggs: &[ReadyAgg],
+) -> Result<String, AllocError> {
     let mut line = String::new(alloc);
-    for agg in aggs.as_slice() {
+    for agg in aggs {
         if !line.is_empty() {
             line.push_str(", ")?;
         }
-        let value = total(level, rows.as_slice(), &desk.binds, agg);
+        let value = total(level, rows, &desk.binds, agg);
         line.push_str(shown::value(alloc, value)?.as_str())?;
     }
     Ok(line)
@@ -146,10 +156,13 @@ fn chosen_rows<'a>(
         return Ok(rows);
     }
     for number in numbers.split(',') {
-        let number: usize = number.parse()?;
-        let place = number.checked_sub(1).ok_or(anyhow!("no row 0"))?;
-        let row = desk.rows.get(place).ok_or(anyhow!("no such row"))?;
-        rows.push(row)?;
+        rows.push(row_numbered(desk, number)?)?;
     }
     Ok(rows)
+}
+
+fn row_numbered<'a>(desk: &'a Desk, number: &str) -> Result<&'a Image, anyhow::Error> {
+    let number: usize = number.parse()?;
+    let place = number.checked_sub(1).ok_or(anyhow!("no row 0"))?;
+    desk.rows.get(place).ok_or(anyhow!("no such row"))
 }

@@ -13,7 +13,9 @@ use Rattle.machine_model.specs.declared.session.Session.{Session}
 use Rattle.machine_model.specs.declared.session.HeldKey.{HeldKey}
 use Rattle.machine_model.specs.Evaluation.{holds_key}
 use Rattle.machine_model.specs.Writes.{is_locked_key}
-use Rattle.machine_model.specs.Found.{faults_over, no_faults}
+use Rattle.desk_values.specs.declared.value.Image.{Image}
+use Rattle.sql_tree.specs.Plain.{Term}
+use Rattle.machine_model.specs.Found.{Environment, faults_over, no_faults, row_faults, value_in}
 use Rattle.machine_model.specs.View.{key_of_table, keys_held}
 
 or_assoc : (a b c : Bool) → ((a || b) || c) ≡ (a || (b || c))
@@ -52,6 +54,10 @@ pub faults_over_none : {X : Type 0} (faults : X → Faults) → faults_over faul
 unfolding faults_over
 faults_over_none faults = refl
 
+-- the same of the values of a row
+pub row_faults_more : (env : Environment) (es : List (Term ℕ)) (f : Faults) (image : Image) (rows : List Image) → joined (joined f (any_fault (value_in env image) es)) (row_faults env es rows) ≡ joined f (row_faults env es (image ∷ rows))
+row_faults_more env es = joined_more (λ (image : Image). any_fault (value_in env image) es)
+
 -- those that pass both tests are found in either order
 and_swap : (a b : Bool) (c d : Bool) → c ≡ d → ((a && b) || c) ≡ ((b && a) || d)
 and_swap true true c d e = refl
@@ -59,7 +65,7 @@ and_swap true false c d e = e
 and_swap false true c d e = e
 and_swap false false c d e = e
 
-any_filter : {X : Type 0} (p q : X → Bool) (xs : List X) → list_any p (filter q xs) ≡ list_any (λ x. q x && p x) xs
+pub any_filter : {X : Type 0} (p q : X → Bool) (xs : List X) → list_any p (filter q xs) ≡ list_any (λ x. q x && p x) xs
 any_filter p q [] = refl
 any_filter p q (x ∷ xs) = elim (q x) as (λ b. list_any p (if b then x ∷ filter q xs else filter q xs) ≡ ((b && p x) || list_any (λ y. q y && p y) xs)) [
   | true ↦ ap (λ c. p x || c) (any_filter p q xs)
@@ -99,6 +105,14 @@ module _ {X Y : Type 0} (g : X → Y) (xs : List X) (i : ℕ) where
   module _ {Z : Type 0} (h : Y → Z) (made all : List Z) (before : made ++ map h (map g (drop i xs)) ≡ all) where
     pub value_step : (new : List Z) (z : Z) (x : X) → i < length xs → x ≡ get_or xs i x → z ≡ h (g x) → new ≡ made ++ z ∷ [] → new ++ map h (map g (drop (i + 1) xs)) ≡ all
     value_step new z x within read value pushed = rw (pushed, append_assoc, value) (ap (λ ys. made ++ map h ys) (sym (front x within read)) ∙ before)
+
+  module _ (p : Y → Bool) (made all : List Y) (before : made ++ filter p (map g (drop i xs)) ≡ all) where
+    pub filter_step : (new : List Y) (x : X) → i < length xs → x ≡ get_or xs i x → new ≡ made ++ (if p (g x) then g x ∷ [] else []) → new ++ filter p (map g (drop (i + 1) xs)) ≡ all
+    filter_step new x within read kept = rw (kept, append_assoc) (ap (λ ys. made ++ ys) (kept_front (p (g x))) ∙ ap (λ ys. made ++ filter p ys) (sym (front x within read)) ∙ before)
+      where
+        kept_front : (b : Bool) → (if b then g x ∷ [] else []) ++ filter p (map g (drop (i + 1) xs)) ≡ (if b then g x ∷ filter p (map g (drop (i + 1) xs)) else filter p (map g (drop (i + 1) xs)))
+        kept_front true = refl
+        kept_front false = refl
 
 -- ---- tests of what is chosen or joined
 

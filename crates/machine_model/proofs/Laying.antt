@@ -32,12 +32,12 @@ rises_strictly n (x ∷ xs) up i zero d lt within = absurd (omega arith)
 rises_strictly n (x ∷ xs) up zero (suc j) d lt within = omega (arith, rises_above (x.row + 1) xs up.1 j d (omega arith))
 rises_strictly n (x ∷ xs) up (suc i) (suc j) d lt within = rises_strictly (x.row + 1) xs up.1 i j d (omega arith) (omega arith)
 
-no_image : Image
+pub no_image : Image
 no_image = record { row = 0; table = 0; left = None }
 
 -- what a binary search finds is the row's place
 module _ (row : ℕ) (xs : List Image) (up : IsRising xs) where
-  comparisons_rise : IsNonDecreasingBy (λ (image : Image). ordering_index (nat_cmp image.row row)) xs
+  pub comparisons_rise : IsNonDecreasingBy (λ (image : Image). ordering_index (nat_cmp image.row row)) xs
   comparisons_rise i j d le within = let le_rows : (get_or xs i d).row ≤ (get_or xs j d).row = rises_along 0 xs up i j d le within in grind (arith, nat_tests)
 
   pub found_place : (at : ℕ) → at < length xs → ((d : Image) → nat_cmp (get_or xs at d).row row ≡ Equal) → at ≡ place row xs

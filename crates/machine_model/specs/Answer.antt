@@ -18,8 +18,10 @@ use Rattle.sql_eval.specs.declared.faults.Faults.{Faults}
 use Rattle.sql_eval.specs.Faults.{any_fault, joined}
 use Rattle.sql_eval.specs.Totals.{total_over, values_in}
 use Rattle.machine_model.specs.declared.causes.Causes.{Causes}
+use Rattle.machine_model.specs.declared.effect.Effect.{Effect}
+use Rattle.machine_model.specs.declared.effect.Writing.{Writing}
 use Rattle.machine_model.specs.declared.session.Transaction.{Transaction}
-use Rattle.machine_model.specs.Rows.{row_key}
+use Rattle.machine_model.specs.Rows.{row_key, row_numbers}
 use Rattle.machine_model.specs.State.{nothing}
 use Rattle.machine_model.specs.View.{View}
 use Rattle.machine_model.specs.Request.{Request, connect, disconnect, unreadable, unsound, statement}
@@ -34,17 +36,6 @@ pub record Answer : Type 0 where
   pub reads_only : Bool
   pub own : Transaction
 
--- what a statement does where no cause applies
-pub record Effect : Type 0 where
-  pub outcome : Outcome
-  -- the images that it writes
-  pub images : List Image
-  -- the rows and the keys that it holds
-  pub rows : List Image
-  pub keys : List Value
-  -- the row that it makes
-  pub made : Option ℕ
-
 -- ---- the causes of each statement
 
 -- more than 1,000 rows
@@ -58,6 +49,9 @@ are_totals (totals ts) = true
 
 abbrev pub total_in : Environment → List Image → Total ℕ → Result Value Fault
 total_in env found t = total_over env.level env.binds t found
+
+abbrev pub totals_in : Environment → List Image → List (Total ℕ) → List Value
+totals_in env found ts = map (λ (t : Total ℕ). sound (total_in env found t)) ts
 
 abbrev pub asked_faults : Environment → Asked ℕ → List Image → Faults
 asked_faults env columns found = no_faults
@@ -112,42 +106,52 @@ delete_causes env view condition =
 abbrev pub new_row : Environment → List Column → List Value → ℕ → ℕ → Option (List ℕ) → List (Entry ℕ) → Image
 new_row env cs draws row table named entries = record { row = row; table = table; left = Some (row_values named (inputs_for env draws entries) 0 cs) }
 
-abbrev pub insert_causes : Environment → List Column → View → List Value → Image → List (Entry ℕ) → Causes
-insert_causes env cs view draws new entries =
+-- those that a new row brings whose inputs have these faults
+abbrev pub new_causes : Environment → List Column → View → Faults → Image → Causes
+new_causes env cs view faults new =
     with_images env.level cs (new ∷ []) (new ∷ view.rows)
-    (with_faults (any_fault (input_value env draws) entries) (record no_cause {
+    (with_faults faults (record no_cause {
       too_many = is_over (length view.own.changes + 1);
       locked = is_locked_key env.level view.locked_keys (row_key new);
     }))
 
+abbrev pub insert_causes : Environment → List Column → View → List Value → Image → List (Entry ℕ) → Causes
+insert_causes env cs view draws new entries = new_causes env cs view (any_fault (input_value env draws) entries) new
+
 -- ---- the effect of each statement
 
-abbrev pub only : Outcome → Effect
-only outcome = record { outcome = outcome; images = []; rows = []; keys = []; made = None }
+abbrev pub no_writing : Writing
+no_writing = record { images = []; rows = []; keys = [] }
 
 -- one row of items for each row, in their order; or one row of totals
 abbrev pub select_rows : Environment → Asked ℕ → List (Key ℕ) → List Image → List (List Value)
 select_rows env columns keys found = map values_in (ordered env.level keys found)
 select_rows env (values es) keys found = map (values_for env es) (ordered env.level keys found)
-select_rows env (totals ts) keys found = map (λ (t : Total ℕ). sound (total_in env found t)) ts ∷ []
+select_rows env (totals ts) keys found = totals_in env found ts ∷ []
+
+-- what is answered of these rows, and held
+abbrev pub selection : Environment → Asked ℕ → List (Key ℕ) → Bool → List Image → Effect
+selection env asked keys for_update found = record { outcome = Rows (select_rows env asked keys found); made = None; writing = record no_writing { rows = if for_update then row_numbers found else [] } }
 
 abbrev pub select_effect : Environment → View → Asked ℕ → Option (Term ℕ) → List (Key ℕ) → Bool → Effect
-select_effect env view asked condition keys for_update =
-    let found = matching env condition view.rows in
-    record (only (Rows (select_rows env asked keys found))) { rows = if for_update then found else [] }
+select_effect env view asked condition keys for_update = selection env asked keys for_update (matching env condition view.rows)
+
+-- these rows are changed
+abbrev pub changing : Environment → List (Change ℕ) → List Image → Effect
+changing env changes found = record { outcome = Count (length found); made = None; writing = record { images = map (updated env changes) found; rows = row_numbers found; keys = moved_keys env changes found } }
 
 abbrev pub update_effect : Environment → View → List (Change ℕ) → Option (Term ℕ) → Effect
-update_effect env view changes condition =
-    let found = matching env condition view.rows in
-    record (only (Count (length found))) { images = map (updated env changes) found; rows = found; keys = moved_keys env changes found }
+update_effect env view changes condition = changing env changes (matching env condition view.rows)
+
+-- these rows go
+abbrev pub deletion : List Image → Effect
+deletion found = record { outcome = Count (length found); made = None; writing = record { images = map gone found; rows = row_numbers found; keys = map row_key found } }
 
 abbrev pub delete_effect : Environment → View → Option (Term ℕ) → Effect
-delete_effect env view condition =
-    let found = matching env condition view.rows in
-    record (only (Count (length found))) { images = map gone found; rows = found; keys = map row_key found }
+delete_effect env view condition = deletion (matching env condition view.rows)
 
 abbrev pub insert_effect : Image → Effect
-insert_effect new = record { outcome = Count 1; images = new ∷ []; rows = new ∷ []; keys = row_key new ∷ []; made = Some new.row }
+insert_effect new = record { outcome = Count 1; made = Some new.row; writing = record { images = new ∷ []; rows = new.row ∷ []; keys = row_key new ∷ [] } }
 
 -- ---- the answer
 
@@ -168,7 +172,7 @@ ended rights outcome = record { reply = reply_of outcome [] None; rights = right
 
 -- the statement writes and holds what it does
 abbrev pub done : ℕ → View → List Value → Effect → Answer
-done table view draws effect = record (unchanged view (reply_of effect.outcome draws effect.made)) { own = holding table view.own effect.images effect.rows effect.keys }
+done table view draws effect = record (unchanged view (reply_of effect.outcome draws effect.made)) { own = holding table view.own effect.writing }
 
 -- refused with this fault, or answered so
 abbrev pub unless : View → List Value → Option Fault → Answer → Answer
@@ -201,6 +205,6 @@ abbrev pub answer : SchemaView → View → List ℕ → ℕ → Request → Ans
 answer schema view next_values row (connect service) = unless view [] (connect_fault view service) (record (unchanged view (reply_of Connected [] None)) { rights = service })
 answer schema view next_values row disconnect = unless view [] (disconnect_fault view) (ended None Disconnected)
 answer schema view next_values row unreadable = refused view [] Syntax
-answer schema view next_values row (unsound fault) = refused view [] (if is_none view.rights then NotConnected else fault)
+answer schema view next_values row (unsound table fault) = refused view [] (if is_none view.rights then NotConnected else fault)
 answer schema view next_values row (statement plan binds) =
     unless view [] (statement_fault view plan) (executed schema view next_values row (record { level = schema.level; binds = binds }) plan)

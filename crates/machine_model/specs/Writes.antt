@@ -15,6 +15,7 @@ use Rattle.sql_tree.specs.Plain.{Term, Entry, value, drawn, Change}
 use Rattle.sql_eval.specs.Value.{is_null_value, value_of}
 use Rattle.machine_model.specs.declared.session.HeldKey.{HeldKey}
 use Rattle.machine_model.specs.declared.session.Transaction.{Transaction}
+use Rattle.machine_model.specs.declared.effect.Writing.{Writing}
 use Rattle.sql_eval.specs.Totals.{values_in}
 use Rattle.machine_model.specs.Rows.{noted, row_key}
 use Rattle.machine_model.specs.Found.{Environment, sound, values_for}
@@ -55,10 +56,14 @@ abbrev pub input_place : Option (List ℕ) → ℕ → Option ℕ
 input_place None column = Some column
 input_place (Some named) column = position (nat_eq column) named
 
--- the values of a new row, one for each column: Null where none is given
+-- the value that is given for a column: Null where none is
+abbrev pub column_value : Option (List ℕ) → List Value → ℕ → Value
+column_value named inputs number = unwrap_or (option_and_then (slice_get inputs) (input_place named number)) Null
+
+-- the values of a new row, one for each column
 abbrev pub row_values : Option (List ℕ) → List Value → ℕ → List Column → List Value
 row_values named inputs number [] = []
-row_values named inputs number (column ∷ columns) = unwrap_or (option_and_then (slice_get inputs) (input_place named number)) Null ∷ row_values named inputs (number + 1) columns
+row_values named inputs number (column ∷ columns) = column_value named inputs number ∷ row_values named inputs (number + 1) columns
 
 -- ---- the tests of a new image, column by column
 
@@ -110,9 +115,9 @@ changed_rows changes found = length changes + length (filter (λ (image : Image)
 abbrev pub with_row : List ℕ → ℕ → List ℕ
 with_row held row = if list_any (nat_eq row) held then held else held ++ row ∷ []
 
-abbrev pub with_rows : List ℕ → List Image → List ℕ
+abbrev pub with_rows : List ℕ → List ℕ → List ℕ
 with_rows held [] = held
-with_rows held (image ∷ images) = with_rows (with_row held image.row) images
+with_rows held (row ∷ rows) = with_rows (with_row held row) rows
 
 -- keys are held as they are: two that differ are two, whatever the level (no key that is held is Null)
 abbrev pub is_held_key : ℕ → Value → HeldKey → Bool
@@ -126,8 +131,8 @@ with_keys table held [] = held
 with_keys table held (key ∷ keys) = with_keys table (with_key table held key) keys
 
 -- the transaction with what a statement on a table writes and holds
-abbrev pub holding : ℕ → Transaction → List Image → List Image → List Value → Transaction
-holding table own images rows keys = record { changes = noted own.changes images; rows = with_rows own.rows rows; keys = with_keys table own.keys keys }
+abbrev pub holding : ℕ → Transaction → Writing → Transaction
+holding table own writing = record { changes = noted own.changes writing.images; rows = with_rows own.rows writing.rows; keys = with_keys table own.keys writing.keys }
 
 -- the key is one of those that others hold
 abbrev pub is_locked_key : ℕ → List Value → Value → Bool
@@ -137,6 +142,10 @@ is_locked_key level locked key = list_any (same_key level key) locked
 abbrev pub moves_key : Environment → List (Change ℕ) → Image → Bool
 moves_key env changes image = not (same_key env.level (row_key image) (row_key (updated env changes image)))
 
--- the old and the new keys of the rows whose key it changes
+-- the old and the new key of a row whose key it changes
+abbrev pub keys_moved : Environment → List (Change ℕ) → Image → List Value
+keys_moved env changes image = if moves_key env changes image then row_key image ∷ row_key (updated env changes image) ∷ [] else []
+
+-- those of all rows
 abbrev pub moved_keys : Environment → List (Change ℕ) → List Image → List Value
-moved_keys env changes found = flat_map (λ (image : Image). if moves_key env changes image then row_key image ∷ row_key (updated env changes image) ∷ [] else []) found
+moved_keys env changes found = flat_map (keys_moved env changes) found

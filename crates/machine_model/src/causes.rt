@@ -1,9 +1,10 @@
 //! Why a statement is refused.
 
 ghost use Rattle.std.specs.Prelude.{◌≡◌};
-ghost use Rattle.machine_model.specs.Causes.{no_cause, ranked};
+ghost use Rattle.machine_model.specs.Causes.{first_causes, no_cause, ranked};
 
 use desk_values::Fault;
+use sql_eval::Faults;
 
 /// What may be wrong with the rows that a statement touches, in the order in which it is told.
 #[derive(Clone, Copy, Debug, PartialEq, Eq)]
@@ -40,6 +41,18 @@ impl Causes {
             too_long: false,
             out_of_range: false,
             duplicate: false,
+        }
+    }
+
+    /// Those that go before all that holds and new images bring: faults of expressions, and too many rows.
+    pub fn first(faults: Faults, too_many: bool) -> Causes
+        ensures { result ≡ first_causes faults too_many }
+    {
+        Causes {
+            divides: faults.divides,
+            overflows: faults.overflows,
+            too_many,
+            ..Causes::none()
         }
     }
 

@@ -1,6 +1,6 @@
 //! The rows that match a condition, and expressions over rows.
 
-ghost use Rattle.std.specs.Prelude.{◌≡◌, map, IfOk, Err};
+ghost use Rattle.std.specs.Prelude.{◌≡◌, ◌++◌, ◌∷◌, [], map, if◌then◌else◌, IfOk, OnOk, Err, Some};
 ghost use Rattle.desk_values.specs.declared.value.Value.{Value as AnyValue};
 ghost use Rattle.sql_eval.specs.declared.logic.Truth.{Truth as AnyTruth};
 ghost use Rattle.sql_tree.specs.Plain.{condition_of, term_of, total_of};
@@ -63,24 +63,52 @@ pub fn matching<'a>(
     Ok(found)
 }
 
-/// The faults of a condition at any of the rows.
-pub fn where_faults(with: Evaluation<'_>, condition: &Option<Checked>, rows: &[&Image]) -> Faults
-    ensures { result ≡ where_faults (env_of with.entry) (condition_of condition.now) (looked_at rows.now) }
+/// The rows that match, and the faults of the condition at any of the rows.
+pub fn sifted<'a>(
+    with: Evaluation<'_>,
+    condition: &Option<Checked>,
+    rows: &[&'a Image],
+) -> Result<(Vec<&'a Image>, Faults), Memory>
+    ensures rows { IfOk result (λ r. looked_at r.0.items ≡ matching (env_of with.entry) (condition_of condition.now) (looked_at rows.now)) }
+    ensures faults { IfOk result (λ r. r.1 ≡ where_faults (env_of with.entry) (condition_of condition.now) (looked_at rows.now)) }
 {
     match condition {
-        None => Faults::NONE,
-        Some(condition) => condition_faults(with, condition, rows),
+        None => Ok((matching(with, condition, rows)?, Faults::NONE)),
+        Some(condition) => sifted_by(with, condition, rows),
     }
 }
 
-fn condition_faults(with: Evaluation<'_>, condition: &Checked, rows: &[&Image]) -> Faults
-    ensures { result ≡ any_fault (truth_in (env_of with.entry) (term_of condition.now)) (looked_at rows.now) }
+#[tactic(auto, using(crate::proofs::Adding::none_joined))]
+fn sifted_by<'a>(
+    with: Evaluation<'_>,
+    condition: &Checked,
+    rows: &[&'a Image],
+) -> Result<(Vec<&'a Image>, Faults), Memory>
+    ensures rows { IfOk result (λ r. looked_at r.0.items ≡ matching (env_of with.entry) (Some (term_of condition.now)) (looked_at rows.now)) }
+    ensures faults { IfOk result (λ r. r.1 ≡ any_fault (truth_in (env_of with.entry) (term_of condition.now)) (looked_at rows.now)) }
 {
+    let mut found = Vec::new(with.alloc);
     let mut faults = Faults::NONE;
     for image in rows {
-        faults = with_truth(faults, truth_in(with, condition, image));
+        let truth = truth_in(with, condition, image);
+        keep_true(&mut found, truth, *image)?;
+        faults = with_truth(faults, truth);
     }
-    faults
+    Ok((found, faults))
+}
+
+/// Keeps a row behind those found, where its truth is true.
+fn keep_true<'a>(
+    found: &mut Vec<&'a Image>,
+    truth: Result<Truth, Fault>,
+    image: &'a Image,
+) -> Result<(), Memory>
+    ensures { OnOk result (looked_at found.new.items ≡ looked_at found.old.items ++ (if is_true truth then image.now ∷ [] else [])) }
+{
+    if matches!(truth, Ok(Truth::True)) {
+        found.push(image)?;
+    }
+    Ok(())
 }
 
 /// The faults with that of a truth.

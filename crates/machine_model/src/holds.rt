@@ -79,12 +79,12 @@ pub fn hold_key(level: u32, others: Others<'_>, table: u32, key: &Value) -> bool
 }
 
 /// These rows are held too. After an `Err` some of them may be.
-pub fn hold_rows(held: &mut List<u64>, images: &[Image]) -> Result<(), Memory>
-    ensures { OnOk result (held.new ≡ with_rows held.old images.now) }
+pub fn hold_rows(held: &mut List<u64>, rows: &[u64]) -> Result<(), Memory>
+    ensures { OnOk result (held.new ≡ with_rows held.old rows.now) }
 {
-    for image in images {
-        if !stands_among(image.row, held.as_slice()) {
-            held.push(image.row)?;
+    for row in rows {
+        if !stands_among(*row, held.as_slice()) {
+            held.push(*row)?;
         }
     }
     Ok(())

@@ -1,26 +1,38 @@
-//! What every call to the SQL server means, and the parts of a plain machine that answers calls so.
+//! What every call to the SQL server means, and a plain machine that answers calls so.
 //!
-//! Enters: rows of a start and of commits, sessions, checked expressions. Leaves: the rows that a session sees, those
-//! that match, their values, what is wrong with new ones, and what is held. It touches nothing but memory.
+//! Enters: a start, calls of 64 sessions. Leaves: replies, the committed rows. It touches nothing but memory.
 //!
-//! `specs` says what a call is answered and what it leaves (`Step`), by what it can depend on (`View`). The parts here
-//! have clauses of those words; no call of this crate answers a whole call yet.
+//! `specs` says what a call is answered and what it leaves (`Step`), by what it can depend on (`View`). `PlainMachine`
+//! decides a call on what it borrows (`Decision`), and then does what was decided; want of memory comes before anything
+//! changes. Rows are seen by reference, and the rows after all commits are kept by table.
 #![tactic(auto)]
 
+mod answering;
 mod causes;
+mod deciding;
+mod deleting;
+mod draws;
+mod effect;
 mod evaluation;
+mod following;
 mod found;
+mod giving;
 mod holds;
 mod images;
+mod inserting;
+pub mod laws;
+mod machine;
+mod order;
+mod permission;
+mod repeats;
 mod rows;
 mod seeing;
+mod seen;
+mod selecting;
 mod session;
+mod tables;
+mod updating;
 
-pub use causes::Causes;
-pub use evaluation::Evaluation;
-pub use found::{evaluated, is_match, matching, total_value, values_for, values_of, where_faults};
-pub use holds::{Others, hold_key, hold_keys, hold_rows, hold_some_row};
-pub use images::{row_key, same_row_key, tested};
+pub use machine::{Copies, PlainMachine};
 pub use rows::Rows;
-pub use seeing::rows_seen;
 pub use session::{HeldKey, Session, Transaction};

@@ -2,9 +2,9 @@
 
 ghost use Rattle.std.specs.Prelude.{◌≡◌, ◌+◌, ◌<◌, ◌≤◌, ◌++◌, ◌∷◌, [], length, map, vec_len, IfOk, IfSome, OnOk, OnErr, IsOk, false};
 ghost use Rattle.std.specs.Vec.{vec_capacity};
-ghost use Rattle.machine_model.specs.Rows.{IsRising, is_there, lay, noted, one, place, placed, shown};
+ghost use Rattle.machine_model.specs.Rows.{IsRising, is_there, lay, noted, of_table, one, place, placed, shown};
 
-use desk_values::{Image, List, Memory};
+use desk_values::{Copied, Image, List, Memory};
 use std::alloc::Global;
 use std::marker::Model;
 
@@ -34,6 +34,22 @@ impl Rows {
         Rows {
             images: Vec::new(alloc),
         }
+    }
+
+    /// Copies of rising images.
+    pub fn of(alloc: Global, images: &[Image]) -> Result<Self, Memory>
+        requires { IsRising images.now }
+        ensures { IfOk result (λ rows. rows ≡ images.now) }
+    {
+        let images = copies(alloc, images)?;
+        Ok(Rows { images })
+    }
+
+    /// The images themselves.
+    pub fn into_vec(self) -> Vec<Image>
+        ensures { result.items ≡ self }
+    {
+        self.images
     }
 
     /// How many images there are.
@@ -153,6 +169,22 @@ fn note_within(images: &mut Vec<Image>, changes: Vec<Image>)
     }
 }
 
+/// Lays a change over rows, where there is room for it.
+fn lay_one(images: &mut Vec<Image>, image: Image)
+    requires rising { IsRising images.old.items }
+    requires room { vec_len images.old < vec_capacity images.old }
+    ensures items { images.new.items ≡ placed shown image images.old.items }
+    ensures rising { IsRising images.new.items }
+    ensures len { vec_len images.new ≤ vec_len images.old + 1 }
+    ensures capacity { vec_capacity images.old ≤ vec_capacity images.new }
+{
+    if image.left.is_some() {
+        put_within(images, image);
+    } else {
+        take_out(images, &image);
+    }
+}
+
 /// Lays changes over rows, where there is room for them.
 fn lay_within(images: &mut Vec<Image>, changes: Vec<Image>)
     requires rising { IsRising images.old.items }
@@ -163,10 +195,74 @@ fn lay_within(images: &mut Vec<Image>, changes: Vec<Image>)
     let mut left = changes;
     left.reverse();
     while let Some(image) = left.pop() {
-        if image.left.is_some() {
-            put_within(images, image);
-        } else {
-            take_out(images, &image);
+        lay_one(images, image);
+    }
+}
+
+/// Copies of the rows of one table.
+fn copies_of_table(alloc: Global, images: &[Image], table: u32) -> Result<Vec<Image>, Memory>
+    ensures { IfOk result (λ copied. copied.items ≡ of_table table images.now) }
+{
+    let mut copied = Vec::new(alloc);
+    for image in images {
+        if image.table == table {
+            copied.push(image.copy()?)?;
         }
+    }
+    Ok(copied)
+}
+
+/// The rows of a table, ascending, with room for more. Contracts see the rows, and for how many more there is room.
+#[derive(Drop)]
+pub struct TableRows {
+    images: Vec<Image>,
+}
+
+impl Model for TableRows {
+    ghost use Rattle.std.specs.Prelude.{◌-◌, vec_len};
+    ghost use Rattle.std.specs.Vec.{vec_capacity};
+    ghost use Rattle.machine_model.specs.Rows.{IsRising, Stock};
+
+    ghost Value = { Stock };
+
+    ghost view = { λ a. record { rows = a.images.items; room = vec_capacity a.images - vec_len a.images } };
+
+    ghost invariant = { λ a. IsRising a.images.items };
+}
+
+impl TableRows {
+    /// Copies of the rows of one table among these.
+    pub fn of_table(alloc: Global, images: &[Image], table: u32) -> Result<Self, Memory>
+        requires { IsRising images.now }
+        ensures { IfOk result (λ stock. stock.rows ≡ of_table table images.now) }
+    {
+        let images = copies_of_table(alloc, images, table)?;
+        Ok(TableRows { images })
+    }
+
+    /// The rows in order.
+    pub fn as_slice(&self) -> &[Image]
+        ensures value { result.now ≡ self.now.rows }
+        ensures rising { IsRising self.now.rows }
+    {
+        self.images.as_slice()
+    }
+
+    /// Makes room for so many rows more.
+    pub fn reserve(&mut self, more: usize) -> Result<(), Memory>
+        ensures rows { self.new.rows ≡ self.old.rows }
+        ensures ok { OnOk result (more ≤ self.new.room) }
+    {
+        self.images.reserve(more)?;
+        Ok(())
+    }
+
+    /// Lays a change over the rows, where there is room for it.
+    pub fn lay_one(&mut self, image: Image)
+        requires { 0 < self.old.room }
+        ensures rows { self.new.rows ≡ placed shown image self.old.rows }
+        ensures room { self.old.room ≤ self.new.room + 1 }
+    {
+        lay_one(&mut self.images, image);
     }
 }

@@ -1,11 +1,11 @@
 //! The rows of a table as a session sees them; no row is copied.
 
 ghost use Rattle.std.specs.Prelude.{◌≡◌, ◌++◌, map, IfOk, OnOk};
-ghost use Rattle.machine_model.specs.Rows.{IsRising, lay, lay_all, of_table, shown};
+ghost use Rattle.machine_model.specs.Rows.{IsRising, lay, lay_all, of_table, shown, stocked};
 ghost use Rattle.sql_eval.specs.Totals.{looked_at};
 ghost use Rattle.machine_model.specs.View.{AreLatest, commits_seen, rows_seen};
 
-use crate::rows::Rows;
+use crate::rows::{Rows, TableRows};
 use crate::session::Session;
 use desk_values::{Image, Memory};
 use std::alloc::Global;
@@ -105,12 +105,12 @@ fn base<'a>(
     alloc: Global,
     start: &'a [Image],
     commits: &'a [Rows],
-    current: &'a [Rows],
+    current: &'a [TableRows],
     snapshot: Option<u64>,
     table: u32,
 ) -> Result<Vec<&'a Image>, Memory>
     requires rising { IsRising start.now }
-    requires latest { AreLatest start.now commits.now 0 current.now }
+    requires latest { AreLatest start.now commits.now 0 (stocked current.now) }
     ensures { IfOk result (λ seen. looked_at seen.items ≡ lay_all (of_table table start.now) (map (of_table table) (commits_seen snapshot commits.now))) }
 {
     match snapshot {
@@ -127,11 +127,11 @@ fn latest<'a>(
     alloc: Global,
     start: &'a [Image],
     commits: &'a [Rows],
-    current: &'a [Rows],
+    current: &'a [TableRows],
     table: u32,
 ) -> Result<Vec<&'a Image>, Memory>
     requires rising { IsRising start.now }
-    requires latest { AreLatest start.now commits.now 0 current.now }
+    requires latest { AreLatest start.now commits.now 0 (stocked current.now) }
     ensures { IfOk result (λ seen. looked_at seen.items ≡ lay_all (of_table table start.now) (map (of_table table) commits.now)) }
 {
     match current.get(table as usize) {
@@ -145,12 +145,12 @@ pub fn rows_seen<'a>(
     alloc: Global,
     start: &'a [Image],
     commits: &'a [Rows],
-    current: &'a [Rows],
+    current: &'a [TableRows],
     session: &'a Session,
     table: u32,
 ) -> Result<Vec<&'a Image>, Memory>
     requires rising { IsRising start.now }
-    requires latest { AreLatest start.now commits.now 0 current.now }
+    requires latest { AreLatest start.now commits.now 0 (stocked current.now) }
     ensures { IfOk result (λ seen. looked_at seen.items ≡ rows_seen start.now commits.now session.now table) }
 {
     let rows = base(alloc, start, commits, current, session.snapshot, table)?;

@@ -5,7 +5,7 @@ ghost use Rattle.machine_model.specs.State.{disconnected, nothing};
 
 use crate::rows::Rows;
 use desk_schema::Rights;
-use desk_values::{List, Value};
+use desk_values::{Copied, List, Memory, Value};
 use std::alloc::Global;
 
 /// A session of the server.
@@ -37,6 +37,16 @@ pub struct HeldKey {
     pub table: u32,
     /// The value of the key.
     pub key: Value,
+}
+
+impl Copied for HeldKey {
+    fn copy(&self) -> Result<Self, Memory> {
+        let key = self.key.copy()?;
+        Ok(HeldKey {
+            table: self.table,
+            key,
+        })
+    }
 }
 
 impl Transaction {

@@ -1,5 +1,3 @@
-pub mod KeyLemmas
-pub mod Steps
 pub mod Runs
 pub mod Passing
 pub mod Tested

@@ -13,11 +13,13 @@ use Rattle.desk_schema.specs.Start.{StartView}
 use Rattle.replay_history.specs.Gap.{IsCallAt, IsJustBefore, IsPause, pause_of}
 use Rattle.replay_history.specs.History.{StartsAt, AnswersAt, IsAnsweredBefore, IsAnswered, IsLegalHistory, IsTruthfulHistory}
 use Rattle.replay_history.specs.Capture.{IsRun, IsLegalCapture}
-use Rattle.replay_cli.specs.Machine.{Answers, Database, Gives, IsOnly, committed, opening}
+use Rattle.machine_model.specs.Machine.{Running}
+use Rattle.machine_model.specs.State.{State, opening, tables as tables_after}
+use Rattle.machine_model.specs.Step.{Gives, reply_in, step}
 use Rattle.replay_cli.specs.OneSession.{ArePlaced, Executes, IsReplay, in_order}
-use Rattle.replay_cli.proofs.Steps.{some, some_is}
+use Rattle.replay_cli.proofs.Tested.{some, some_is}
 use Rattle.replay_cli.proofs.Runs.{IsRun-more, dropped}
-use Rattle.replay_cli.proofs.Passing.{Gives-next_row, same_call, before_is}
+use Rattle.replay_cli.proofs.Passing.{same_call, before_is}
 
 -- the events of calls from a stamp on, after a call that ended then
 abbrev pub ordered : ℕ → ℕ → List Captured → List Event
@@ -169,7 +171,7 @@ first_dropped (a ∷ all) zero call calls e = (ap some (head_is call a calls all
 first_dropped (a ∷ all) (suc k) call calls e = first_dropped all k call calls e
 
 -- the fold over the answers is the run over the calls
-ordered_is_truthful : (all : List Captured) (k ended : ℕ) (calls : List Captured) (first last : Database) → calls ≡ drop k all → IsRun Answers first calls last → IsTruthfulHistory (Executes all) first (ordered k ended calls) last
+ordered_is_truthful : (all : List Captured) (k ended : ℕ) (calls : List Captured) (first last : State) → calls ≡ drop k all → IsRun Gives first calls last → IsTruthfulHistory (Executes all) first (ordered k ended calls) last
 ordered_is_truthful all k ended [] first last e run = run
 ordered_is_truthful all k ended (call ∷ calls) first last e run =
     let at = first_dropped all k call calls e in
@@ -185,7 +187,7 @@ ordered_answers_all calls k lt = go calls k lt where
       (k + k + 1, call.reply, is_answered 0 0 (c ∷ calls) k call (slice_get-get_or (c ∷ calls) k c lt) ∙ ap (λ (n : ℕ). some (Answer n call.reply)) e)
 
 -- a run over all calls, and the events of the calls in their order, are a replay
-pub replay_from_run : (start : StartView) (calls : List Captured) (last : Database) → ArePlaced calls → IsRun Answers (opening start) calls last → IsReplay start calls (ordered 0 0 calls) (committed last)
+pub replay_from_run : (start : StartView) (calls : List Captured) (last : State) → ArePlaced calls → IsRun Gives (opening start) calls last → IsReplay start calls (ordered 0 0 calls) (tables_after last (length last.commits))
 replay_from_run start calls last placed run = record {
   end = last;
   complete = record {
@@ -202,67 +204,69 @@ replay_from_run start calls last placed run = record {
 
 -- ---- the loop
 
--- some calls are replayed, and the machine, the last end and the history are where they leave them
-pub record Replaying (start : StartView) (calls : List Captured) (i : ℕ) (machine : Database) (ended : ℕ) (history : List Event) : Type 0 where
+-- some calls are replayed, and the engine, the last end and the history are where they leave them
+pub record Replaying (start : StartView) (calls : List Captured) (i : ℕ) (engine : Running) (ended : ℕ) (history : List Event) : Type 0 where
   pub so_far : history ++ ordered i ended (drop i calls) ≡ ordered 0 0 calls
-  pub run : IsRun Answers (opening start) (take i calls) machine
-  pub rest : (last : Database) × IsRun Answers machine (drop i calls) last
+  pub run : IsRun Gives (opening start) (take i calls) engine.state
+  pub rest : (last : State) × IsRun Gives engine.state (drop i calls) last
+  pub steps : engine.steps ≡ i
   pub none_before : i ≡ 0 → ended ≡ 0
   pub last_end : (j : ℕ) (before : Captured) → suc j ≡ i → IsCallAt calls j before → ended ≡ before.ended
-  pub next_row : machine.next_row ≤ start.next_row + i
 
-pub Replaying-none : (start : StartView) (calls : List Captured) (rows : List Image) → IsLegalCapture rows Answers (opening start) calls → Replaying start calls 0 (opening start) 0 []
+pub Replaying-none : (start : StartView) (calls : List Captured) (rows : List Image) → IsLegalCapture rows Gives (opening start) calls → Replaying start calls 0 (record { state = opening start; steps = 0 }) 0 []
 Replaying-none start calls rows legal = record {
   so_far = refl;
   run = refl;
   rest = legal.replies;
+  steps = refl;
   none_before = λ e. refl;
   last_end = λ j before e at. absurd (omega arith);
-  next_row = omega arith;
 }
 
 -- the next call begins after the last end
-pub begins_after : (start : StartView) (calls : List Captured) (i : ℕ) (machine : Database) (ended : ℕ) (history : List Event) (rows : List Image) (call : Captured) → ArePlaced calls
-    → IsLegalCapture rows Answers (opening start) calls → Replaying start calls i machine ended history → IsCallAt calls i call → ended ≤ call.began
-begins_after start calls zero machine ended history rows call placed legal replaying at = omega (arith, replaying.none_before refl)
-begins_after start calls (suc j) machine ended history rows call placed legal replaying at =
+pub begins_after : (start : StartView) (calls : List Captured) (i : ℕ) (engine : Running) (ended : ℕ) (history : List Event) (rows : List Image) (call : Captured) → ArePlaced calls
+    → IsLegalCapture rows Gives (opening start) calls → Replaying start calls i engine ended history → IsCallAt calls i call → ended ≤ call.began
+begins_after start calls zero engine ended history rows call placed legal replaying at = omega (arith, replaying.none_before refl)
+begins_after start calls (suc j) engine ended history rows call placed legal replaying at =
     let b = before_is calls j (suc j) call refl at in
     let here = (placed (suc j) call at) in
     let there = (placed j b.0 b.1) in
     let just : IsJustBefore b.0 call = record { session = there.session_is ∙ sym here.session_is; place = ap suc there.place_is ∙ sym here.place_is } in
     omega (arith, (legal.each (suc j) call at).follows j b.0 b.1 just, replaying.last_end j b.0 refl b.1)
 
--- the machine gives the recorded reply, and the others after it
-pub rest_at : (start : StartView) (calls : List Captured) (i : ℕ) (machine : Database) (ended : ℕ) (history : List Event) (call : Captured) → Replaying start calls i machine ended history → IsCallAt calls i call
-    → (last : Database) × IsRun Answers machine (call ∷ drop (i + 1) calls) last
-rest_at start calls i machine ended history call replaying at =
-    (replaying.rest.0, subst (λ (cs : List Captured). IsRun Answers machine cs replaying.rest.0) (dropped calls i call at) replaying.rest.1)
+-- the engine gives the recorded reply, and the others after it
+pub rest_at : (start : StartView) (calls : List Captured) (i : ℕ) (engine : Running) (ended : ℕ) (history : List Event) (call : Captured) → Replaying start calls i engine ended history → IsCallAt calls i call
+    → (last : State) × IsRun Gives engine.state (call ∷ drop (i + 1) calls) last
+rest_at start calls i engine ended history call replaying at =
+    (replaying.rest.0, subst (λ (cs : List Captured). IsRun Gives engine.state cs replaying.rest.0) (dropped calls i call at) replaying.rest.1)
 
-pub Replaying-more : (start : StartView) (calls : List Captured) (i : ℕ) (machine next : Database) (ended : ℕ) (history : List Event) (call : Captured) → Replaying start calls i machine ended history → IsCallAt calls i call
-    → Gives machine call.call call.reply next × IsOnly (Gives machine call.call) call.reply next
-    → Replaying start calls (i + 1) next call.ended (history ++ Start i (call.began - ended) ∷ Answer i call.reply ∷ [])
-Replaying-more start calls i machine next ended history call replaying at given =
-    let rest = rest_at start calls i machine ended history call replaying at in
-    let same : rest.1.0 ≡ next = (given.1 call.reply rest.1.0 rest.1.1).1 in
+pub Replaying-more : (start : StartView) (calls : List Captured) (i : ℕ) (engine next : Running) (ended : ℕ) (history : List Event) (call : Captured) → Replaying start calls i engine ended history → IsCallAt calls i call
+    → next.state ≡ step engine.state call.session call.call → next.steps ≡ engine.steps + 1
+    → Replaying start calls (i + 1) next call.ended (history ++ Start i (call.began - ended) ∷ Answer i (reply_in engine.state call.session call.call) ∷ [])
+Replaying-more start calls i engine next ended history call replaying at state_is steps_are =
+    let rest = rest_at start calls i engine ended history call replaying at in
+    let reply_is : reply_in engine.state call.session call.call ≡ call.reply = sym rest.1.1.0 in
+    let same : rest.1.0 ≡ next.state = rest.1.1.1 ∙ sym state_is in
     let one : i + 1 ≡ suc i = omega arith in
     record {
-      so_far = append_assoc history (Start i (call.began - ended) ∷ Answer i call.reply ∷ []) (ordered (i + 1) call.ended (drop (i + 1) calls))
+      so_far = ap (λ (reply : Reply). (history ++ Start i (call.began - ended) ∷ Answer i reply ∷ []) ++ ordered (i + 1) call.ended (drop (i + 1) calls)) reply_is
+          ∙ append_assoc history (Start i (call.began - ended) ∷ Answer i call.reply ∷ []) (ordered (i + 1) call.ended (drop (i + 1) calls))
           ∙ ap (λ (n : ℕ). history ++ Start i (call.began - ended) ∷ Answer i call.reply ∷ ordered n call.ended (drop (i + 1) calls)) one
           ∙ ap (λ (cs : List Captured). history ++ ordered i ended cs) (sym (dropped calls i call at)) ∙ replaying.so_far;
-      run = IsRun-more Answers (opening start) machine next calls i call at replaying.run given.0;
-      rest = (rest.0, subst (λ (d : Database). IsRun Answers d (drop (i + 1) calls) rest.0) same rest.1.2);
+      run = IsRun-more Gives (opening start) engine.state next.state calls i call at replaying.run (sym reply_is, state_is);
+      rest = (rest.0, subst (λ (state : State). IsRun Gives state (drop (i + 1) calls) rest.0) same rest.1.2);
+      steps = omega (arith, steps_are, replaying.steps);
       none_before = λ e. absurd (omega arith);
       last_end = λ j before e bt.
           let k : j ≡ i = omega arith in
           ap (λ (c : Captured). c.ended) (same_call calls i call before at (subst (λ (n : ℕ). IsCallAt calls n before) k bt));
-      next_row = omega (arith, replaying.next_row, Gives-next_row machine next call.call call.reply given.0);
     }
 
 -- after all calls
-pub replay_from_Replaying : (start : StartView) (calls : List Captured) (i : ℕ) (machine : Database) (ended : ℕ) (history : List Event) (tables : List Image) → ArePlaced calls → length calls ≤ i
-    → Replaying start calls i machine ended history → tables ≡ committed machine → IsReplay start calls history tables
-replay_from_Replaying start calls i machine ended history tables placed all replaying are =
+pub replay_from_Replaying : (start : StartView) (calls : List Captured) (i : ℕ) (engine : Running) (ended : ℕ) (history : List Event) (tables : List Image) → ArePlaced calls → length calls ≤ i
+    → Replaying start calls i engine ended history → tables ≡ tables_after engine.state (length engine.state.commits) → IsReplay start calls history tables
+replay_from_Replaying start calls i engine ended history tables placed all replaying are =
     let none : drop i calls ≡ [] = drop_all i calls all in
     let history_is : history ≡ ordered 0 0 calls = sym (append-nil history) ∙ ap (λ (cs : List Captured). history ++ ordered i ended cs) (sym none) ∙ replaying.so_far in
-    let run = subst (λ (cs : List Captured). IsRun Answers (opening start) cs machine) (take_all i calls all) replaying.run in
-    subst (λ (h : List Event). IsReplay start calls h tables) (sym history_is) (subst (IsReplay start calls (ordered 0 0 calls)) (sym are) (replay_from_run start calls machine placed run))
+    let run = subst (λ (cs : List Captured). IsRun Gives (opening start) cs engine.state) (take_all i calls all) replaying.run in
+    subst (λ (h : List Event). IsReplay start calls h tables) (sym history_is) (subst (IsReplay start calls (ordered 0 0 calls)) (sym are) (replay_from_run start calls engine.state placed run))

@@ -12,37 +12,35 @@ use Rattle.desk_values.specs.declared.call.Call.{Call}
 use Rattle.desk_values.specs.declared.call.Call.TheVariants.{Connect, Sql, Disconnect}
 use Rattle.desk_values.specs.declared.capture.Captured.{Captured}
 use Rattle.desk_schema.specs.Start.{StartView}
-use Rattle.capture_format.specs.declared.simple.Simple.{Simple}
-use Rattle.capture_format.specs.declared.simple.Simple.TheVariants.{Insert, Commit}
 use Rattle.capture_format.specs.Supported.{IsSupportedCall, IsSupportedCaptured, AreSupportedCalls}
 use Rattle.replay_history.specs.Gap.{IsCallAt, IsJustBefore}
 use Rattle.replay_history.specs.Capture.{IsRun, IsKnown, IsLegalCapture, FitsIn, binds_of, commits, commits_before, session_calls_before}
-use Rattle.replay_cli.specs.Machine.{Answers, Database, Gives, IsOnly, StatementGives, opening}
+use Rattle.machine_model.specs.Machine.{Running}
+use Rattle.machine_model.specs.State.{State, opening}
+use Rattle.machine_model.specs.Step.{Gives, reply_in, step}
 use Rattle.replay_cli.specs.OneSession.{ArePlaced, FitsAfter}
-use Rattle.replay_cli.proofs.Steps.{some_is}
-use Rattle.replay_cli.proofs.Runs.{IsRun-more, IsRun-less, IsRun-split, dropped}
+use Rattle.replay_cli.proofs.Tested.{some_is}
+use Rattle.replay_cli.proofs.Runs.{IsRun-more, IsRun-split, dropped, one_end}
 
--- the first calls passed the test, and the machine, the count and the last end are where they leave them
-pub record Passed (start : StartView) (calls : List Captured) (i : ℕ) (machine : Database) (committed ended : ℕ) : Type 0 where
+-- the first calls passed the test, and the engine, the count and the last end are where they leave them
+pub record Passed (start : StartView) (calls : List Captured) (i : ℕ) (engine : Running) (committed ended : ℕ) : Type 0 where
   pub each : (k : ℕ) (call : Captured) → k < i → IsCallAt calls k call → FitsIn start.rows calls k call
-  pub run : IsRun Answers (opening start) (take i calls) machine
-  pub only : (other : Database) → IsRun Answers (opening start) (take i calls) other → other ≡ machine
+  pub run : IsRun Gives (opening start) (take i calls) engine.state
+  pub steps : engine.steps ≡ i
   pub count : committed ≡ commits_before calls i
   pub count_limit : committed ≤ i
   pub none_before : i ≡ 0 → ended ≡ 0
   pub last_end : (j : ℕ) (before : Captured) → suc j ≡ i → IsCallAt calls j before → ended ≡ before.ended
-  pub next_row : machine.next_row ≤ start.next_row + i
 
-pub Passed-none : (start : StartView) (calls : List Captured) → Passed start calls 0 (opening start) 0 0
+pub Passed-none : (start : StartView) (calls : List Captured) → Passed start calls 0 (record { state = opening start; steps = 0 }) 0 0
 Passed-none start calls = record {
   each = λ k call lt at. absurd (omega arith);
   run = refl;
-  only = λ other run. sym run;
+  steps = refl;
   count = refl;
   count_limit = omega arith;
   none_before = λ e. refl;
   last_end = λ j before e at. absurd (omega arith);
-  next_row = omega arith;
 }
 
 pub same_call : (calls : List Captured) (k : ℕ) (a b : Captured) → IsCallAt calls k a → IsCallAt calls k b → a ≡ b
@@ -71,9 +69,9 @@ session_calls calls placed (suc k) call within =
     let next : session_calls_before calls 0 (suc k) ≡ session_calls_before calls 0 (k + 1) = ap (λ (n : ℕ). session_calls_before calls 0 n) same in
     omega (arith, more, less, next)
 
-pub FitsIn-from_after : (start : StartView) (calls : List Captured) (i : ℕ) (machine : Database) (committed ended : ℕ) (call : Captured) → ArePlaced calls → AreSupportedCalls calls
-    → Passed start calls i machine committed ended → IsCallAt calls i call → FitsAfter i committed ended call → FitsIn start.rows calls i call
-FitsIn-from_after start calls i machine committed ended call placed supported passed at fits = record {
+pub FitsIn-from_after : (start : StartView) (calls : List Captured) (i : ℕ) (engine : Running) (committed ended : ℕ) (call : Captured) → ArePlaced calls → AreSupportedCalls calls
+    → Passed start calls i engine committed ended → IsCallAt calls i call → FitsAfter i committed ended call → FitsIn start.rows calls i call
+FitsIn-from_after start calls i engine committed ended call placed supported passed at fits = record {
   stamp = fits.stamp_is;
   session = omega (arith, (placed i call at).session_is);
   place = (placed i call at).place_is ∙ sym (session_calls calls placed i call (omega (arith, slice_get_within calls i call at))) ∙ ap (λ (s : ℕ). session_calls_before calls s i) (sym (placed i call at).session_is);
@@ -93,16 +91,16 @@ before_is calls j i call e at =
     let within = slice_get_within calls i call at in
     (get_or calls j call, slice_get-get_or calls j call (omega (arith, within)))
 
-pub FitsAfter-from_in : (start : StartView) (calls : List Captured) (i : ℕ) (machine : Database) (committed ended : ℕ) (call : Captured) → ArePlaced calls
-    → Passed start calls i machine committed ended → IsCallAt calls i call → FitsIn start.rows calls i call → FitsAfter i committed ended call
-FitsAfter-from_in start calls zero machine committed ended call placed passed at fits = record {
+pub FitsAfter-from_in : (start : StartView) (calls : List Captured) (i : ℕ) (engine : Running) (committed ended : ℕ) (call : Captured) → ArePlaced calls
+    → Passed start calls i engine committed ended → IsCallAt calls i call → FitsIn start.rows calls i call → FitsAfter i committed ended call
+FitsAfter-from_in start calls zero engine committed ended call placed passed at fits = record {
   stamp_is = fits.stamp;
   number_is = fits.number ∙ ap (λ (n : ℕ). cond (commits call.reply.outcome) (n + 1) 0) (sym passed.count);
   seen_is = fits.seen ∙ sym passed.count;
   ends = fits.ends;
   follows = omega (arith, passed.none_before refl);
 }
-FitsAfter-from_in start calls (suc j) machine committed ended call placed passed at fits =
+FitsAfter-from_in start calls (suc j) engine committed ended call placed passed at fits =
     let b = before_is calls j (suc j) call refl at in
     let here = (placed (suc j) call at) in
     let there = (placed j b.0 b.1) in
@@ -114,16 +112,6 @@ FitsAfter-from_in start calls (suc j) machine committed ended call placed passed
       ends = fits.ends;
       follows = omega (arith, fits.follows j b.0 b.1 just, passed.last_end j b.0 refl b.1);
     }
-
-statement_next_row : (old new : Database) (simple : Simple) (reply : _) → StatementGives old simple reply new → new.next_row ≤ old.next_row + 1
-statement_next_row old new (Insert name numbers) reply h = subst (λ (d : Database). d.next_row ≤ old.next_row + 1) (sym h.4) (omega arith)
-statement_next_row old new Commit reply h = subst (λ (d : Database). d.next_row ≤ old.next_row + 1) (sym h.2) (omega arith)
-
--- a step takes one row number at most
-pub Gives-next_row : (old new : Database) (call : Call) (reply : _) → Gives old call reply new → new.next_row ≤ old.next_row + 1
-Gives-next_row old new (Connect service) reply h = subst (λ (d : Database). d.next_row ≤ old.next_row + 1) (sym h.4) (omega arith)
-Gives-next_row old new (Sql text binds) reply h = statement_next_row old new h.0 reply h.3
-Gives-next_row old new Disconnect reply h = absurd h
 
 count-more : (calls : List Captured) (i : ℕ) (call : Captured) → IsCallAt calls i call → commits_before calls (i + 1) ≡ cond (commits call.reply.outcome) (commits_before calls i + 1) (commits_before calls i)
 count-more calls i call at =
@@ -139,11 +127,12 @@ count_step : (b : Bool) (n i : ℕ) → n ≤ i → cond b (n + 1) n ≤ i + 1
 count_step true n i h = omega arith
 count_step false n i h = omega arith
 
-pub Passed-more : (start : StartView) (calls : List Captured) (i : ℕ) (machine next : Database) (committed ended : ℕ) (call : Captured) → ArePlaced calls → AreSupportedCalls calls
-    → Passed start calls i machine committed ended → IsCallAt calls i call → FitsAfter i committed ended call → Gives machine call.call call.reply next × IsOnly (Gives machine call.call) call.reply next
+pub Passed-more : (start : StartView) (calls : List Captured) (i : ℕ) (engine next : Running) (committed ended : ℕ) (call : Captured) → ArePlaced calls → AreSupportedCalls calls
+    → Passed start calls i engine committed ended → IsCallAt calls i call → FitsAfter i committed ended call → call.reply ≡ reply_in engine.state call.session call.call
+    → next.state ≡ step engine.state call.session call.call → next.steps ≡ engine.steps + 1
     → Passed start calls (i + 1) next (cond (commits call.reply.outcome) (committed + 1) committed) call.ended
-Passed-more start calls i machine next committed ended call placed supported passed at fits given =
-    let here = FitsIn-from_after start calls i machine committed ended call placed supported passed at fits in
+Passed-more start calls i engine next committed ended call placed supported passed at fits reply_is state_is steps_are =
+    let here = FitsIn-from_after start calls i engine committed ended call placed supported passed at fits in
     record {
       each = λ k c lt ct. elim (cases_lt k i) [
         | inl less ↦ passed.each k c less ct
@@ -152,40 +141,36 @@ Passed-more start calls i machine next committed ended call placed supported pas
             let same : call ≡ c = same_call calls i call c at (subst (λ (n : ℕ). IsCallAt calls n c) e ct) in
             subst (λ (n : ℕ). FitsIn start.rows calls n c) (sym e) (subst (FitsIn start.rows calls i) same here)
       ];
-      run = IsRun-more Answers (opening start) machine next calls i call at passed.run given.0;
-      only = λ other run.
-          let less = IsRun-less Answers (opening start) other calls i call at run in
-          let mid : less.0 ≡ machine = passed.only less.0 less.1 in
-          (given.1 call.reply other (subst (λ (d : Database). Gives d call.call call.reply other) mid less.2)).1;
+      run = IsRun-more Gives (opening start) engine.state next.state calls i call at passed.run (reply_is, state_is);
+      steps = omega (arith, steps_are, passed.steps);
       count = ap (λ (n : ℕ). cond (commits call.reply.outcome) (n + 1) n) passed.count ∙ sym (count-more calls i call at);
       count_limit = count_step (commits call.reply.outcome) committed i passed.count_limit;
       none_before = λ e. absurd (omega arith);
       last_end = λ j before e bt.
           let k : j ≡ i = omega arith in
           ap (λ (c : Captured). c.ended) (same_call calls i call before at (subst (λ (n : ℕ). IsCallAt calls n before) k bt));
-      next_row = omega (arith, passed.next_row, Gives-next_row machine next call.call call.reply given.0);
     }
 
 -- after all calls
-pub legal_from_Passed : (start : StartView) (calls : List Captured) (i : ℕ) (machine : Database) (committed ended : ℕ) → length calls ≤ 100000 → length calls ≤ i
-    → Passed start calls i machine committed ended → IsLegalCapture start.rows Answers (opening start) calls
-legal_from_Passed start calls i machine committed ended limit all passed = record {
+pub legal_from_Passed : (start : StartView) (calls : List Captured) (i : ℕ) (engine : Running) (committed ended : ℕ) → length calls ≤ 100000 → length calls ≤ i
+    → Passed start calls i engine committed ended → IsLegalCapture start.rows Gives (opening start) calls
+legal_from_Passed start calls i engine committed ended limit all passed = record {
   count = limit;
   each = λ k call at. passed.each k call (omega (arith, slice_get_within calls k call at)) at;
-  replies = (machine, subst (λ (cs : List Captured). IsRun Answers (opening start) cs machine) (take_all i calls all) passed.run);
+  replies = (engine.state, subst (λ (cs : List Captured). IsRun Gives (opening start) cs engine.state) (take_all i calls all) passed.run);
 }
 
 -- a call that does not fit
-pub refused_by_fit : (start : StartView) (calls : List Captured) (i : ℕ) (machine : Database) (committed ended : ℕ) (call : Captured) → ArePlaced calls
-    → Passed start calls i machine committed ended → IsCallAt calls i call → ¬ FitsAfter i committed ended call → ¬ IsLegalCapture start.rows Answers (opening start) calls
-refused_by_fit start calls i machine committed ended call placed passed at unfit legal =
-    unfit (FitsAfter-from_in start calls i machine committed ended call placed passed at (legal.each i call at))
+pub refused_by_fit : (start : StartView) (calls : List Captured) (i : ℕ) (engine : Running) (committed ended : ℕ) (call : Captured) → ArePlaced calls
+    → Passed start calls i engine committed ended → IsCallAt calls i call → ¬ FitsAfter i committed ended call → ¬ IsLegalCapture start.rows Gives (opening start) calls
+refused_by_fit start calls i engine committed ended call placed passed at unfit legal =
+    unfit (FitsAfter-from_in start calls i engine committed ended call placed passed at (legal.each i call at))
 
 -- a call that is answered otherwise
-pub refused_by_reply : (start : StartView) (calls : List Captured) (i : ℕ) (machine : Database) (committed ended : ℕ) (call : Captured)
-    → Passed start calls i machine committed ended → IsCallAt calls i call → ((new : Database) → ¬ Gives machine call.call call.reply new) → ¬ IsLegalCapture start.rows Answers (opening start) calls
-refused_by_reply start calls i machine committed ended call passed at other legal =
-    let parts = IsRun-split Answers (opening start) legal.replies.0 calls i legal.replies.1 in
-    let mid : parts.0 ≡ machine = passed.only parts.0 parts.1 in
-    let rest = subst (λ (cs : List Captured). IsRun Answers parts.0 cs legal.replies.0) (dropped calls i call at) parts.2 in
-    other rest.0 (subst (λ (d : Database). Gives d call.call call.reply rest.0) mid rest.1)
+pub refused_by_reply : (start : StartView) (calls : List Captured) (i : ℕ) (engine : Running) (committed ended : ℕ) (call : Captured)
+    → Passed start calls i engine committed ended → IsCallAt calls i call → ¬ (call.reply ≡ reply_in engine.state call.session call.call) → ¬ IsLegalCapture start.rows Gives (opening start) calls
+refused_by_reply start calls i engine committed ended call passed at other legal =
+    let parts = IsRun-split Gives (opening start) legal.replies.0 calls i legal.replies.1 in
+    let mid : parts.0 ≡ engine.state = one_end (opening start) engine.state parts.0 (take i calls) passed.run parts.1 in
+    let rest = subst (λ (cs : List Captured). IsRun Gives parts.0 cs legal.replies.0) (dropped calls i call at) parts.2 in
+    other (subst (λ (state : State). call.reply ≡ reply_in state call.session call.call) mid rest.1.0)

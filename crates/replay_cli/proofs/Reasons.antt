@@ -1,10 +1,11 @@
 -- At most one reason holds, and none where the capture is good.
-use Rattle.std.proofs.Common.{◌≡◌, ◌<◌, ◌⊎◌, inl, inr, ℕ, List, length, arith, Option, Some, None, refl, sym, ap, subst, ◌∙◌}
+use Rattle.std.proofs.Common.{◌≡◌, ◌<◌, ◌⊎◌, inl, inr, ℕ, List, length, arith, lit<, Option, Some, None, refl, sym, ap, subst, ◌∙◌}
 use Rattle.std.proofs.lemmas.Option.{same_Some}
 use Rattle.desk_values.specs.declared.capture.Captured.{Captured}
 use Rattle.desk_files.specs.Outside.{FileMap}
 use Rattle.capture_format.specs.declared.start.StartFile.{StartFile}
-use Rattle.capture_format.proofs.Unique.{one_start_file, one_session_file}
+use Rattle.capture_format.proofs.StartFiles.{one_file as one_start_file}
+use Rattle.capture_format.proofs.SessionFiles.{one_file as one_session_file}
 use Rattle.replay_cli.specs.declared.failure.Failure.{Failure}
 use Rattle.replay_cli.specs.declared.failure.Failure.TheVariants.{BadCommand, NotYet, BadCapture, Missing, DeviceFault, OutOfMemory}
 use Rattle.replay_cli.specs.OneSession.{IsLegalFrom}
@@ -66,7 +67,7 @@ one_file files capture file other calls others is also =
 one_list : (files : FileMap) (capture : List ℕ) (file other : StartFile) (calls others : List Captured) → IsCapture files capture file calls → IsCapture files capture other others → calls ≡ others
 one_list files capture file other calls others is also =
     let bytes = same_Some is.session.bytes also.session.bytes (sym is.session.there ∙ also.session.there) in
-    one_session_file 0 also.session.bytes calls others (subst (λ (b : List ℕ). ReadsCalls b calls) bytes is.session.is).spelled also.session.is.spelled
+    one_session_file 0 also.session.bytes calls others (lit< tt) (subst (λ (b : List ℕ). ReadsCalls b calls) bytes is.session.is).spelled also.session.is.spelled
 
 -- ---- the reasons
 

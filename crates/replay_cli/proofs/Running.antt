@@ -1,5 +1,5 @@
 -- What the command answers, from what its steps answer.
-use Rattle.std.proofs.Common.{◌≡◌, ℕ, List, length, Option, Some, Err, refl, sym, ap, subst, ◌∙◌, inl, inr, ◌⊎◌}
+use Rattle.std.proofs.Common.{◌≡◌, ℕ, List, length, Option, Err, refl, sym, ap, subst, ◌∙◌, inl, inr, ◌⊎◌}
 use Rattle.std.specs.Prelude.{IsSomeAnd}
 use Rattle.std.specs.FinMap.{get}
 use Rattle.desk_values.specs.Room.{Room}

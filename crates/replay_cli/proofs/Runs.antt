@@ -7,6 +7,8 @@ use Rattle.desk_values.specs.declared.call.Reply.{Reply}
 use Rattle.desk_values.specs.declared.capture.Captured.{Captured}
 use Rattle.replay_history.specs.Gap.{IsCallAt}
 use Rattle.replay_history.specs.Capture.{IsRun}
+use Rattle.machine_model.specs.State.{State}
+use Rattle.machine_model.specs.Step.{Gives}
 
 -- a run of two lists, one after the other
 pub IsRun-append : {S : Type 0} (gives : S → ℕ → Call → Reply → S → Type 0) (first last : S) (xs ys : List Captured) → IsRun gives first (xs ++ ys) last → (mid : S) × IsRun gives first xs mid × IsRun gives mid ys last
@@ -34,15 +36,14 @@ pub IsRun-more : {S : Type 0} (gives : S → ℕ → Call → Reply → S → Ty
 IsRun-more gives first mid last calls i call at run given =
     subst (λ (cs : List Captured). IsRun gives first cs last) (sym (taken calls i call at)) (IsRun-join gives first mid last (take i calls) (call ∷ []) run (last, given, refl))
 
--- and back
-pub IsRun-less : {S : Type 0} (gives : S → ℕ → Call → Reply → S → Type 0) (first last : S) (calls : List Captured) (i : ℕ) (call : Captured) → IsCallAt calls i call
-    → IsRun gives first (take (i + 1) calls) last → (mid : S) × IsRun gives first (take i calls) mid × gives mid call.session call.call call.reply last
-IsRun-less gives first last calls i call at run =
-    let parts = IsRun-append gives first last (take i calls) (call ∷ []) (subst (λ (cs : List Captured). IsRun gives first cs last) (taken calls i call at) run) in
-    (parts.0, parts.1, subst (λ s. gives parts.0 call.session call.call call.reply s) parts.2.2 parts.2.1)
-
 -- a whole run, up to a stamp and from it on
 pub IsRun-split : {S : Type 0} (gives : S → ℕ → Call → Reply → S → Type 0) (first last : S) (calls : List Captured) (i : ℕ) → IsRun gives first calls last
     → (mid : S) × IsRun gives first (take i calls) mid × IsRun gives mid (drop i calls) last
 IsRun-split gives first last calls i run =
     IsRun-append gives first last (take i calls) (drop i calls) (subst (λ (cs : List Captured). IsRun gives first cs last) (sym (take-append-drop i calls)) run)
+
+-- a run of the server ends in one state
+pub one_end : (first last other : State) (calls : List Captured) → IsRun Gives first calls last → IsRun Gives first calls other → other ≡ last
+one_end first last other [] run more = sym more ∙ run
+one_end first last other (call ∷ calls) run more =
+    one_end run.0 last other calls run.2 (subst (λ (s : State). IsRun Gives s calls other) (more.1.1 ∙ sym run.1.1) more.2)

@@ -1,23 +1,20 @@
 -- What a test says where it decides a fact.
 use Rattle.std.proofs.Common.{◌≡◌, ℕ, ◌<◌, ◌≤◌, Bool, true, false, List, [], ◌∷◌, length, arith, get_or, Option, Some, None, refl, sym, ap, ◌∙◌}
 use Rattle.std.specs.Prelude.{IsTrue, IfSome, slice_get}
-use Rattle.std.specs.Bool.{OnTrue, OnFalse}
 use Rattle.std.proofs.lemmas.Bool.{false≢true}
 use Rattle.std.proofs.lemmas.Option.{slice_get-get_or}
+
+abbrev pub some : {A : Type 0} → A → Option A
+some x = Some x
+
+pub some_is : {A : Type 0} (a b : A) → some a ≡ some b → b ≡ a
+some_is a b e = cc
 
 pub fails_where : {P : Type 0} (test : Bool) → (IsTrue test → P) × (P → IsTrue test) → test ≡ false → ¬ P
 fails_where test decides e p = absurd (false≢true (sym e ∙ decides.1 p))
 
 pub holds_where : {P : Type 0} (test : Bool) → (IsTrue test → P) × (P → IsTrue test) → test ≡ true → P
 holds_where test decides e = decides.0 e
-
-pub on_false : {P : Type 0} (test : Bool) → OnFalse test P → test ≡ false → P
-on_false true h e = absurd (false≢true (sym e))
-on_false false h e = h
-
-pub on_true : {P : Type 0} (test : Bool) → OnTrue test P → test ≡ true → P
-on_true true h e = h
-on_true false h e = absurd (false≢true e)
 
 pub never : {P : Type 0} → ¬ P → (IsTrue false → P) × (P → IsTrue false)
 never none = (λ e. absurd (false≢true e), λ p. absurd (none p))

@@ -6,8 +6,8 @@ use Rattle.desk_values.specs.declared.capture.Event.{Event}
 use Rattle.desk_files.specs.declared.files.TheConstants.{FILE_LIMIT}
 use Rattle.desk_files.specs.declared.writes.Write.{Write}
 use Rattle.capture_format.specs.declared.start.StartFile.{StartFile}
-use Rattle.capture_format.specs.StartFile.{SpellsStart}
-use Rattle.capture_format.specs.SessionFile.{SpellsSession}
+use Rattle.capture_format.specs.StartFile.{IsStartFile}
+use Rattle.capture_format.specs.SessionFile.{IsSessionFile}
 use Rattle.capture_format.specs.Supported.{IsSupportedStart, AreSupportedCalls}
 use Rattle.replay_history.specs.declared.mode.Mode.TheVariants.{Order}
 use Rattle.replay_history.specs.Report.{clean_report}
@@ -21,12 +21,12 @@ use Rattle.replay_cli.specs.Words.{journal_name, report_name, tables_name}
 
 -- the bytes are a start file that is replayed so far
 pub record ReadsStart (bytes : List ℕ) (file : StartFile) : Type 0 where
-  pub spelled : SpellsStart bytes file
+  pub spelled : IsStartFile bytes file
   pub supported : IsSupportedStart file
 
 -- the bytes are a session file that is replayed so far
 pub record ReadsCalls (bytes : List ℕ) (calls : List Captured) : Type 0 where
-  pub spelled : SpellsSession 0 bytes calls
+  pub spelled : IsSessionFile 0 bytes calls
   pub supported : AreSupportedCalls calls
 
 -- a file that is there, not too long, and read so

@@ -1,5 +1,3 @@
-pub mod Machine
-pub mod Keys
 pub mod OneSession
 pub mod Words
 pub mod Lines

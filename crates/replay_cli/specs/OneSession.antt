@@ -1,5 +1,5 @@
 -- Calls of one session, and the test of one call after the calls before it.
-use Rattle.std.specs.Prelude.{◌≡◌, ℕ, ◌+◌, ◌<◌, ◌≤◌, if◌then◌else◌, List}
+use Rattle.std.specs.Prelude.{◌≡◌, ℕ, ◌+◌, ◌<◌, ◌≤◌, if◌then◌else◌, List, length}
 use Rattle.desk_values.specs.declared.capture.Captured.{Captured}
 use Rattle.desk_values.specs.declared.value.Image.{Image}
 use Rattle.desk_values.specs.declared.call.Reply.{Reply}
@@ -7,7 +7,8 @@ use Rattle.desk_values.specs.declared.capture.Event.{Event}
 use Rattle.desk_schema.specs.Start.{StartView}
 use Rattle.replay_history.specs.Gap.{IsCallAt, IsPause}
 use Rattle.replay_history.specs.History.{AnswersAt, IsCompleteRun}
-use Rattle.replay_cli.specs.Machine.{Answers, Database, Gives, committed, opening}
+use Rattle.machine_model.specs.State.{State, opening, tables as tables_after}
+use Rattle.machine_model.specs.Step.{Gives}
 use Rattle.replay_history.specs.Capture.{IsLegalCapture, commits}
 
 -- the call has this place in this session
@@ -21,7 +22,7 @@ ArePlaced calls = (k : ℕ) (call : Captured) → IsCallAt calls k call → IsPl
 
 -- the calls are a legal capture from this start
 abbrev pub IsLegalFrom : StartView → List Captured → Type 0
-IsLegalFrom start calls = IsLegalCapture start.rows Answers (opening start) calls
+IsLegalFrom start calls = IsLegalCapture start.rows Gives (opening start) calls
 
 -- a call with this stamp fits after so many numbered commits, and after a call that ended then
 pub record FitsAfter (stamp committed ended : ℕ) (call : Captured) : Type 0 where
@@ -36,8 +37,8 @@ abbrev pub in_order : ℕ → ℕ → Type 0
 in_order k j = j < k
 
 -- executing the call with this stamp, as it was captured, in the first state gives this reply and leaves the second
-abbrev pub Executes : List Captured → Database → ℕ → Reply → Database → Type 0
-Executes calls old k reply new = (call : Captured) × IsCallAt calls k call × Gives old call.call reply new
+abbrev pub Executes : List Captured → State → ℕ → Reply → State → Type 0
+Executes calls old k reply new = (call : Captured) × IsCallAt calls k call × Gives old call.session call.call reply new
 
 -- each answer is the recorded one
 abbrev pub AnswersAsCaptured : List Captured → List Event → Type 0
@@ -45,7 +46,7 @@ AnswersAsCaptured calls history = (i k : ℕ) (reply : Reply) → AnswersAt hist
 
 -- A replay of these calls in the captured order, with the whole of each pause: its history, and the committed rows at its end.
 pub record IsReplay (start : StartView) (calls : List Captured) (history : List Event) (tables : List Image) : Type 0 where
-  pub end : Database
+  pub end : State
   pub complete : IsCompleteRun calls in_order (IsPause calls 100 100) (Executes calls) (opening start) history end
-  pub tables_are : tables ≡ committed end
+  pub tables_are : tables ≡ tables_after end (length end.commits)
   pub as_captured : AnswersAsCaptured calls history

@@ -1,38 +1,37 @@
 //! The test whether the calls of one session are a legal capture.
 
-ghost use Rattle.std.specs.Prelude.{◌≡◌, ◌↔◌, ◌<◌, ◌^◌, ◌+◌, if◌then◌else◌, IfOk, IsTrue};
-ghost use Rattle.std.specs.Bool.{OnTrue, OnFalse};
+ghost use Rattle.std.specs.Prelude.{◌≡◌, ◌↔◌, ◌<◌, ◌^◌, ◌+◌, if◌then◌else◌, IfOk, IsTrue, OnOk};
 ghost use Rattle.replay_history.specs.Capture.{commits};
 ghost use Rattle.capture_format.specs.Supported.{AreSupportedCalls};
-ghost use Rattle.replay_cli.specs.Machine.{Database, Gives, IsOnly};
+ghost use Rattle.machine_model.specs.Step.{reply_in, step};
 ghost use Rattle.replay_cli.specs.OneSession.{ArePlaced, FitsAfter, IsLegalFrom};
 
-use crate::machine::Machine;
 use desk_schema::Start;
 use desk_values::{Captured, Memory, Outcome, Same};
 use std::alloc::Global;
+use txn_engine::Engine;
 
 /// The greatest number of calls of a capture.
 pub const CALL_LIMIT: usize = 100_000;
 
-/// Whether the calls are a legal capture from this start: each fits after the calls before it, and the machine
-/// gives just the recorded replies.
-pub fn is_legal(alloc: Global, start: Start, calls: &[Captured]) -> Result<bool, Memory>
+/// Whether the calls are a legal capture from this start: each fits after the calls before it, and the engine gives
+/// the recorded replies.
+pub fn is_legal(alloc: Global, start: &Start, calls: &[Captured]) -> Result<bool, Memory>
     requires placed { ArePlaced calls.now }
     requires supported { AreSupportedCalls calls.now }
-    ensures { IfOk result (λ legal. IsTrue legal ↔ IsLegalFrom start calls.now) }
+    ensures { IfOk result (λ legal. IsTrue legal ↔ IsLegalFrom start.now calls.now) }
 {
     if calls.len() > CALL_LIMIT {
         return Ok(false);
     }
-    let mut machine = Machine::load(alloc, start)?;
+    let mut engine = Engine::load(alloc, start)?;
     let mut committed = 0;
     let mut ended = 0;
     for (k, call) in calls.iter().enumerate() {
         if !fits_after(call, k, committed, ended) {
             return Ok(false);
         }
-        if !replies_so(&mut machine, call)? {
+        if !replies_so(&mut engine, call)? {
             return Ok(false);
         }
         committed = counted(committed, &call.reply.outcome);
@@ -80,14 +79,14 @@ fn fits_after(call: &Captured, stamp: usize, committed: u64, ended: u64) -> bool
         && ended <= call.began
 }
 
-/// Whether the machine gives the recorded reply. It has executed the call then.
-fn replies_so(machine: &mut Machine, call: &Captured) -> Result<bool, Memory>
-    requires { machine.old.next_row < 2 ^ 63 }
-    ensures yes { IfOk result (λ same. OnTrue same (Gives machine.old call.now.call call.now.reply machine.new × IsOnly (Gives machine.old call.now.call) call.now.reply machine.new)) }
-    ensures no { IfOk result (λ same. OnFalse same ((new : Database) → ¬ Gives machine.old call.now.call call.now.reply new)) }
+/// Whether the engine gives the recorded reply. It has executed the call then.
+fn replies_so(engine: &mut Engine, call: &Captured) -> Result<bool, Memory>
+    requires session { call.now.session < 64 }
+    requires steps { engine.old.steps < 1048576 }
+    ensures so { IfOk result (λ same. IsTrue same ↔ (call.now.reply ≡ reply_in engine.old.state call.now.session call.now.call)) }
+    ensures state { OnOk result (engine.new.state ≡ step engine.old.state call.now.session call.now.call) }
+    ensures steps { OnOk result (engine.new.steps ≡ engine.old.steps + 1) }
 {
-    match machine.step(&call.call)? {
-        Some(reply) => Ok(reply.same(&call.reply)),
-        None => Ok(false),
-    }
+    let reply = engine.step(call.session, &call.call)?;
+    Ok(reply.same(&call.reply))
 }

@@ -1,13 +1,12 @@
 //! The commands of the desk: words and files to a replay, its texts and a status.
 //!
 //! Enters: the words of a command, and the outside as traits. Leaves: files, one line and a status. It touches the
-//! files and the sink that it is handed, and nothing else.
+//! files and the sink that it is handed, and nothing else. What a server answers is the engine's alone.
 #![tactic(auto)]
 
 mod arguments;
 mod failure;
 mod legality;
-pub mod machine;
 mod main_call;
 mod replay;
 mod run;
@@ -17,6 +16,3 @@ mod words;
 pub use arguments::{arguments_of, word_of};
 pub use main_call::{replay_main, report_want_of_memory};
 pub use texts::{journal_text, report_text, tables_text};
-
-#[cfg(test)]
-mod tests;

@@ -16,7 +16,9 @@ use crate::legality::is_legal;
 use crate::replay::{Replayed, replay};
 use crate::texts::{journal_text, report_text, tables_text};
 use crate::words::{Folders, folders_of, name_in};
-use capture_format::{FormErr, StartFile, read_session, read_start};
+use capture_format::{
+    FormErr, StartFile, are_supported_calls, is_supported_start, read_session, read_start,
+};
 use desk_files::{FileErr, Files, Write, WriteErr, write_all};
 use desk_schema::Start;
 use desk_values::{Bytes, CallList, Captured, Copied, List, Memory, Txt};
@@ -36,7 +38,7 @@ pub fn run<F: Files>(alloc: Global, words: &[Txt], files: &mut F) -> Result<u64,
     };
     let start = load_start(alloc, folders.capture, files)?;
     let calls = load_session(alloc, folders.capture, files)?;
-    let replayed = replay_legal(alloc, start.start, calls.as_slice())?;
+    let replayed = replay_legal(alloc, &start.start, calls.as_slice())?;
     let count = calls.len() as u64;
     let writes = writes_of(alloc, folders.out, count, &replayed)?;
     write_texts(writes.as_slice(), files)?;
@@ -56,8 +58,14 @@ fn load_start<F: Files>(alloc: Global, capture: &Txt, files: &mut F) -> Result<S
     let name = name_in(alloc, capture, "/start.cap")?;
     let bytes = load(&name, files)?;
     match read_start(alloc, bytes.as_slice()) {
-        Ok(file) => Ok(file),
-        Err(FormErr::NotYet) => Err(Failure::NotYet(name)),
+        Ok(file) => {
+            if is_supported_start(&file) {
+                Ok(file)
+            } else {
+                Err(Failure::NotYet(name))
+            }
+        }
+        Err(FormErr::Bad { line: _ }) => Err(Failure::NotYet(name)),
         Err(FormErr::Memory) => Err(Failure::OutOfMemory),
     }
 }
@@ -77,8 +85,14 @@ fn load_session<F: Files>(alloc: Global, capture: &Txt, files: &mut F) -> Result
     let name = name_in(alloc, capture, "/session-000.cap")?;
     let bytes = load(&name, files)?;
     match read_session(alloc, bytes.as_slice(), 0) {
-        Ok(calls) => Ok(calls),
-        Err(FormErr::NotYet) => Err(Failure::NotYet(name)),
+        Ok(calls) => {
+            if are_supported_calls(alloc, calls.as_slice())? {
+                Ok(calls)
+            } else {
+                Err(Failure::NotYet(name))
+            }
+        }
+        Err(FormErr::Bad { line: _ }) => Err(Failure::NotYet(name)),
         Err(FormErr::Memory) => Err(Failure::OutOfMemory),
     }
 }
@@ -103,13 +117,12 @@ fn load<F: Files>(name: &Txt, files: &mut F) -> Result<Bytes, Failure>
 }
 
 /// The replay of a capture, if it is legal.
-fn replay_legal(alloc: Global, start: Start, calls: &[Captured]) -> Result<Replayed, Failure>
+fn replay_legal(alloc: Global, start: &Start, calls: &[Captured]) -> Result<Replayed, Failure>
     requires placed { ArePlaced calls.now }
     requires supported { AreSupportedCalls calls.now }
-    ensures { ReplaySays start calls.now result }
+    ensures { ReplaySays start.now calls.now result }
 {
-    let first = start.copy()?;
-    if !is_legal(alloc, first, calls)? {
+    if !is_legal(alloc, start, calls)? {
         return Err(Failure::BadCapture);
     }
     Ok(replay(alloc, start, calls)?)

@@ -6,3 +6,4 @@ pub mod Firsts
 pub mod Sound
 pub mod Complete
 pub mod Fewest
+pub mod Asking

@@ -4,3 +4,4 @@ pub mod Grammar
 pub mod Spelling
 pub mod Written
 pub mod Reading
+pub mod Asking

@@ -2,6 +2,7 @@
 
 ghost use Rattle.std.specs.Prelude.{◌≡◌, ◌↔◌, ◌≤◌, ℕ, List, Some};
 ghost use Rattle.sql_reader.specs.declared.token.Token.{Token};
+ghost use Rattle.sql_reader.specs.Asking.{AsksIfSelect};
 ghost use Rattle.sql_reader.specs.Grammar.{IsStatementOf};
 ghost use Rattle.sql_reader.specs.Reading.{statement_of};
 ghost use Rattle.sql_reader.specs.Spelling.{Spells};
@@ -21,4 +22,9 @@ pub fn one_statement()
 /// No tokens that are the statement have fewer parentheses than those that are written.
 pub fn fewest_parentheses()
     ensures { (statement : Plan Name) (tokens : List Token) → IsStatementOf tokens statement → opened (statement_tokens statement) ≤ opened tokens }
+{}
+
+/// A SELECT that is read asks for all columns or for at least one item.
+pub fn selects_ask()
+    ensures { (text : List ℕ) (statement : Plan Name) → statement_of text ≡ Some statement → AsksIfSelect statement }
 {}

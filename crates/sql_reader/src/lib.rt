@@ -17,7 +17,7 @@ mod write;
 mod writer;
 
 pub use error::SqlErr;
-pub use laws::{fewest_parentheses, one_statement, statement_as_spelled};
+pub use laws::{fewest_parentheses, one_statement, selects_ask, statement_as_spelled};
 pub use read::read_statement;
 pub use tree::{
     Agg, Aggs, CopiedTree, Expr, Exprs, Input, Inputs, Items, Key, Keys, Names, Op, Sets, Setting,

@@ -1,0 +1,132 @@
+-- Session files and calls, both ways.
+use Rattle.std.proofs.Common.{◌≡◌, ℕ, ◌+◌, ◌<◌, ◌≤◌, ◌^◌, true, false, List, [], ◌∷◌, ◌++◌, length, Result, Ok, Err, refl, ap, sym, subst, ◌∙◌, append_assoc, append-nil, length-append}
+use Rattle.std.specs.List.{AllByRecursion}
+use Rattle.desk_values.specs.declared.capture.Captured.{Captured}
+use Rattle.desk_values.specs.Room.{Room}
+use Rattle.file_lines.specs.declared.reader.FormErr.{FormErr}
+use Rattle.file_lines.specs.declared.reader.FormErr.TheVariants.{Bad, Memory}
+use Rattle.file_lines.specs.File.{IsFile, Says, ReadsFile}
+use Rattle.file_lines.specs.Form.{Comes, AreLines, state_after, text_of}
+use Rattle.file_lines.proofs.Files.{once}
+use Rattle.file_lines.proofs.Forms.{IsSound, file_has_lines, lines_are_file, says_one}
+use Rattle.capture_format.specs.declared.session_line.CallLine.{CallLine}
+use Rattle.capture_format.specs.declared.session_line.SessionLine.{SessionLine}
+use Rattle.capture_format.specs.declared.session_line.SessionLine.TheVariants.{Head, Call, End}
+use Rattle.capture_format.specs.declared.session.Stage.{Stage}
+use Rattle.capture_format.specs.declared.session.Stage.TheVariants.{Empty, Headed, Ended}
+use Rattle.capture_format.specs.SessionView.{SessionView}
+use Rattle.capture_format.specs.SessionFile.{IsCallLine, captured_of, line_of, last_lines, MayCome, with_line, new_view, is_last, is_ended, session_form, IsCallAt, AreCallsFrom, IsBadSession, IsSessionFile}
+use Rattle.capture_format.proofs.SessionTexts.{lacks}
+use Rattle.capture_format.proofs.Texts.{session_reader}
+
+open_stage : (stage : Stage) (other : Stage) → is_last other ≡ false → stage ≡ other → is_last stage ≡ false
+open_stage stage other is same = ap is_last same ∙ is
+
+unended : (s : SessionView) (line : SessionLine) → MayCome s line → is_ended s ≡ false
+unended s (Head number) may = open_stage s.stage Empty refl may.0
+unended s (Call line) may = open_stage s.stage Headed refl may.0
+unended s End may = open_stage s.stage Headed refl may
+
+sound : IsSound session_form is_ended
+sound = record { lacks = lacks; unended = unended }
+
+abbrev AllFit : List Captured → Type 0
+AllFit calls = AllByRecursion (λ call. IsCallLine (line_of call)) calls
+
+-- these calls are what lines add to a state
+record Adds (s : SessionView) (lines : List SessionLine) (more : List Captured) : Type 0 where
+  lines_are : lines ≡ last_lines more
+  calls_are : AreCallsFrom s.session (length s.calls) s.least more
+  fit : AllFit more
+  calls : (state_after session_form s lines).calls ≡ s.calls ++ more
+
+adds_call : (s : SessionView) (line : CallLine) (lines : List SessionLine) (more : List Captured) → IsCallLine line → s.least ≤ line.stamp → Adds (with_line s (Call line)) lines more → Adds s (Call line ∷ lines) (captured_of s.session (length s.calls) line ∷ more)
+adds_call s line lines more fits over rest =
+    let call = captured_of s.session (length s.calls) line in
+    let place : length (s.calls ++ call ∷ []) ≡ length s.calls + 1 = length-append s.calls (call ∷ []) in
+    record {
+      lines_are = ap (λ (ls : List SessionLine). Call line ∷ ls) rest.lines_are;
+      calls_are = (record { session_is = refl; place_is = refl; stamp = over; began = fits.began; ended = fits.ended; reply = fits.reply }, subst (λ (n : ℕ). AreCallsFrom s.session n (line.stamp + 1) more) place rest.calls_are);
+      fit = (fits, rest.fit);
+      calls = rest.calls ∙ append_assoc s.calls (call ∷ []) more;
+    }
+
+nothing_after : (s : SessionView) (lines : List SessionLine) → s.stage ≡ Ended → AreLines session_form s lines → lines ≡ []
+nothing_after s [] stage are = refl
+nothing_after s (line ∷ lines) stage are = absurd (let never = sym (unended s line are.1) ∙ ap is_last stage in cc)
+
+calls_of : (s : SessionView) (lines : List SessionLine) → s.stage ≡ Headed → AreLines session_form s lines → is_ended (state_after session_form s lines) ≡ true → (more : List Captured) × Adds s lines more
+calls_of s [] stage are ended = absurd (let never = sym (ap is_last stage) ∙ ended in cc)
+calls_of s (Head number ∷ lines) stage are ended = absurd (let never : Headed ≡ Empty = sym stage ∙ are.1.0 in cc)
+calls_of s (Call line ∷ lines) stage are ended =
+    let rest = calls_of (with_line s (Call line)) lines stage are.2 ended in
+    (captured_of s.session (length s.calls) line ∷ rest.0, adds_call s line lines rest.0 are.0 are.1.1 rest.1)
+calls_of s (End ∷ lines) stage are ended =
+    let none = nothing_after (with_line s End) lines refl are.2 in
+    ([], record { lines_are = ap (λ (ls : List SessionLine). End ∷ ls) none; calls_are = tt; fit = tt; calls = ap (λ (ls : List SessionLine). (state_after session_form (with_line s End) ls).calls) none ∙ sym (append-nil s.calls) })
+
+all_of : (session : ℕ) (lines : List SessionLine) → AreLines session_form (new_view session) lines → is_ended (state_after session_form (new_view session) lines) ≡ true → (more : List Captured) × (lines ≡ Head session ∷ last_lines more) × AreCallsFrom session 0 0 more × AllFit more × ((state_after session_form (new_view session) lines).calls ≡ more)
+all_of session [] are ended = absurd (let never = ended in cc)
+all_of session (Head number ∷ lines) are ended =
+    let found = calls_of (with_line (new_view session) (Head number)) lines refl are.2 ended in
+    (found.0, ap (λ (n : ℕ). Head n ∷ lines) are.1.1 ∙ ap (λ (ls : List SessionLine). Head session ∷ ls) found.1.lines_are, found.1.calls_are, found.1.fit, found.1.calls)
+all_of session (Call line ∷ lines) are ended = absurd (let never : Empty ≡ Headed = are.1.0 in cc)
+all_of session (End ∷ lines) are ended = absurd (let never : Empty ≡ Headed = are.1 in cc)
+
+-- what was read is the file of the calls
+pub file_read : (session : ℕ) (bytes : List ℕ) (t : SessionView) → IsFile (Comes session_form) is_ended (new_view session) bytes t → IsSessionFile session bytes t.calls
+file_read session bytes t is =
+    let has = file_has_lines session_form is_ended (new_view session) bytes t is in
+    let found = all_of session has.lines has.are (sym (ap is_ended has.leads) ∙ is.ended) in
+    subst (IsSessionFile session bytes) (sym (ap (λ (s : SessionView). s.calls) has.leads ∙ found.4)) (record { calls_are = found.2; fit = found.3; text = has.text ∙ ap (text_of session_form) found.1 })
+
+-- ---- and back
+
+same_call : (session place least : ℕ) (call : Captured) → IsCallAt session place least call → captured_of session place (line_of call) ≡ call
+same_call session place least call is = ap (λ (s : ℕ). captured_of s place (line_of call)) (sym is.session_is) ∙ ap (λ (p : ℕ). captured_of call.session p (line_of call)) (sym is.place_is)
+
+record LeadsTo (s : SessionView) (calls : List Captured) : Type 0 where
+  are : AreLines session_form s (last_lines calls)
+  holds : (state_after session_form s (last_lines calls)).calls ≡ s.calls ++ calls
+  ended : is_ended (state_after session_form s (last_lines calls)) ≡ true
+
+leads_to : (s : SessionView) (calls : List Captured) → s.stage ≡ Headed → AreCallsFrom s.session (length s.calls) s.least calls → AllFit calls → LeadsTo s calls
+leads_to s [] stage are fit = record { are = (tt, stage, tt); holds = sym (append-nil s.calls); ended = refl }
+leads_to s (call ∷ calls) stage are fit =
+    let next = with_line s (Call (line_of call)) in
+    let made = captured_of s.session (length s.calls) (line_of call) in
+    let same : made ≡ call = same_call s.session (length s.calls) s.least call are.0 in
+    let rest = leads_to next calls stage (subst (λ (n : ℕ). AreCallsFrom s.session n (call.stamp + 1) calls) (sym (length-append s.calls (made ∷ []))) are.1) fit.1 in
+    record { are = (fit.0, (stage, are.0.stamp), rest.are); holds = rest.holds ∙ append_assoc s.calls (made ∷ []) calls ∙ ap (λ (c : Captured). s.calls ++ c ∷ calls) same; ended = rest.ended }
+
+-- the file of calls is read so
+pub read_file : (session : ℕ) (bytes : List ℕ) (calls : List Captured) → session < 2 ^ 32 → IsSessionFile session bytes calls → (t : SessionView) × IsFile (Comes session_form) is_ended (new_view session) bytes t × (t.calls ≡ calls)
+read_file session bytes calls small is =
+    let s = new_view session in
+    let lines = Head session ∷ last_lines calls in
+    let led = leads_to (with_line s (Head session)) calls refl is.calls_are is.fit in
+    let t = state_after session_form s lines in
+    (t, subst (λ (b : List ℕ). IsFile (Comes session_form) is_ended s b t) (sym is.text) (lines_are_file session_form is_ended sound s lines (small, (refl, refl), led.are) led.ended), led.holds)
+
+abbrev Verdict : Type 0
+Verdict = Result SessionView ℕ
+
+-- bytes are the file of at most one list of calls
+pub one_file : (session : ℕ) (bytes : List ℕ) (calls others : List Captured) → session < 2 ^ 32 → IsSessionFile session bytes calls → IsSessionFile session bytes others → calls ≡ others
+one_file session bytes calls others small is also =
+    let first = read_file session bytes calls small is in
+    let second = read_file session bytes others small also in
+    let both : ◌≡◌ {A = Verdict} (Ok first.0) (Ok second.0) = once (Comes session_form) is_ended (says_one session_form session_reader) (new_view session) 1 bytes (Ok first.0) (Ok second.0) first.1 second.1 in
+    let same : first.0 ≡ second.0 = cc in
+    sym first.2 ∙ ap (λ (s : SessionView). s.calls) same ∙ second.2
+
+-- bytes with a bad line are no file of the session
+pub bad_file : (session : ℕ) (bytes : List ℕ) (n : ℕ) → session < 2 ^ 32 → IsBadSession session bytes n → (calls : List Captured) → ¬ IsSessionFile session bytes calls
+bad_file session bytes n small bad calls is =
+    let read = read_file session bytes calls small is in
+    let both : ◌≡◌ {A = Verdict} (Err n) (Ok read.0) = once (Comes session_form) is_ended (says_one session_form session_reader) (new_view session) 1 bytes (Err n) (Ok read.0) bad read.1 in
+    cc
+
+pub error_read : (U : Type 0) (session : ℕ) (bytes : List ℕ) (t : SessionView) (error : FormErr) → session < 2 ^ 32 → Says {U = U} (Err error) t (Comes session_form) is_ended (new_view session) bytes → ReadsFile {X = Room Captured} (Err error) (λ calls. IsSessionFile session bytes calls.items) (IsBadSession session bytes)
+error_read U session bytes t (Bad n) small bad = (bad, λ calls. bad_file session bytes n small bad calls.items)
+error_read U session bytes t Memory small says = tt

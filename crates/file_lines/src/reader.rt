@@ -1,0 +1,41 @@
+ghost use Rattle.file_lines.specs.File.{Says};
+
+use crate::file::LineFile;
+use desk_values::ReadErr;
+use desk_values::fields::cut;
+
+/// Why a file was not read.
+#[derive(Clone, Copy, Debug, PartialEq, Eq)]
+pub enum FormErr {
+    /// The number of the first line, from 1, that is not a whole line that may come after those before it.
+    Bad { line: u64 },
+    /// Want of memory.
+    Memory,
+}
+
+/// Reads the lines of a file, each ended by a line feed, up to the last one, behind which nothing may stand. `Bad` with
+/// the first line that is not whole or may not come where it stands; where the file stops too early, with the line that
+/// is wanting. Bytes without a line feed behind them are such a line.
+pub fn read_lines<F: LineFile>(bytes: &[u8], file: &mut F) -> Result<(), FormErr>
+    ensures { Says result (F.state file.new) F.comes F.done (F.state file.old) bytes.now }
+{
+    let mut rest = bytes;
+    let mut line: u64 = 1;
+    'lines: while let Some((text, after)) = cut(rest, b'\n') {
+        if file.is_done() {
+            return Err(FormErr::Bad { line });
+        }
+        match file.add(text) {
+            Ok(()) => {}
+            Err(ReadErr::Bad) => return Err(FormErr::Bad { line }),
+            Err(ReadErr::Memory) => return Err(FormErr::Memory),
+        }
+        line += 1;
+        rest = after;
+    }
+    if rest.is_empty() && file.is_done() {
+        Ok(())
+    } else {
+        Err(FormErr::Bad { line })
+    }
+}

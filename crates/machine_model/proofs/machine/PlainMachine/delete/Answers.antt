@@ -1,0 +1,11 @@
+use Rattle.std.proofs.Common.{◌≡◌, ℕ, [], map, IfOk}
+use Rattle.sql_tree.specs.Plain.{asked_of, change_of, condition_of, entry_of}
+use Rattle.machine_model.specs.Found.{Environment}
+use Rattle.machine_model.specs.View.{View}
+use Rattle.machine_model.specs.Answer.{delete_causes, delete_effect, insert_causes, insert_effect, new_row, ruled, select_causes, select_effect, update_causes, update_effect}
+use Rattle.machine_model.specs.Decision.{Decides}
+use Rattle.machine_model.proofs.Telling.{along}
+use Rattle.machine_model.proofs.machine.PlainMachine.delete.Goals as goal
+
+pub returns : goal.returns
+returns c = along (λ (view : View) (table : ℕ) (env : Environment). IfOk c.delete.result (λ decision. Decides view (ruled table view [] (delete_causes env view (condition_of c.args.condition.now)) (delete_effect env view (condition_of c.args.condition.now))) decision)) c.seen-seen.ensures.view c.seen-seen.ensures.table c.evaluation.ensures c.delete.ensures

@@ -1,0 +1,11 @@
+use Rattle.std.proofs.Common.{◌≡◌, ℕ, [], map, IfOk}
+use Rattle.sql_tree.specs.Plain.{asked_of, change_of, condition_of, entry_of}
+use Rattle.machine_model.specs.Found.{Environment}
+use Rattle.machine_model.specs.View.{View}
+use Rattle.machine_model.specs.Answer.{delete_causes, delete_effect, insert_causes, insert_effect, new_row, ruled, select_causes, select_effect, update_causes, update_effect}
+use Rattle.machine_model.specs.Decision.{Decides}
+use Rattle.machine_model.proofs.Telling.{along}
+use Rattle.machine_model.proofs.machine.PlainMachine.select.Goals as goal
+
+pub returns : goal.returns
+returns c = along (λ (view : View) (table : ℕ) (env : Environment). IfOk c.select.result (λ decision. Decides view (ruled table view [] (select_causes env view (asked_of c.args.items.now) (condition_of c.args.condition.now) c.args.for_update) (select_effect env view (asked_of c.args.items.now) (condition_of c.args.condition.now) c.args.keys.now c.args.for_update)) decision)) c.seen-seen.ensures.view c.seen-seen.ensures.table c.evaluation.ensures c.select.ensures

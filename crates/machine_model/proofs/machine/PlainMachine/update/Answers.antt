@@ -1,0 +1,13 @@
+use Rattle.std.proofs.Common.{◌≡◌, ℕ, List, [], map, IfOk}
+use Rattle.desk_values.specs.declared.value.Value.{Value}
+use Rattle.desk_schema.specs.declared.schema.Column.{Column}
+use Rattle.sql_tree.specs.Plain.{change_of, condition_of, entry_of}
+use Rattle.machine_model.specs.Found.{Environment}
+use Rattle.machine_model.specs.View.{View}
+use Rattle.machine_model.specs.Answer.{insert_causes, insert_effect, new_row, ruled, update_causes, update_effect}
+use Rattle.machine_model.specs.Decision.{Decides, Executes}
+use Rattle.machine_model.proofs.Telling.{along_four}
+use Rattle.machine_model.proofs.machine.PlainMachine.update.Goals as goal
+
+pub returns : goal.returns
+returns c = along_four (λ (view : View) (table : ℕ) (env : Environment) (columns : List Column). IfOk c.update.result (λ decision. Decides view (ruled table view [] (update_causes env columns view (map change_of c.args.settings.now) (condition_of c.args.condition.now)) (update_effect env view (map change_of c.args.settings.now) (condition_of c.args.condition.now))) decision)) c.seen-seen.ensures.view c.seen-seen.ensures.table c.evaluation.ensures c.columns-columns.ensures c.update.ensures

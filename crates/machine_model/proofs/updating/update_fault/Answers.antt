@@ -1,0 +1,18 @@
+use Rattle.std.proofs.Common.{◌++◌, ℕ, map, refl, ap, ◌∙◌}
+use Rattle.sql_tree.specs.Plain.{change_of, condition_of}
+use Rattle.machine_model.specs.Causes.{ranked}
+use Rattle.machine_model.specs.Evaluation.{env_of}
+use Rattle.machine_model.specs.Found.{matching}
+use Rattle.machine_model.specs.Decision.{view_of_seen}
+use Rattle.machine_model.proofs.Changing.{update_rest}
+use Rattle.machine_model.proofs.updating.update_fault.Goals as goal
+
+pub returns : goal.returns
+returns c =
+    let changes = map (change_of {N = ℕ}) c.args.says.settings.now in
+    let condition = condition_of c.args.says.condition.now in
+    let view = view_of_seen c.args.seen in
+    let found = matching (env_of c.args.with) condition view.rows in
+    let others = c.args.seen.others.before.now ++ c.args.seen.others.after.now in
+    c.ranked.ensures ∙ ap ranked (c.tested-causes.ensures ∙ update_rest (env_of c.args.with) c.args.says.columns.now view changes condition found refl c.args.first c.requires.first
+    others refl c.as_slice-images.result.now (c.as_slice-images.ensures.value ∙ c.requires.images) c.args.changed.now.locked c.in_ok-duplicate.duplicate c.requires.locked c.in_ok-duplicate.ensures)

@@ -1,0 +1,25 @@
+-- What the bodies find on the way to a decision.
+use Rattle.std.specs.Prelude.{ℕ, Bool, ◌||◌, List, length, Option}
+use Rattle.std.specs.List.{list_any}
+use Rattle.desk_values.specs.declared.value.Image.{Image}
+use Rattle.sql_tree.specs.Plain.{Term, Change}
+use Rattle.sql_eval.specs.Faults.{joined}
+use Rattle.machine_model.specs.declared.causes.Causes.{Causes}
+use Rattle.machine_model.specs.declared.session.Session.{Session}
+use Rattle.machine_model.specs.View.{View, is_held}
+use Rattle.machine_model.specs.Causes.{first_causes}
+use Rattle.machine_model.specs.Found.{Environment, row_faults, where_faults}
+use Rattle.machine_model.specs.Writes.{changed_rows, sources}
+use Rattle.machine_model.specs.Answer.{is_over, meets_lock}
+
+-- too many rows for a statement, or for its transaction
+abbrev pub too_many_rows : List Image → List Image → Bool
+too_many_rows changes found = is_over (length found) || is_over (changed_rows changes found)
+
+-- what is found first of an UPDATE, where it finds these rows
+abbrev pub update_first : Environment → View → List (Change ℕ) → Option (Term ℕ) → List Image → Causes
+update_first env view changes condition found = first_causes (joined (where_faults env condition view.rows) (row_faults env (sources changes) found)) (too_many_rows view.own.changes found)
+
+-- others hold one of these rows, or a key that one of them moves to
+abbrev pub meets_hold : List Session → Environment → View → List (Change ℕ) → List Image → Bool
+meets_hold others env view changes found = list_any (is_held others) found || list_any (meets_lock env view changes) found

@@ -1,0 +1,104 @@
+//! What a DELETE does.
+
+ghost use Rattle.std.specs.Prelude.{◌≡◌, [], map, IfOk};
+ghost use Rattle.sql_tree.specs.Plain.{condition_of};
+ghost use Rattle.sql_eval.specs.Totals.{looked_at};
+ghost use Rattle.machine_model.specs.Evaluation.{env_of};
+ghost use Rattle.machine_model.specs.Causes.{ranked};
+ghost use Rattle.machine_model.specs.Rows.{row_key, row_numbers};
+ghost use Rattle.machine_model.specs.Writes.{gone};
+ghost use Rattle.machine_model.specs.Found.{matching};
+ghost use Rattle.machine_model.specs.Answer.{delete_causes, delete_effect, deletion, ruled};
+ghost use Rattle.machine_model.specs.Decision.{Decides, view_of_seen};
+
+use crate::causes::Causes;
+use crate::deciding::{done, refusal, row_numbers, touch_too_many};
+use crate::effect::{Decision, Effect, Writing};
+use crate::evaluation::Evaluation;
+use crate::found::sifted;
+use crate::holds::hold_some_row;
+use crate::images::row_key;
+use crate::seen::Seen;
+use desk_values::{Copied, Fault, Image, List, Memory, Outcome, Values};
+use sql_eval::Checked;
+use std::alloc::Global;
+
+/// What a DELETE is answered, and what it does.
+pub fn delete(
+    with: Evaluation<'_>,
+    seen: Seen<'_>,
+    condition: &Option<Checked>,
+) -> Result<Decision, Memory>
+    ensures { let env = env_of with.entry in let view = view_of_seen seen.entry in IfOk result (λ d. Decides view (ruled seen.entry.table view [] (delete_causes env view (condition_of condition.now)) (delete_effect env view (condition_of condition.now))) d) }
+{
+    let (found, fault) = judged(with, seen, condition)?;
+    let draws = List::new(with.alloc);
+    match fault {
+        Some(fault) => Ok(refusal(fault, draws)),
+        None => {
+            let effect = deletion(with, &found)?;
+            Ok(done(seen.table, draws, effect))
+        }
+    }
+}
+
+/// The rows that match, and why they may not go.
+fn judged<'a>(
+    with: Evaluation<'_>,
+    seen: Seen<'a>,
+    condition: &Option<Checked>,
+) -> Result<(Vec<&'a Image>, Option<Fault>), Memory>
+    ensures found { IfOk result (λ r. looked_at r.0.items ≡ matching (env_of with.entry) (condition_of condition.now) (looked_at seen.entry.rows.now)) }
+    ensures fault { IfOk result (λ r. r.1 ≡ ranked (delete_causes (env_of with.entry) (view_of_seen seen.entry) (condition_of condition.now))) }
+{
+    let (found, faults) = sifted(with, condition, seen.rows)?;
+    let too_many = touch_too_many(&seen.session.own.changes, &found);
+    let first = Causes::first(faults, too_many);
+    if let Some(fault) = first.ranked() {
+        return Ok((found, Some(fault)));
+    }
+    let locked = hold_some_row(seen.others, &found);
+    let causes = Causes { locked, ..first };
+    Ok((found, causes.ranked()))
+}
+
+/// These rows go.
+fn deletion(with: Evaluation<'_>, found: &[&Image]) -> Result<Effect, Memory>
+    ensures { IfOk result (λ effect. effect ≡ deletion (looked_at found.now)) }
+{
+    Ok(Effect {
+        outcome: Outcome::Count(found.len() as u64),
+        made: None,
+        writing: Writing {
+            images: gone_images(with.alloc, found)?,
+            rows: row_numbers(with.alloc, found)?,
+            keys: row_keys(with, found)?,
+        },
+    })
+}
+
+/// The rows as gone.
+fn gone_images(alloc: Global, found: &[&Image]) -> Result<List<Image>, Memory>
+    ensures { IfOk result (λ images. images ≡ map gone (looked_at found.now)) }
+{
+    let mut images = List::new(alloc);
+    for image in found {
+        images.push(Image {
+            row: image.row,
+            table: image.table,
+            left: None,
+        })?;
+    }
+    Ok(images)
+}
+
+/// Copies of the rows' keys.
+fn row_keys(with: Evaluation<'_>, found: &[&Image]) -> Result<Values, Memory>
+    ensures { IfOk result (λ keys. keys ≡ map row_key (looked_at found.now)) }
+{
+    let mut keys = List::new(with.alloc);
+    for image in found {
+        keys.push(row_key(with, *image).copy()?)?;
+    }
+    Ok(keys)
+}

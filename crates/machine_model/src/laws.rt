@@ -1,0 +1,36 @@
+//! Laws of the states that the server comes to and of its replies. A call does nothing: its clause is the law.
+
+ghost use Rattle.std.specs.Prelude.{ℕ, List};
+ghost use Rattle.std.specs.List.{AllByRecursion};
+ghost use Rattle.desk_values.specs.declared.call.Call.{Call};
+ghost use Rattle.desk_values.specs.Good.{HasGoodShape};
+ghost use Rattle.desk_schema.specs.Start.{StartView};
+ghost use Rattle.desk_schema.specs.File.{IsStart};
+ghost use Rattle.machine_model.specs.State.{State, opening, tables};
+ghost use Rattle.machine_model.specs.Step.{replies_of, reply_in, step};
+ghost use Rattle.machine_model.specs.Sound.{AreStanding, IsSound};
+
+/// The server is sound at first.
+pub fn openings_are_sound()
+    ensures { (start : StartView) → IsStart start → IsSound (opening start) }
+{}
+
+/// Each step of a sound server leaves it sound.
+pub fn steps_stay_sound()
+    ensures { (state : State) (session : ℕ) (call : Call) → IsSound state → IsSound (step state session call) }
+{}
+
+/// Each reply of a sound server has a good shape.
+pub fn replies_have_shape()
+    ensures { (state : State) (session : ℕ) (call : Call) → IsSound state → HasGoodShape (reply_in state session call) }
+{}
+
+/// Of the tables of a sound server no row is gone, and the rows ascend.
+pub fn tables_stand()
+    ensures { (state : State) (n : ℕ) → IsSound state → AreStanding (tables state n) }
+{}
+
+/// Each reply to calls from the first one on has a good shape.
+pub fn runs_have_shape()
+    ensures { (start : StartView) (calls : List (ℕ × Call)) → IsStart start → AllByRecursion HasGoodShape (replies_of (opening start) calls) }
+{}

@@ -1,0 +1,72 @@
+//! The files that runs begin with.
+
+use case_text::{first_word, small_number, txt};
+use desk_files::MemFiles;
+use desk_values::{Bytes, List, Memory, ReadErr, Stamps};
+use std::alloc::Global;
+use std::collections::BTreeMap;
+
+/// Files by name.
+#[derive(Drop)]
+pub struct Kept {
+    files: BTreeMap<String, Bytes>,
+}
+
+impl Kept {
+    /// No files.
+    pub fn new(alloc: Global) -> Kept {
+        Kept {
+            files: BTreeMap::new(alloc),
+        }
+    }
+
+    /// Does what a line says of a file: `file NAME TEXT`, `fill NAME COUNT` or `none NAME`.
+    pub fn set(&mut self, alloc: Global, word: &str, rest: &str) -> Result<(), Memory> {
+        let (name, text) = first_word(rest);
+        match word {
+            "file" => self.put(alloc, name, lines_of(alloc, text)?),
+            "fill" => self.put(alloc, name, ends_of_lines(alloc, small_number(text))?),
+            _ => {
+                self.files.remove(name);
+                Ok(())
+            }
+        }
+    }
+
+    fn put(&mut self, alloc: Global, name: &str, bytes: Bytes) -> Result<(), Memory> {
+        self.files.insert(String::from_str(alloc, name)?, bytes)?;
+        Ok(())
+    }
+
+    /// The files in memory. The calls with these numbers fail.
+    pub fn to_files(&self, alloc: Global, fails: Stamps) -> Result<MemFiles, ReadErr> {
+        let mut files = MemFiles::new(alloc, fails);
+        for (name, bytes) in &self.files {
+            files.put(&txt(alloc, name.as_str())?, bytes.as_slice())?;
+        }
+        Ok(files)
+    }
+
+    /// Whether each file is among these, with the bytes that it has here.
+    pub fn stand_in(&self, alloc: Global, files: &MemFiles) -> Result<bool, ReadErr> {
+        for (name, bytes) in &self.files {
+            let held = files.held(&txt(alloc, name.as_str())?);
+            if !held.is_some_and(|held| held.as_slice() == bytes.as_slice()) {
+                return Ok(false);
+            }
+        }
+        Ok(true)
+    }
+}
+
+fn lines_of(alloc: Global, text: &str) -> Result<Bytes, Memory> {
+    let mut bytes = List::new(alloc);
+    for byte in text.as_bytes() {
+        bytes.push(if *byte == b'/' { b'\n' } else { *byte })?;
+    }
+    Ok(bytes)
+}
+
+fn ends_of_lines(alloc: Global, count: u32) -> Result<Bytes, Memory> {
+    Ok(List::from_vec(vec![in alloc; b'\n'; count as usize]?))
+}
