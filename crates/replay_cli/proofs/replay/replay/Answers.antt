@@ -21,4 +21,4 @@ pub returns : goal.returns
 returns c =
     let l = c.loop-k in
     let all : length c.args.calls.now ≤ l.k = omega (arith, c.loop-k-test.false) in
-    replay_from_Replaying c.args.start.now c.args.calls.now l.k l.engine l.ended l.history.items c.in_ok-tables.tables c.requires.placed all l.invariant c.in_ok-tables.ensures
+    replay_from_Replaying c.args.start.now c.args.calls.now l.k l.engine l.ended l.history.items c.in_ok-tables.tables c.requires.placed all l.invariant c.in_ok-tables.ensures.value
