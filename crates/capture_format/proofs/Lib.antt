@@ -7,7 +7,6 @@ pub mod ReplyTexts
 pub mod SessionFiles
 pub mod SessionReader
 pub mod SessionTexts
-pub mod SimpleReader
 pub mod Spaces
 pub mod StartFiles
 pub mod StartFits

@@ -127,6 +127,12 @@ bad_file session bytes n small bad calls is =
     let both : ◌≡◌ {A = Verdict} (Err n) (Ok read.0) = once (Comes session_form) is_ended (says_one session_form session_reader) (new_view session) 1 bytes (Err n) (Ok read.0) bad read.1 in
     cc
 
+-- and it is the first of one number alone
+pub one_bad : (session : ℕ) (bytes : List ℕ) (line other : ℕ) → IsBadSession session bytes line → IsBadSession session bytes other → line ≡ other
+one_bad session bytes line other bad also =
+    let both : ◌≡◌ {A = Verdict} (Err line) (Err other) = once (Comes session_form) is_ended (says_one session_form session_reader) (new_view session) 1 bytes (Err line) (Err other) bad also in
+    cc
+
 pub error_read : (U : Type 0) (session : ℕ) (bytes : List ℕ) (t : SessionView) (error : FormErr) → session < 2 ^ 32 → Says {U = U} (Err error) t (Comes session_form) is_ended (new_view session) bytes → ReadsFile {X = Room Captured} (Err error) (λ calls. IsSessionFile session bytes calls.items) (IsBadSession session bytes)
 error_read U session bytes t (Bad n) small bad = (bad, λ calls. bad_file session bytes n small bad calls.items)
 error_read U session bytes t Memory small says = tt

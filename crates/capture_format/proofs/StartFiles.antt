@@ -89,6 +89,12 @@ bad_file bytes n bad file is =
     let both : ◌≡◌ {A = Verdict} (Err n) (Ok read.0) = once (Comes start_form) is_ended (says_one start_form start_lines) nothing 1 bytes (Err n) (Ok read.0) bad read.1 in
     cc
 
+-- and it is the first of one number alone
+pub one_bad : (bytes : List ℕ) (line other : ℕ) → IsBadStart bytes line → IsBadStart bytes other → line ≡ other
+one_bad bytes line other bad also =
+    let both : ◌≡◌ {A = Verdict} (Err line) (Err other) = once (Comes start_form) is_ended (says_one start_form start_lines) nothing 1 bytes (Err line) (Err other) bad also in
+    cc
+
 pub error_read : (U : Type 0) (bytes : List ℕ) (t : State) (error : FormErr) → Says {U = U} (Err error) t (Comes start_form) is_ended nothing bytes → ReadsFile (Err error) (IsStartFile bytes) (IsBadStart bytes)
 error_read U bytes t (Bad n) bad = (bad, bad_file bytes n bad)
 error_read U bytes t Memory says = tt

@@ -1,4 +1,3 @@
-pub mod Cuts
 pub mod NameReading
 pub mod Fields
 pub mod CallReading
@@ -6,9 +5,6 @@ pub mod ReplyReading
 pub mod SessionFile
 pub mod SessionReading
 pub mod SessionView
-pub mod SimpleReading
-pub mod SimpleStatement
 pub mod StartFile
 pub mod StartReading
 pub mod StartStage
-pub mod Supported

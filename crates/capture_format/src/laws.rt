@@ -9,8 +9,8 @@ ghost use Rattle.desk_values.specs.declared.capture.Captured.{Captured};
 ghost use Rattle.desk_values.specs.Good.{IsCall, IsGoodReply};
 ghost use Rattle.desk_values.specs.Text.{call_text, reply_text};
 ghost use Rattle.capture_format.specs.declared.start.StartFile.{StartFile};
-ghost use Rattle.capture_format.specs.StartFile.{IsStartFile};
-ghost use Rattle.capture_format.specs.SessionFile.{IsSessionFile};
+ghost use Rattle.capture_format.specs.StartFile.{IsBadStart, IsStartFile};
+ghost use Rattle.capture_format.specs.SessionFile.{IsBadSession, IsSessionFile};
 
 /// Bytes are the start file of at most one start.
 pub fn one_start()
@@ -20,6 +20,16 @@ pub fn one_start()
 /// Bytes are the file of a session with at most one list of calls.
 pub fn one_session()
     ensures { (session : ℕ) (bytes : List ℕ) (calls others : List Captured) → session < 2 ^ 32 → IsSessionFile session bytes calls → IsSessionFile session bytes others → calls ≡ others }
+{}
+
+/// Bytes have at most one first line that is none of a start file.
+pub fn one_bad_start()
+    ensures { (bytes : List ℕ) (line other : ℕ) → IsBadStart bytes line → IsBadStart bytes other → line ≡ other }
+{}
+
+/// Bytes have at most one first line that is none of the file of a session.
+pub fn one_bad_session()
+    ensures { (session : ℕ) (bytes : List ℕ) (line other : ℕ) → IsBadSession session bytes line → IsBadSession session bytes other → line ≡ other }
 {}
 
 /// A text is the text of at most one call.

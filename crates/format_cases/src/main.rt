@@ -9,10 +9,10 @@ mod escape;
 mod shown;
 
 use capture_format::{
-    FormErr, read_call, read_reply, read_session, read_simple, read_start, write_call, write_reply,
+    FormErr, read_call, read_reply, read_session, read_start, write_call, write_reply,
     write_session, write_start,
 };
-use desk_values::{Bytes, Memory, ReadErr, Txt};
+use desk_values::{Bytes, Memory, ReadErr};
 use std::alloc::Global;
 
 fn main(rt: HostRuntime) -> Result<(), anyhow::Error> {
@@ -36,7 +36,6 @@ fn answered(alloc: Global, wanted: &str, bytes: &[u8]) -> Result<String, anyhow:
         "calls" => session(alloc, shown::many_calls(alloc, bytes)?.as_slice(), 0),
         "call" => call(alloc, bytes),
         "reply" => reply(alloc, bytes),
-        "simple" => simple(alloc, bytes),
         _ => Ok(String::from_str(alloc, "?")?),
     }
 }
@@ -111,15 +110,6 @@ fn reply(alloc: Global, bytes: &[u8]) -> Result<String, anyhow::Error> {
             let written = write_reply(alloc, &reply)?;
             alike(alloc, bytes, &written, shown::reply(alloc, &reply)?)
         }
-        Err(error) => bad(alloc, error),
-    }
-}
-
-// Whether the text is one of the statements that are replayed so far.
-fn simple(alloc: Global, bytes: &[u8]) -> Result<String, anyhow::Error> {
-    let text = Txt::from_bytes(alloc, bytes)?;
-    match read_simple(alloc, &text) {
-        Ok(statement) => shown::simple(alloc, &statement),
         Err(error) => bad(alloc, error),
     }
 }

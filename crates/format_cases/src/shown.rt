@@ -1,6 +1,6 @@
 //! Starts, calls and replies in the words of their types.
 
-use capture_format::{Simple, StartFile};
+use capture_format::StartFile;
 use desk_schema::{Column, Schema};
 use desk_values::{Bytes, Call, Captured, Image, List, Outcome, Reply, Value, Values};
 use std::alloc::{AllocError, Global};
@@ -203,20 +203,5 @@ fn outcome(alloc: Global, outcome: &Outcome) -> Result<String, anyhow::Error> {
         Outcome::Connected => Ok(String::from_str(alloc, "Connected")?),
         Outcome::Disconnected => Ok(String::from_str(alloc, "Disconnected")?),
         Outcome::Refused(fault) => Ok(format!(in alloc; "Refused({})", fault.number())?),
-    }
-}
-
-/// The statement in the words of its type.
-pub fn simple(alloc: Global, statement: &Simple) -> Result<String, anyhow::Error> {
-    match statement {
-        Simple::Insert(table, numbers) => {
-            let mut shown = format!(in alloc; "Insert({})", table.as_str())?;
-            for number in numbers.as_slice() {
-                let text = format!(in alloc; " {number}")?;
-                shown.push_str(text.as_str())?;
-            }
-            Ok(shown)
-        }
-        Simple::Commit => Ok(String::from_str(alloc, "Commit")?),
     }
 }

@@ -42,6 +42,10 @@ pub record Answer : Type 0 where
 abbrev pub is_over : ℕ → Bool
 is_over count = nat_lt 1000 count
 
+-- too many rows for a statement, or for its transaction
+abbrev pub too_many_rows : List Image → List Image → Bool
+too_many_rows changes found = is_over (length found) || is_over (changed_rows changes found)
+
 abbrev pub are_totals : Asked ℕ → Bool
 are_totals columns = false
 are_totals (values es) = false
@@ -91,7 +95,7 @@ update_causes env cs view changes condition =
     let found = matching env condition view.rows in
     with_images env.level cs (map (updated env changes) found) (rows_after env changes condition view.rows)
     (with_faults (joined (where_faults env condition view.rows) (row_faults env (sources changes) found)) (record no_cause {
-      too_many = is_over (length found) || is_over (changed_rows view.own.changes found);
+      too_many = too_many_rows view.own.changes found;
       locked = list_any (matches env condition) view.locked || list_any (meets_lock env view changes) found;
     }))
 
@@ -99,7 +103,7 @@ abbrev pub delete_causes : Environment → View → Option (Term ℕ) → Causes
 delete_causes env view condition =
     let found = matching env condition view.rows in
     with_faults (where_faults env condition view.rows) (record no_cause {
-      too_many = is_over (length found) || is_over (changed_rows view.own.changes found);
+      too_many = too_many_rows view.own.changes found;
       locked = list_any (matches env condition) view.locked;
     })
 

@@ -1,5 +1,5 @@
 -- What the bodies find on the way to a decision.
-use Rattle.std.specs.Prelude.{ℕ, Bool, ◌||◌, List, length, Option}
+use Rattle.std.specs.Prelude.{ℕ, Bool, ◌||◌, List, Option}
 use Rattle.std.specs.List.{list_any}
 use Rattle.desk_values.specs.declared.value.Image.{Image}
 use Rattle.sql_tree.specs.Plain.{Term, Change}
@@ -9,12 +9,8 @@ use Rattle.machine_model.specs.declared.session.Session.{Session}
 use Rattle.machine_model.specs.View.{View, is_held}
 use Rattle.machine_model.specs.Causes.{first_causes}
 use Rattle.machine_model.specs.Found.{Environment, row_faults, where_faults}
-use Rattle.machine_model.specs.Writes.{changed_rows, sources}
-use Rattle.machine_model.specs.Answer.{is_over, meets_lock}
-
--- too many rows for a statement, or for its transaction
-abbrev pub too_many_rows : List Image → List Image → Bool
-too_many_rows changes found = is_over (length found) || is_over (changed_rows changes found)
+use Rattle.machine_model.specs.Writes.{sources}
+use Rattle.machine_model.specs.Answer.{meets_lock, too_many_rows}
 
 -- what is found first of an UPDATE, where it finds these rows
 abbrev pub update_first : Environment → View → List (Change ℕ) → Option (Term ℕ) → List Image → Causes

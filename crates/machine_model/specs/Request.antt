@@ -9,8 +9,8 @@ use Rattle.desk_schema.specs.declared.schema.Rights.{Rights}
 use Rattle.desk_schema.specs.Schema.{SchemaView, place_ignoring_case, rights_of, table_names}
 use Rattle.sql_reader.specs.Reading.{statement_of}
 use Rattle.sql_eval.specs.Check.{check_of}
-use Rattle.sql_eval.specs.SchemaNames.{table_of as name_of_table}
-use Rattle.sql_tree.specs.Plain.{Plan, select, next, insert, update, delete, commit, rollback, set_read_only}
+use Rattle.sql_eval.specs.SchemaNames.{table_of}
+use Rattle.sql_tree.specs.Plain.{Plan}
 
 pub data Request : Type 0 where
   -- a connection, with the rights of its service where there is such a service
@@ -25,7 +25,7 @@ pub data Request : Type 0 where
 
 -- the number of the table that a statement names, where the schema has it
 abbrev pub table_named : SchemaView → Plan (List ℕ) → Option ℕ
-table_named schema parsed = option_and_then (place_ignoring_case (table_names schema.tables)) (name_of_table parsed)
+table_named schema parsed = option_and_then (place_ignoring_case (table_names schema.tables)) (table_of parsed)
 
 abbrev pub checked : Option ℕ → List Value → Result (Plan ℕ) Fault → Request
 checked table binds (Ok plan) = statement plan binds
@@ -39,17 +39,6 @@ abbrev pub request_of : SchemaView → Call → Request
 request_of schema (Connect service) = connect (rights_of schema.services service)
 request_of schema Disconnect = disconnect
 request_of schema (Sql text binds) = read schema binds (statement_of text)
-
--- the table of a statement
-abbrev pub table_of : Plan ℕ → Option ℕ
-table_of (select table asked condition keys for_update) = Some table
-table_of (next sequence) = None
-table_of (insert table named entries) = Some table
-table_of (update table changes condition) = Some table
-table_of (delete table condition) = Some table
-table_of commit = None
-table_of rollback = None
-table_of set_read_only = None
 
 abbrev pub table_in : Request → Option ℕ
 table_in (statement plan binds) = table_of plan

@@ -8,8 +8,7 @@ ghost use Rattle.machine_model.specs.Rows.{row_numbers};
 ghost use Rattle.machine_model.specs.Step.{committed_in};
 ghost use Rattle.machine_model.specs.View.{View};
 ghost use Rattle.machine_model.specs.Writes.{is_among};
-ghost use Rattle.machine_model.specs.Answer.{done, is_over, refused};
-ghost use Rattle.machine_model.specs.Parts.{too_many_rows};
+ghost use Rattle.machine_model.specs.Answer.{done, is_over, refused, too_many_rows};
 ghost use Rattle.machine_model.specs.Decision.{Decides};
 
 use crate::effect::{Decision, Deed, Effect};

@@ -1,6 +1,6 @@
 //! The files that runs begin with.
 
-use case_text::{first_word, small_number, txt};
+use case_text::{first_word, small_number, txt, unescaped};
 use desk_files::MemFiles;
 use desk_values::{Bytes, List, Memory, ReadErr, Stamps};
 use std::alloc::Global;
@@ -47,22 +47,32 @@ impl Kept {
         Ok(files)
     }
 
-    /// Whether each file is among these, with the bytes that it has here.
-    pub fn stand_in(&self, alloc: Global, files: &MemFiles) -> Result<bool, ReadErr> {
-        for (name, bytes) in &self.files {
-            let held = files.held(&txt(alloc, name.as_str())?);
-            if !held.is_some_and(|held| held.as_slice() == bytes.as_slice()) {
-                return Ok(false);
-            }
+    /// Their names.
+    pub fn names(&self, alloc: Global) -> Result<BTreeMap<String, ()>, Memory> {
+        let mut names = BTreeMap::new(alloc);
+        for (name, _) in &self.files {
+            names.insert(String::from_str(alloc, name.as_str())?, ())?;
         }
-        Ok(true)
+        Ok(names)
+    }
+
+    /// Whether the file of this name has these bytes.
+    pub fn holds(&self, name: &str, bytes: &[u8]) -> bool {
+        match self.files.get(name) {
+            Some(held) => held.as_slice() == bytes,
+            None => false,
+        }
     }
 }
 
+// The lines between `/`, with the bytes that codes in them stand for.
 fn lines_of(alloc: Global, text: &str) -> Result<Bytes, Memory> {
     let mut bytes = List::new(alloc);
-    for byte in text.as_bytes() {
-        bytes.push(if *byte == b'/' { b'\n' } else { *byte })?;
+    for (place, line) in text.split('/').enumerate() {
+        if place > 0 {
+            bytes.push(b'\n')?;
+        }
+        bytes.append(unescaped(alloc, line)?.as_slice())?;
     }
     Ok(bytes)
 }

@@ -1,10 +1,11 @@
 //! Cases of whole runs over files in memory, told by lines:
 //!
-//! - `file NAME TEXT`: from here on there is a file of that name, in whose text `/` stands for the end of a line
+//! - `file NAME TEXT`: from here on there is a file of that name, in whose text `/` stands for the end of a line, `\N;` for
+//!   the byte N and `\N*c;` for N times c
 //! - `fill NAME COUNT`: there is one of so many ends of lines
 //! - `none NAME`: there is none
 //! - `run CALLS PRINTS WORDS`: runs a command over these files, where calls of the files and of the output with these
-//!   numbers fail; `-` for none. It prints the status, the line and the files that a replay into `out` writes
+//!   numbers fail; `-` for none. It prints the status, the line and each file that is new or has other bytes, by its name
 //! - `word BYTES`, `arguments WORDS`: it prints the word, or the words after the first
 //!
 //! Enters: lines of the standard input. Leaves: lines. It touches the standard input and output alone. The expected
@@ -13,6 +14,7 @@
 
 mod kept;
 mod runs;
+mod watched;
 mod words;
 
 use case_text::first_word;

@@ -1,6 +1,7 @@
 //! Whole runs of commands.
 
 use crate::kept::Kept;
+use crate::watched::Watched;
 use crate::words::words_of;
 use case_text::{first_word, stamps_of, txt};
 use desk_files::{MemFiles, MemSink};
@@ -8,6 +9,7 @@ use desk_values::fields::append_u64;
 use desk_values::{Bytes, Memory, ReadErr};
 use replay_cli::replay_main;
 use std::alloc::Global;
+use std::collections::BTreeMap;
 
 /// Room for the line of a run.
 const LINE_ROOM: u32 = 1000;
@@ -23,29 +25,32 @@ pub fn append_run<R>(
     let (calls, rest) = first_word(text);
     let (prints, words) = first_word(rest);
     let words = words_of(alloc, words)?;
-    let mut files = kept.to_files(alloc, stamps_of(alloc, calls)?)?;
+    let mut files = Watched::new(alloc, kept.to_files(alloc, stamps_of(alloc, calls)?)?);
     let mut out = MemSink::new(alloc, LINE_ROOM, stamps_of(alloc, prints)?)?;
     let status = replay_main(rt, alloc, words.as_slice(), &mut files, &mut out);
     append_u64(u64::from(status), to)?;
     to.push(b' ')?;
     append_lines(out.held().as_slice(), to)?;
-    append_left(alloc, kept, &files, to)
+    append_changed(alloc, kept, &files, to)
 }
 
-// The files that a replay into `out` writes, as far as they are there, and whether a file of before is another one.
-fn append_left(
+// The files that were not there before, or had other bytes, by their names.
+fn append_changed(
     alloc: Global,
     kept: &Kept,
-    files: &MemFiles,
+    files: &Watched<MemFiles>,
     to: &mut Bytes,
 ) -> Result<(), ReadErr> {
-    for name in ["out/journal.txt", "out/report.txt", "out/tables.txt"] {
-        if let Some(bytes) = files.held(&txt(alloc, name)?) {
-            append_file(name, bytes, to)?;
-        }
+    let mut names = kept.names(alloc)?;
+    for name in files.names.as_slice() {
+        names.insert(String::from_str(alloc, name.as_str())?, ())?;
     }
-    if !kept.stand_in(alloc, files)? {
-        to.append(b" and a file of the capture was changed")?;
+    for (name, _) in &names {
+        if let Some(bytes) = files.files.held(&txt(alloc, name.as_str())?) {
+            if !kept.holds(name.as_str(), bytes.as_slice()) {
+                append_file(name.as_str(), bytes, to)?;
+            }
+        }
     }
     Ok(())
 }

@@ -1,9 +1,10 @@
+pub mod StepLaws
+pub mod Sessions
+pub mod Made
+pub mod Unique
+pub mod Endings
 pub mod Runs
-pub mod Passing
 pub mod Tested
+pub mod Ordered
+pub mod Places
 pub mod Order
-pub mod Starts
-pub mod Loading
-pub mod Running
-pub mod Reasons
-pub mod Ending

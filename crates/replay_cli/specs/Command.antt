@@ -1,85 +1,60 @@
--- What the command comes to, by its words and the files alone.
-use Rattle.std.specs.Prelude.{◌≡◌, ℕ, ◌⊎◌, List, length, None, Result, Ok, Err}
-use Rattle.std.specs.FinMap.{get}
-use Rattle.desk_values.specs.declared.value.Image.{Image}
-use Rattle.desk_values.specs.declared.capture.Captured.{Captured}
-use Rattle.desk_values.specs.declared.capture.Event.{Event}
-use Rattle.desk_files.specs.declared.writes.Write.{Write}
-use Rattle.desk_files.specs.Outside.{FileMap}
-use Rattle.desk_files.specs.Writes.{CutShort, WrittenSoFar as WritesSoFar, with_all}
-use Rattle.capture_format.specs.declared.start.StartFile.{StartFile}
-use Rattle.replay_cli.specs.declared.failure.Failure.{Failure}
-use Rattle.replay_cli.specs.declared.failure.Failure.TheVariants.{BadCommand, NotYet, BadCapture, Missing, DeviceFault, OutOfMemory}
-use Rattle.replay_cli.specs.OneSession.{IsLegalFrom, IsReplay}
-use Rattle.replay_cli.specs.Words.{IsRunOf, start_name, session_name}
-use Rattle.replay_cli.specs.Folder.{ReadsStart, ReadsCalls, Holds, HoldsNone, writes_of}
+-- Which words are a command.
+use Rattle.std.specs.Prelude.{ℕ, ◌≤◌, ◌==◌, ◌&&◌, Bool, false, not, nat_le, if◌then◌else◌, List, [], ◌∷◌, length, codes, Option, None, Some}
+use Rattle.std.specs.Option.{option_map}
+use Rattle.std.specs.Str.{bytes_eq}
+use Rattle.desk_values.specs.Reading.{number_of}
+use Rattle.replay_cli.specs.declared.words.Command.{Command}
+use Rattle.replay_cli.specs.declared.words.Command.TheVariants.{Run, Prepare, Generate, Trial}
 
--- the words are no command
-abbrev pub IsNoCommand : List (List ℕ) → Type 0
-IsNoCommand words = (capture out : List ℕ) → ¬ IsRunOf words capture out
+-- 1 to 900 bytes, of which the first is no `-`
+abbrev pub is_path : List ℕ → Bool
+is_path [] = false
+is_path (first ∷ others) = not (first == 45) && nat_le (length (first ∷ others)) 900
 
--- the two files of the capture in a folder, as they are read
-pub record IsCapture (files : FileMap) (capture : List ℕ) (file : StartFile) (calls : List Captured) : Type 0 where
-  pub start : Holds ReadsStart (get files (start_name capture)) file
-  pub session : Holds ReadsCalls (get files (session_name capture)) calls
+abbrev pub within_limits : Option ℕ → Option ℕ
+within_limits None = None
+within_limits (Some n) = if nat_le 1 n && nat_le n 10000 then Some n else None
 
--- the first of the two files that is not there
-abbrev pub IsMissing : FileMap → List ℕ → List ℕ → Type 0
-IsMissing files capture name =
-    ((name ≡ start_name capture) × (get files (start_name capture) ≡ None))
-    ⊎ ((file : StartFile) × Holds ReadsStart (get files (start_name capture)) file × (name ≡ session_name capture) × (get files (session_name capture) ≡ None))
+-- how many calls a word says: 1 to 10,000 in digits, without a leading zero
+abbrev pub calls_of : List ℕ → Option ℕ
+calls_of word = within_limits (number_of word)
 
--- the first of the two files that is there and is not read
-abbrev pub IsNotYet : FileMap → List ℕ → List ℕ → Type 0
-IsNotYet files capture name =
-    ((name ≡ start_name capture) × HoldsNone ReadsStart (get files (start_name capture)))
-    ⊎ ((file : StartFile) × Holds ReadsStart (get files (start_name capture)) file × (name ≡ session_name capture) × HoldsNone ReadsCalls (get files (session_name capture)))
+abbrev pub run_of : List (List ℕ) → Option Command
+run_of (capture ∷ out ∷ []) = if is_path capture && is_path out then Some (Run capture out) else None
+run_of other = None
 
--- a legal capture, and a replay of it
-pub record IsReplayed (files : FileMap) (capture : List ℕ) (file : StartFile) (calls : List Captured) (history : List Event) (tables : List Image) : Type 0 where
-  pub capture_is : IsCapture files capture file calls
-  pub legal : IsLegalFrom file.start calls
-  pub replay : IsReplay file.start calls history tables
+abbrev pub prepare_of : List (List ℕ) → Option Command
+prepare_of (capture ∷ out ∷ []) = if is_path capture && is_path out then Some (Prepare capture out) else None
+prepare_of other = None
 
--- the words are `run`, the capture was replayed, and this is left of the writing of its files
-pub record LeftWritten (left : List Write → FileMap → FileMap → Type 0) (words : List (List ℕ)) (before after : FileMap) : Type 0 where
-  pub capture : List ℕ
-  pub out : List ℕ
-  pub file : StartFile
-  pub calls : List Captured
-  pub history : List Event
-  pub tables : List Image
-  pub words_are : IsRunOf words capture out
-  pub replayed : IsReplayed before capture file calls history tables
-  pub is_left : left (writes_of out (length calls) history tables) before after
+abbrev pub generate_of : List (List ℕ) → Option Command
+generate_of (calls ∷ out ∷ []) = if is_path out then option_map (λ n. Generate n out) (calls_of calls) else None
+generate_of other = None
 
--- one of the writes failed
-abbrev pub WrittenInPart : List (List ℕ) → FileMap → FileMap → Type 0
-WrittenInPart words before after = LeftWritten CutShort words before after
+abbrev pub trial_of : List (List ℕ) → Option Command
+trial_of (calls ∷ []) = option_map Trial (calls_of calls)
+trial_of other = None
 
--- each write was whole, or was not begun
-abbrev pub WrittenSoFar : List (List ℕ) → FileMap → FileMap → Type 0
-WrittenSoFar words before after = LeftWritten WritesSoFar words before after
+-- the command with this first word, which the others complete
+abbrev pub command_with : List ℕ → List (List ℕ) → Option Command
+command_with word others =
+    if bytes_eq word (codes "run") then run_of others
+    else if bytes_eq word (codes "prepare") then prepare_of others
+    else if bytes_eq word (codes "generate") then generate_of others
+    else if bytes_eq word (codes "trial") then trial_of others
+    else None
 
--- the capture was replayed, and its files were written
-pub record WrittenWhole (words : List (List ℕ)) (count : ℕ) (before after : FileMap) : Type 0 where
-  pub capture : List ℕ
-  pub out : List ℕ
-  pub file : StartFile
-  pub calls : List Captured
-  pub history : List Event
-  pub tables : List Image
-  pub words_are : IsRunOf words capture out
-  pub replayed : IsReplayed before capture file calls history tables
-  pub count_is : count ≡ length calls
-  pub written : after ≡ with_all (writes_of out (length calls) history tables) before
+-- the command that the words are
+abbrev pub command_of : List (List ℕ) → Option Command
+command_of [] = None
+command_of (word ∷ others) = command_with word others
 
--- what doing the command's work answers, and what files it leaves
-abbrev pub RunSays : List (List ℕ) → FileMap → FileMap → Result ℕ Failure → Type 0
-RunSays words before after (Ok count) = WrittenWhole words count before after
-RunSays words before after (Err BadCommand) = IsNoCommand words × (after ≡ before)
-RunSays words before after (Err (NotYet name)) = ((capture : List ℕ) × (out : List ℕ) × IsRunOf words capture out × IsNotYet before capture name) × (after ≡ before)
-RunSays words before after (Err BadCapture) = ((capture : List ℕ) × (out : List ℕ) × (file : StartFile) × (calls : List Captured) × IsRunOf words capture out × IsCapture before capture file calls × ¬ IsLegalFrom file.start calls) × (after ≡ before)
-RunSays words before after (Err (Missing name)) = ((capture : List ℕ) × (out : List ℕ) × IsRunOf words capture out × IsMissing before capture name) × (after ≡ before)
-RunSays words before after (Err DeviceFault) = (after ≡ before) ⊎ WrittenInPart words before after
-RunSays words before after (Err OutOfMemory) = (after ≡ before) ⊎ WrittenSoFar words before after
+abbrev pub IsCallCount : ℕ → Type 0
+IsCallCount n = (1 ≤ n) × (n ≤ 10000)
+
+-- the folders that a command names are short, and its numbers within their limits
+abbrev pub IsWithinLimits : Command → Type 0
+IsWithinLimits (Run capture out) = (length capture ≤ 900) × (length out ≤ 900)
+IsWithinLimits (Prepare capture out) = (length capture ≤ 900) × (length out ≤ 900)
+IsWithinLimits (Generate n out) = IsCallCount n × (length out ≤ 900)
+IsWithinLimits (Trial n) = IsCallCount n

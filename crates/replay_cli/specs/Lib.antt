@@ -1,6 +1,8 @@
-pub mod OneSession
 pub mod Words
-pub mod Lines
-pub mod Folder
 pub mod Command
-pub mod Status
+pub mod Steps
+pub mod Lines
+pub mod Replay
+pub mod Decision
+pub mod Done
+pub mod Ending

@@ -1,25 +1,69 @@
--- The line and the status of each way in which a command ends.
+-- The status and the line of each way in which a command ends.
 use Rattle.std.specs.Prelude.{ℕ, List, [], ◌∷◌, ◌++◌, codes}
 use Rattle.std.specs.Fmt.{decimal}
+use Rattle.desk_values.specs.Text.{reply_text}
+use Rattle.capture_format.specs.SessionFile.{number_text}
+use Rattle.prepare_plan.specs.declared.refusal.Refusal.{Refusal as Illegal}
+use Rattle.prepare_plan.specs.declared.refusal.Refusal.TheVariants.{TooMany, Stamp, Number, Seen, Times, Stranger, Reply, Memory}
+use Rattle.replay_cli.specs.declared.failure.Refusal.{Refusal}
+use Rattle.replay_cli.specs.declared.failure.Refusal.TheVariants.{Missing, TooLong, BadLine, NotLegal}
 use Rattle.replay_cli.specs.declared.failure.Failure.{Failure}
-use Rattle.replay_cli.specs.declared.failure.Failure.TheVariants.{BadCommand, NotYet, BadCapture, Missing, DeviceFault, OutOfMemory}
+use Rattle.replay_cli.specs.declared.failure.Failure.TheVariants.{BadCommand, Refused, DeviceFault, OutOfMemory}
+
+abbrev pub refusal_status : Refusal → ℕ
+refusal_status (Missing name) = 4
+refusal_status (TooLong name) = 8
+refusal_status (BadLine name line) = 3
+refusal_status (NotLegal cause) = 3
 
 abbrev pub failure_status : Failure → ℕ
 failure_status BadCommand = 2
-failure_status (NotYet name) = 3
-failure_status BadCapture = 3
-failure_status (Missing name) = 4
+failure_status (Refused refusal) = refusal_status refusal
 failure_status DeviceFault = 5
 failure_status OutOfMemory = 6
 
+-- what is wrong with a capture that is not legal
+abbrev pub cause_text : Illegal → List ℕ
+cause_text (TooMany calls) = decimal calls ++ codes " calls"
+cause_text (Stamp k) = codes "stamp " ++ decimal k
+cause_text (Number k written right) = codes "stamp " ++ (decimal k ++ (codes " has number " ++ (number_text written ++ (codes ", not " ++ number_text right))))
+cause_text (Seen k written right) = codes "stamp " ++ (decimal k ++ (codes " saw " ++ (decimal written ++ (codes ", not " ++ decimal right))))
+cause_text (Times k) = codes "times at stamp " ++ decimal k
+cause_text (Stranger k) = codes "unknown id at stamp " ++ decimal k
+cause_text (Reply k written right) = codes "stamp " ++ (decimal k ++ (codes " replied " ++ (reply_text written ++ (codes ", not " ++ reply_text right))))
+-- want of memory is a failure of its own, and no cause
+cause_text Memory = []
+
+abbrev pub refusal_line : Refusal → List ℕ
+refusal_line (Missing name) = codes "missing: " ++ (name ++ 10 ∷ [])
+refusal_line (TooLong name) = codes "too long: " ++ (name ++ 10 ∷ [])
+refusal_line (BadLine name line) = codes "bad capture: " ++ (name ++ (codes " line " ++ (decimal line ++ 10 ∷ [])))
+refusal_line (NotLegal cause) = codes "bad capture: " ++ (cause_text cause ++ 10 ∷ [])
+
 abbrev pub failure_line : Failure → List ℕ
 failure_line BadCommand = codes "bad command" ++ 10 ∷ []
-failure_line (NotYet name) = codes "not yet: " ++ (name ++ 10 ∷ [])
-failure_line BadCapture = codes "bad capture" ++ 10 ∷ []
-failure_line (Missing name) = codes "missing: " ++ (name ++ 10 ∷ [])
+failure_line (Refused refusal) = refusal_line refusal
 failure_line DeviceFault = codes "device fault" ++ 10 ∷ []
 failure_line OutOfMemory = codes "out of memory" ++ 10 ∷ []
 
--- what is printed of a replay without a divergence
+-- ---- what is printed of a command that was done
+
+-- how many, and of what
+abbrev pub counted : ℕ → List ℕ → List ℕ
+counted n words = decimal n ++ words
+
+-- a word, how many calls, and what is said of them
+abbrev pub counted_line : List ℕ → ℕ → List ℕ → List ℕ
+counted_line word calls rest = word ++ counted calls rest
+
 abbrev pub replayed_line : ℕ → List ℕ
-replayed_line calls = codes "replayed " ++ (decimal calls ++ codes " calls, 0 divergent\n")
+replayed_line calls = counted_line (codes "replayed ") calls (codes " calls, 0 divergent\n")
+
+abbrev pub prepared_line : ℕ → List ℕ
+prepared_line calls = counted_line (codes "prepared ") calls (codes " calls\n")
+
+abbrev pub generated_line : ℕ → List ℕ
+generated_line calls = counted_line (codes "generated ") calls (codes " calls\n")
+
+abbrev pub trial_line : ℕ → ℕ → ℕ → List ℕ
+trial_line n calls commits = codes "trial " ++ (counted n (codes ": ") ++ (counted calls (codes " calls, 0 divergent, ") ++ counted commits (codes " commits\n")))

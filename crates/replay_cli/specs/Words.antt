@@ -1,33 +1,37 @@
--- The words of a command, and the names of its files.
-use Rattle.std.specs.Prelude.{◌≡◌, ℕ, ◌≤◌, List, [], ◌∷◌, ◌++◌, length, codes}
+-- The words that a program is called with, and the names of files.
+use Rattle.std.specs.Prelude.{ℕ, zero, suc, ◌≤◌, ◌/◌, ◌%◌, List, [], ◌∷◌, ◌++◌, length, codes}
+use Rattle.std.specs.Fmt.{decimal}
 use Rattle.std.specs.Str.{IsUtf8}
 
 -- the bytes are a text: at most 1,000 of UTF-8
 abbrev pub IsTextOf : List ℕ → Type 0
 IsTextOf bytes = (length bytes ≤ 1000) × IsUtf8 bytes
 
--- 1 to 900 bytes, of which the first is no `-`
-abbrev pub IsPath : List ℕ → Type 0
-IsPath [] = ⊥
-IsPath (first ∷ others) = ¬ (first ≡ 45) × (length (first ∷ others) ≤ 900)
-
--- the words are `run CAPTURE OUT`
-pub record IsRunOf (words : List (List ℕ)) (capture out : List ℕ) : Type 0 where
-  pub words_are : words ≡ codes "run" ∷ capture ∷ out ∷ []
-  pub capture_is : IsPath capture
-  pub out_is : IsPath out
+-- ---- the files of a capture, and those that a command writes, in a folder
 
 abbrev pub start_name : List ℕ → List ℕ
-start_name capture = capture ++ codes "/start.cap"
+start_name folder = folder ++ codes "/start.cap"
 
-abbrev pub session_name : List ℕ → List ℕ
-session_name capture = capture ++ codes "/session-000.cap"
+-- a number below 1,000 in three digits, and what stands behind them
+abbrev pub in_three_digits : ℕ → List ℕ → List ℕ
+in_three_digits n rest = decimal (n / 100) ++ (decimal (n / 10 % 10) ++ (decimal (n % 10) ++ rest))
+
+abbrev pub session_name : List ℕ → ℕ → List ℕ
+session_name folder session = folder ++ (codes "/session-" ++ in_three_digits session (codes ".cap"))
+
+-- those of the first so many sessions
+abbrev pub session_names : List ℕ → ℕ → List (List ℕ)
+session_names folder zero = []
+session_names folder (suc n) = session_names folder n ++ session_name folder n ∷ []
 
 abbrev pub journal_name : List ℕ → List ℕ
-journal_name out = out ++ codes "/journal.txt"
+journal_name folder = folder ++ codes "/journal.txt"
 
 abbrev pub report_name : List ℕ → List ℕ
-report_name out = out ++ codes "/report.txt"
+report_name folder = folder ++ codes "/report.txt"
 
 abbrev pub tables_name : List ℕ → List ℕ
-tables_name out = out ++ codes "/tables.txt"
+tables_name folder = folder ++ codes "/tables.txt"
+
+abbrev pub requires_name : List ℕ → List ℕ
+requires_name folder = folder ++ codes "/requires.csv"

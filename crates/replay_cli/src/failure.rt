@@ -1,23 +1,39 @@
 //! Why a command did not do its work, with its line and its status.
 
-ghost use Rattle.std.specs.Prelude.{◌≡◌, ◌++◌, ◌∷◌, [], IfOk};
+ghost use Rattle.std.specs.Prelude.{◌≡◌, ◌++◌, ◌∷◌, [], IfOk, OnOk};
+ghost use Rattle.std.specs.Fmt.{decimal};
+ghost use Rattle.desk_files.specs.declared.fault.WriteErr.{WriteErr as Unwritten};
+ghost use Rattle.capture_format.specs.SessionFile.{number_text};
+ghost use Rattle.desk_values.specs.Text.{reply_text};
 ghost use Rattle.replay_cli.specs.declared.failure.Failure.TheVariants.{OutOfMemory};
-ghost use Rattle.replay_cli.specs.Lines.{failure_line, failure_status};
+ghost use Rattle.replay_cli.specs.Lines.{cause_text, failure_line, failure_status, refusal_line, refusal_status};
 
-use desk_values::{Bytes, List, Memory, Txt};
+use capture_format::append_reply;
+use desk_values::fields::append_u64;
+use desk_values::{Bytes, List, Memory, Reply, Txt};
+use prepare_plan::Refusal as Illegal;
 use std::alloc::Global;
+
+/// Why a command is refused, by its words and the files alone.
+#[derive(Drop)]
+pub enum Refusal {
+    /// There is no file of this name.
+    Missing(Txt),
+    /// The file of this name is too long.
+    TooLong(Txt),
+    /// The file of this name has this first line that may not stand there.
+    BadLine(Txt, u64),
+    /// The capture is not legal.
+    NotLegal(Illegal),
+}
 
 /// Why a command did not do its work.
 #[derive(Drop)]
 pub enum Failure {
     /// The words are no command.
     BadCommand,
-    /// The file of this name is too long, or of a form that is not replayed so far.
-    NotYet(Txt),
-    /// The capture is not legal.
-    BadCapture,
-    /// There is no file of this name.
-    Missing(Txt),
+    /// It is refused.
+    Refused(Refusal),
     /// A device failed.
     DeviceFault,
     /// Want of memory.
@@ -32,6 +48,32 @@ impl From<Memory> for Failure {
     }
 }
 
+impl Refusal {
+    /// The status that the program ends with.
+    pub fn status(&self) -> u8
+        ensures { result ≡ refusal_status self.now }
+    {
+        match self {
+            Refusal::Missing(_) => 4,
+            Refusal::TooLong(_) => 8,
+            Refusal::BadLine(_, _) => 3,
+            Refusal::NotLegal(_) => 3,
+        }
+    }
+
+    /// The line that the program prints.
+    pub fn line(&self, alloc: Global) -> Result<Bytes, Memory>
+        ensures { IfOk result (λ line. line ≡ refusal_line self.now) }
+    {
+        match self {
+            Refusal::Missing(name) => line_of(alloc, "missing: ", name.as_str()),
+            Refusal::TooLong(name) => line_of(alloc, "too long: ", name.as_str()),
+            Refusal::BadLine(name, line) => bad_line(alloc, name, *line),
+            Refusal::NotLegal(cause) => illegal_line(alloc, cause),
+        }
+    }
+}
+
 impl Failure {
     /// The status that the program ends with.
     pub fn status(&self) -> u8
@@ -39,9 +81,7 @@ impl Failure {
     {
         match self {
             Failure::BadCommand => 2,
-            Failure::NotYet(_) => 3,
-            Failure::BadCapture => 3,
-            Failure::Missing(_) => 4,
+            Failure::Refused(refusal) => refusal.status(),
             Failure::DeviceFault => 5,
             Failure::OutOfMemory => 6,
         }
@@ -53,9 +93,7 @@ impl Failure {
     {
         match self {
             Failure::BadCommand => line_of(alloc, "bad command", ""),
-            Failure::NotYet(name) => line_of(alloc, "not yet: ", name.as_str()),
-            Failure::BadCapture => line_of(alloc, "bad capture", ""),
-            Failure::Missing(name) => line_of(alloc, "missing: ", name.as_str()),
+            Failure::Refused(refusal) => refusal.line(alloc),
             Failure::DeviceFault => line_of(alloc, "device fault", ""),
             Failure::OutOfMemory => line_of(alloc, "out of memory", ""),
         }
@@ -71,4 +109,107 @@ fn line_of(alloc: Global, first: &str, second: &str) -> Result<Bytes, Memory>
     line.append(second.as_bytes())?;
     line.append(b"\n")?;
     Ok(line)
+}
+
+fn bad_line(alloc: Global, name: &Txt, number: u64) -> Result<Bytes, Memory>
+    ensures { IfOk result (λ line. line ≡ refusal_line (Refusal.BadLine name.now number)) }
+{
+    let mut line = List::new(alloc);
+    line.append(b"bad capture: ")?;
+    line.append(name.as_str().as_bytes())?;
+    line.append(b" line ")?;
+    append_u64(number, &mut line)?;
+    line.append(b"\n")?;
+    Ok(line)
+}
+
+fn illegal_line(alloc: Global, cause: &Illegal) -> Result<Bytes, Memory>
+    ensures { IfOk result (λ line. line ≡ refusal_line (Refusal.NotLegal cause.now)) }
+{
+    let mut line = List::new(alloc);
+    line.append(b"bad capture: ")?;
+    append_cause(cause, &mut line)?;
+    line.append(b"\n")?;
+    Ok(line)
+}
+
+/// Appends what is wrong with a capture.
+fn append_cause(cause: &Illegal, to: &mut Bytes) -> Result<(), Memory>
+    ensures { OnOk result (to.new ≡ to.old ++ cause_text cause.now) }
+{
+    match cause {
+        Illegal::TooMany { calls } => {
+            append_u64(*calls, to)?;
+            to.append(b" calls")
+        }
+        Illegal::Stamp { stamp } => append_at("stamp ", *stamp, to),
+        Illegal::Number {
+            stamp,
+            written,
+            right,
+        } => append_numbers(*stamp, *written, *right, to),
+        Illegal::Seen {
+            stamp,
+            written,
+            right,
+        } => append_seen(*stamp, *written, *right, to),
+        Illegal::Times { stamp } => append_at("times at stamp ", *stamp, to),
+        Illegal::Stranger { stamp } => append_at("unknown id at stamp ", *stamp, to),
+        Illegal::Reply {
+            stamp,
+            written,
+            right,
+        } => append_replies(*stamp, written, right, to),
+        Illegal::Memory => Ok(()),
+    }
+}
+
+/// Appends words and a stamp.
+fn append_at(words: &str, stamp: u32, to: &mut Bytes) -> Result<(), Memory>
+    ensures { OnOk result (to.new ≡ to.old ++ (words.now ++ decimal stamp)) }
+{
+    to.append(words.as_bytes())?;
+    append_u64(u64::from(stamp), to)
+}
+
+fn append_numbers(stamp: u32, written: u64, right: u64, to: &mut Bytes) -> Result<(), Memory>
+    ensures { OnOk result (to.new ≡ to.old ++ cause_text (Illegal.Number stamp written right)) }
+{
+    append_at("stamp ", stamp, to)?;
+    to.append(b" has number ")?;
+    append_number(written, to)?;
+    to.append(b", not ")?;
+    append_number(right, to)?;
+    Ok(())
+}
+
+/// Appends the number of a commit, `-` for none.
+fn append_number(number: u64, to: &mut Bytes) -> Result<(), Memory>
+    ensures { OnOk result (to.new ≡ to.old ++ number_text number) }
+{
+    if number == 0 {
+        to.append(b"-")
+    } else {
+        append_u64(number, to)
+    }
+}
+
+fn append_seen(stamp: u32, written: u64, right: u64, to: &mut Bytes) -> Result<(), Memory>
+    ensures { OnOk result (to.new ≡ to.old ++ cause_text (Illegal.Seen stamp written right)) }
+{
+    append_at("stamp ", stamp, to)?;
+    to.append(b" saw ")?;
+    append_u64(written, to)?;
+    to.append(b", not ")?;
+    append_u64(right, to)
+}
+
+fn append_replies(stamp: u32, written: &Reply, right: &Reply, to: &mut Bytes) -> Result<(), Memory>
+    ensures { OnOk result (to.new ≡ to.old ++ cause_text (Illegal.Reply stamp written.now right.now)) }
+{
+    append_at("stamp ", stamp, to)?;
+    to.append(b" replied ")?;
+    append_reply(written, to)?;
+    to.append(b", not ")?;
+    append_reply(right, to)
 }

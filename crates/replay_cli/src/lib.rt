@@ -5,14 +5,23 @@
 #![tactic(auto)]
 
 mod arguments;
+mod capture;
 mod failure;
-mod legality;
+mod job;
+pub mod laws;
 mod main_call;
+mod plan;
+mod reading;
 mod replay;
-mod run;
+mod running;
 mod texts;
 mod words;
 
 pub use arguments::{arguments_of, word_of};
+pub use capture::{Legal, Opened};
+pub use failure::{Failure, Refusal};
+pub use job::Job;
 pub use main_call::{replay_main, report_want_of_memory};
+pub use plan::Plan;
 pub use texts::{journal_text, report_text, tables_text};
+pub use words::Command;

@@ -1,47 +1,122 @@
 //! The words of a command, and the names of its files.
 
-ghost use Rattle.std.specs.Prelude.{◌≡◌, ◌↔◌, ◌≤◌, ◌++◌, ℕ, List, length, IfOk, IfSome, IfNone, IsTrue};
-ghost use Rattle.replay_cli.specs.Words.{IsPath, IsRunOf};
+ghost use Rattle.std.specs.Prelude.{◌≡◌, ◌≤◌, ◌<◌, ◌++◌, length, IfOk, IfSome};
+ghost use Rattle.replay_cli.specs.Command as command;
+ghost use Rattle.replay_cli.specs.Command.{IsCallCount, IsWithinLimits};
+ghost use Rattle.replay_cli.specs.Words as name;
 
-use desk_values::{Bytes, List as Items, Memory, Txt, TxtErr};
+use desk_values::fields::read_u64;
+use desk_values::{Bytes, Copied, List, Memory, Txt, TxtErr};
 use std::alloc::Global;
 
 /// The longest path that a word may name.
 const PATH_LIMIT: usize = 900;
 
-/// The folders of a `run` command: the capture's and the one that is written.
-#[derive(Clone, Copy)]
-pub struct Folders<'a> {
-    /// Where the capture is.
-    pub capture: &'a Txt,
-    /// Where the replay's files are written.
-    pub out: &'a Txt,
+/// The greatest number of calls that are generated.
+const GENERATED_LIMIT: u64 = 10_000;
+
+/// A command.
+#[derive(Drop)]
+pub enum Command {
+    /// `run CAPTURE OUT`: replays a capture.
+    Run(Txt, Txt),
+    /// `prepare CAPTURE OUT`: writes which calls wait for which.
+    Prepare(Txt, Txt),
+    /// `generate N OUT`: writes a capture of so many calls.
+    Generate(u32, Txt),
+    /// `trial N`: makes that capture and replays it without pauses.
+    Trial(u32),
 }
 
-/// The folders that the words name, if they are `run CAPTURE OUT`.
-pub fn folders_of(words: &[Txt]) -> Option<Folders<'_>>
-    ensures some { IfSome result (λ folders. IsRunOf words.now folders.capture.now folders.out.now) }
-    ensures limit { IfSome result (λ folders. (length folders.capture.now ≤ 900) × (length folders.out.now ≤ 900)) }
-    ensures none { IfNone result ((capture out : List ℕ) → ¬ IsRunOf words.now capture out) }
+/// The command that the words are, if they are one.
+pub fn command_of(words: &[Txt]) -> Result<Option<Command>, Memory>
+    ensures value { IfOk result (λ found. found ≡ command.command_of words.now) }
+    ensures limits { IfOk result (λ found. IfSome found IsWithinLimits) }
 {
-    let [command, capture, out] = words else {
-        return None;
-    };
-    if command.as_str() != "run" {
-        return None;
+    match words {
+        [word, others @ ..] => command_with(word, others),
+        [] => Ok(None),
     }
-    if !is_path(capture) {
-        return None;
+}
+
+fn command_with(word: &Txt, others: &[Txt]) -> Result<Option<Command>, Memory>
+    ensures value { IfOk result (λ found. found ≡ command.command_with word.now others.now) }
+    ensures limits { IfOk result (λ found. IfSome found IsWithinLimits) }
+{
+    if word.as_str() == "run" {
+        run_of(others)
+    } else if word.as_str() == "prepare" {
+        prepare_of(others)
+    } else if word.as_str() == "generate" {
+        generate_of(others)
+    } else if word.as_str() == "trial" {
+        Ok(trial_of(others))
+    } else {
+        Ok(None)
     }
-    if !is_path(out) {
-        return None;
+}
+
+fn run_of(words: &[Txt]) -> Result<Option<Command>, Memory>
+    ensures value { IfOk result (λ found. found ≡ command.run_of words.now) }
+    ensures limits { IfOk result (λ found. IfSome found IsWithinLimits) }
+{
+    match words {
+        [capture, out] if is_path(capture) && is_path(out) => {
+            Ok(Some(Command::Run(capture.copy()?, out.copy()?)))
+        }
+        _ => Ok(None),
     }
-    Some(Folders { capture, out })
+}
+
+fn prepare_of(words: &[Txt]) -> Result<Option<Command>, Memory>
+    ensures value { IfOk result (λ found. found ≡ command.prepare_of words.now) }
+    ensures limits { IfOk result (λ found. IfSome found IsWithinLimits) }
+{
+    match words {
+        [capture, out] if is_path(capture) && is_path(out) => {
+            Ok(Some(Command::Prepare(capture.copy()?, out.copy()?)))
+        }
+        _ => Ok(None),
+    }
+}
+
+fn generate_of(words: &[Txt]) -> Result<Option<Command>, Memory>
+    ensures value { IfOk result (λ found. found ≡ command.generate_of words.now) }
+    ensures limits { IfOk result (λ found. IfSome found IsWithinLimits) }
+{
+    match words {
+        [calls, out] if is_path(out) => match calls_of(calls) {
+            Some(calls) => Ok(Some(Command::Generate(calls, out.copy()?))),
+            None => Ok(None),
+        },
+        _ => Ok(None),
+    }
+}
+
+fn trial_of(words: &[Txt]) -> Option<Command>
+    ensures value { result ≡ command.trial_of words.now }
+    ensures limits { IfSome result IsWithinLimits }
+{
+    match words {
+        [calls] => calls_of(calls).map(Command::Trial),
+        _ => None,
+    }
+}
+
+/// How many calls the word says: 1 to 10,000 in digits, without a leading zero.
+fn calls_of(word: &Txt) -> Option<u32>
+    ensures value { result ≡ command.calls_of word.now }
+    ensures limits { IfSome result IsCallCount }
+{
+    match read_u64(word.as_str().as_bytes()) {
+        Some(calls) if calls >= 1 && calls <= GENERATED_LIMIT => Some(calls as u32),
+        _ => None,
+    }
 }
 
 /// Whether the word is a path: 1 to 900 bytes, of which the first is no `-`.
 fn is_path(word: &Txt) -> bool
-    ensures { IsTrue result ↔ IsPath word.now }
+    ensures { result ≡ command.is_path word.now }
 {
     match word.as_str().as_bytes() {
         [first, ..] => *first != b'-' && word.as_str().len() <= PATH_LIMIT,
@@ -53,9 +128,9 @@ fn is_path(word: &Txt) -> bool
 pub fn name_in(alloc: Global, folder: &Txt, file: &str) -> Result<Txt, Memory>
     requires folder { length folder.now ≤ 900 }
     requires file { length file.now ≤ 100 }
-    ensures { IfOk result (λ name. name ≡ folder.now ++ file.now) }
+    ensures { IfOk result (λ found. found ≡ folder.now ++ file.now) }
 {
-    let mut name: Bytes = Items::new(alloc);
+    let mut name: Bytes = List::new(alloc);
     name.append(folder.as_str().as_bytes())?;
     name.append(file.as_bytes())?;
     match Txt::from_bytes(alloc, name.as_slice()) {
@@ -64,4 +139,28 @@ pub fn name_in(alloc: Global, folder: &Txt, file: &str) -> Result<Txt, Memory>
         Err(TxtErr::TooLong) => unreachable!(),
         Err(TxtErr::NotUtf8) => unreachable!(),
     }
+}
+
+/// The name of a session's file in a folder, with the session's number in three digits.
+pub fn session_name(alloc: Global, folder: &Txt, session: u32) -> Result<Txt, Memory>
+    requires folder { length folder.now ≤ 900 }
+    requires session { session < 1000 }
+    ensures { IfOk result (λ found. found ≡ name.session_name folder.now session) }
+{
+    let (hundreds, tens, ones) = (session / 100, session / 10 % 10, session % 10);
+    let file = format!(in alloc; "/session-{hundreds}{tens}{ones}.cap")?;
+    name_in(alloc, folder, file.as_str())
+}
+
+/// The names of the files of the first so many sessions.
+pub fn session_names(alloc: Global, folder: &Txt, count: u32) -> Result<List<Txt>, Memory>
+    requires folder { length folder.now ≤ 900 }
+    requires count { count ≤ 1000 }
+    ensures { IfOk result (λ names. names ≡ name.session_names folder.now count) }
+{
+    let mut names = List::new(alloc);
+    for session in 0..count {
+        names.push(session_name(alloc, folder, session)?)?;
+    }
+    Ok(names)
 }

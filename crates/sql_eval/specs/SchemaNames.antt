@@ -21,7 +21,7 @@ number_of names name = unwrap_or (place_ignoring_case names name) 0
 -- ---- tables
 
 -- the table of a statement
-abbrev pub table_of : Plan Name → Option (List ℕ)
+abbrev pub table_of : {N : Type 0} → Plan N → Option N
 table_of (source.select table asked condition keys held) = Some table
 table_of (source.next sequence) = None
 table_of (source.insert table named inputs) = Some table

@@ -5,6 +5,7 @@ use Rattle.sql_tree.specs.declared.tree.Op.TheVariants as op
 use Rattle.sql_tree.specs.declared.tree.Key.{Key}
 use Rattle.sql_tree.specs.Plain.{Name}
 use Rattle.sql_reader.specs.declared.part.Part.{Part}
+use Rattle.sql_reader.specs.declared.sentences.TheConstants.{LIST_LIMIT, NESTING_LIMIT}
 use Rattle.sql_reader.specs.declared.part.Part.TheVariants.{Disjunction, Conjunction, Negation, Comparison, Sum, Product, Factor, Primary}
 use Rattle.desk_values.specs.declared.keyword.Keyword.TheVariants as word
 use Rattle.sql_reader.specs.declared.token.Sign.TheVariants as sign
@@ -93,18 +94,18 @@ pub data Reads : Part → ℕ → List Token → Term Name → Type 0 where
   rowid_ : {d : ℕ} → Reads Primary d (token.Word word.Rowid ∷ []) rowid
   parentheses : {d : ℕ} {ts : List Token} {e : Term Name} → Reads Disjunction d ts e → Reads Primary (suc d) (token.Sign sign.Open ∷ (ts ++ token.Sign sign.Close ∷ [])) e
 
--- an expression, nested at most 32 deep
+-- an expression, nested no deeper than the limit
 abbrev pub IsExpression : List Token → Term Name → Type 0
-IsExpression ts e = Reads Disjunction 32 ts e
+IsExpression ts e = Reads Disjunction NESTING_LIMIT ts e
 
 -- members with commas between them
 pub data Joined {A : Type 0} (IsMember : List Token → A → Type 0) : List Token → List A → Type 0 where
   last : {ts : List Token} {x : A} → IsMember ts x → Joined IsMember ts (x ∷ [])
   more : {ts us : List Token} {x : A} {xs : List A} → IsMember ts x → Joined IsMember us xs → Joined IsMember (ts ++ token.Sign sign.Comma ∷ us) (x ∷ xs)
 
--- a list is no longer than 16
+-- a list is no longer than the limit
 abbrev pub IsList : {A : Type 0} → (List Token → A → Type 0) → List Token → List A → Type 0
-IsList IsMember ts xs = Joined IsMember ts xs × (length xs ≤ 16)
+IsList IsMember ts xs = Joined IsMember ts xs × (length xs ≤ LIST_LIMIT)
 
 -- one name
 pub data IsName : List Token → List ℕ → Type 0 where

@@ -6,6 +6,8 @@ use Rattle.std.specs.Str.Parse.{digits_value}
 use Rattle.std.specs.Fmt.{decimal}
 use Rattle.desk_values.specs.Good.{IsTxt}
 use Rattle.desk_values.specs.declared.keyword.Keyword.{Keyword}
+use Rattle.desk_values.specs.declared.keyword.TheConstants.{NAME_LIMIT}
+use Rattle.desk_values.specs.declared.value.TheConstants.{BIND_LIMIT}
 use Rattle.sql_reader.specs.declared.token.Sign.{Sign}
 use Rattle.sql_reader.specs.declared.token.Sign.TheVariants as sign
 use Rattle.sql_reader.specs.declared.token.Token.{Token}
@@ -42,12 +44,12 @@ quoted byte = if byte == 39 then 39 ∷ 39 ∷ [] else byte ∷ []
 -- the bytes are one token
 pub data Lexeme : List ℕ → Token → Type 0 where
   word : {bytes : List ℕ} {keyword : Keyword} → is_word bytes ≡ true → folded bytes ≡ keyword_word keyword → Lexeme bytes (token.Word keyword)
-  -- a name is no longer than 30 bytes, and no word of the language
-  name : {bytes : List ℕ} → is_word bytes ≡ true → ((keyword : Keyword) → folded bytes ≢ keyword_word keyword) → length bytes ≤ 30 → Lexeme bytes (token.Name (folded bytes))
+  -- a name is no longer than its limit, and no word of the language
+  name : {bytes : List ℕ} → is_word bytes ≡ true → ((keyword : Keyword) → folded bytes ≢ keyword_word keyword) → length bytes ≤ NAME_LIMIT → Lexeme bytes (token.Name (folded bytes))
   number : {bytes : List ℕ} → is_numeral bytes ≡ true → digits_value 10 bytes < 2 ^ 63 → Lexeme bytes (token.Number (pos (digits_value 10 bytes)))
   string : {bytes : List ℕ} → IsTxt bytes → Lexeme (39 ∷ (flat_map quoted bytes ++ 39 ∷ [])) (token.Text bytes)
-  -- binds count from 1 to 16
-  bind : {n : ℕ} → 1 ≤ n → n ≤ 16 → Lexeme (58 ∷ decimal n) (token.Bind n)
+  -- binds count from 1
+  bind : {n : ℕ} → 1 ≤ n → n ≤ BIND_LIMIT → Lexeme (58 ∷ decimal n) (token.Bind n)
   mark : {s : Sign} → Lexeme (sign_text s) (token.Sign s)
   other_not_equal : Lexeme (codes "!=") (token.Sign sign.NotEqual)
 

@@ -6,6 +6,9 @@ use Rattle.std.specs.List.{find, prefix_len, cons_option}
 use Rattle.std.specs.Char.{is_ascii_alphabetic, is_ascii_digit}
 use Rattle.std.specs.Str.{is_utf8, bytes_eq}
 use Rattle.desk_values.specs.declared.keyword.Keyword.{Keyword}
+use Rattle.desk_values.specs.declared.keyword.TheConstants.{NAME_LIMIT}
+use Rattle.desk_values.specs.declared.text.TheConstants.{TEXT_LIMIT}
+use Rattle.sql_reader.specs.declared.sentences.TheConstants.{LIST_LIMIT, NESTING_LIMIT}
 use Rattle.sql_reader.specs.declared.token.Sign.{Sign}
 use Rattle.sql_reader.specs.declared.token.Sign.TheVariants as sign
 use Rattle.sql_reader.specs.declared.token.Token.{Token}
@@ -32,7 +35,7 @@ all_signs = sign.NotEqual ∷ sign.LessOrEqual ∷ sign.GreaterOrEqual ∷ sign.
 
 -- the bytes, if they are a text of the desk
 unfoldable pub txt_at : List ℕ → Option (List ℕ)
-txt_at bytes = if nat_le (length bytes) 1000 && is_utf8 bytes then Some bytes else None
+txt_at bytes = if nat_le (length bytes) TEXT_LIMIT && is_utf8 bytes then Some bytes else None
 
 -- the word of the language that the bytes are
 abbrev pub keyword_at : List ℕ → Option Keyword
@@ -40,7 +43,7 @@ keyword_at bytes = member_with_word keyword_word all_keywords bytes
 
 abbrev pub name_or : Option Keyword → List ℕ → Option Token
 name_or (Some keyword) bytes = Some (token.Word keyword)
-name_or None bytes = if nat_lt 30 (length bytes) then None else (txt_at bytes >>= λ name. Some (token.Name name))
+name_or None bytes = if nat_lt NAME_LIMIT (length bytes) then None else (txt_at bytes >>= λ name. Some (token.Name name))
 
 -- a word of the language or a name
 unfoldable pub word_at : List ℕ → Option Token
@@ -245,7 +248,7 @@ part_at depth part ts = part_in (inner_at depth) part ts
 
 -- a whole expression
 abbrev pub expression_at : List Token → Option (Term Name × List Token)
-expression_at ts = part_at 32 Disjunction ts
+expression_at ts = part_at NESTING_LIMIT Disjunction ts
 
 -- at most n members with commas between them
 unfoldable pub list_at : {A : Type 0} → (List Token → Option (A × List Token)) → ℕ → List Token → Option (List A × List Token)
@@ -306,7 +309,7 @@ unfoldable pub where_at : List Token → Option (Option (Term Name) × List Toke
 where_at ts = cases (after_word word.Where ts) (Some (None, ts)) (λ after. expression_at after >>= λ x. Some (Some x.0, x.1))
 
 unfoldable pub order_at : List Token → Option (List (Key Name) × List Token)
-order_at ts = cases (after_word word.Order ts) (Some ([], ts)) (λ after. after_word word.By after >>= λ keys. list_at key_at 16 keys)
+order_at ts = cases (after_word word.Order ts) (Some ([], ts)) (λ after. after_word word.By after >>= λ keys. list_at key_at LIST_LIMIT keys)
 
 unfoldable pub for_update_at : List Token → Option (Bool × List Token)
 for_update_at ts = cases (after_word word.For ts) (Some (false, ts)) (λ after. after_word word.Update after >>= λ rest. Some (true, rest))
@@ -328,7 +331,7 @@ begins_aggregate other = false
 
 unfoldable pub aggregates_at : List Token → Option (Plan Name × List Token)
 aggregates_at ts = do
-  items ← list_at aggregate_at 16 ts
+  items ← list_at aggregate_at LIST_LIMIT ts
   table ← from_at items.1
   condition ← where_at table.1
   Some (select table.0 (totals items.0) condition.0 [] false, condition.1)
@@ -343,7 +346,7 @@ rows_at items ts = do
   Some (select table.0 items condition.0 keys.0 held.0, held.1)
 
 abbrev pub listed_at : List Token → Option (Plan Name × List Token)
-listed_at ts = list_at expression_at 16 ts >>= λ items. rows_at (values items.0) items.1
+listed_at ts = list_at expression_at LIST_LIMIT ts >>= λ items. rows_at (values items.0) items.1
 
 -- FROM DUAL
 unfoldable pub dual_at : List Token → Option (List Token)
@@ -356,13 +359,13 @@ unfoldable pub select_at : List Token → Option (Plan Name × List Token)
 select_at ts = cases (draw_at ts) (items_at ts) (λ x. dual_at x.1 >>= λ rest. Some (next x.0, rest))
 
 unfoldable pub columns_at : List Token → Option (Option (List (List ℕ)) × List Token)
-columns_at ts = cases (after_sign sign.Open ts) (Some (None, ts)) (λ inside. list_at name_at 16 inside >>= λ names. after_sign sign.Close names.1 >>= λ rest. Some (Some names.0, rest))
+columns_at ts = cases (after_sign sign.Open ts) (Some (None, ts)) (λ inside. list_at name_at LIST_LIMIT inside >>= λ names. after_sign sign.Close names.1 >>= λ rest. Some (Some names.0, rest))
 
 unfoldable pub inputs_at : List Token → Option (List (Entry Name) × List Token)
 inputs_at ts = do
   after ← after_word word.Values ts
   inside ← after_sign sign.Open after
-  inputs ← list_at input_at 16 inside
+  inputs ← list_at input_at LIST_LIMIT inside
   rest ← after_sign sign.Close inputs.1
   Some (inputs.0, rest)
 
@@ -378,7 +381,7 @@ unfoldable pub update_at : List Token → Option (Plan Name × List Token)
 update_at ts = do
   table ← name_at ts
   after ← after_word word.Set table.1
-  settings ← list_at setting_at 16 after
+  settings ← list_at setting_at LIST_LIMIT after
   condition ← where_at settings.1
   Some (update table.0 settings.0 condition.0, condition.1)
 

@@ -37,7 +37,7 @@ trait Member: Drop + Sized {
 
 // One to 16 members with commas between them.
 fn list<T: Member>(alloc: Global, tokens: &[Token]) -> Result<(List<T>, &[Token]), SqlErr>
-    ensures { Gives (λ x. (map T.view x.0, x.1.now)) result (list_at T.reading 16 tokens.now) }
+    ensures { Gives (λ x. (map T.view x.0, x.1.now)) result (list_at T.reading LIST_LIMIT tokens.now) }
 {
     let mut list = List::new(alloc);
     let mut rest = tokens;

@@ -10,7 +10,7 @@ use Rattle.machine_model.specs.Causes.{first_causes, ranked}
 use Rattle.machine_model.specs.View.{View, is_held}
 use Rattle.machine_model.specs.Found.{Environment, matches, matching, where_faults}
 use Rattle.machine_model.specs.Answer.{delete_causes}
-use Rattle.machine_model.specs.Parts.{too_many_rows}
+use Rattle.machine_model.specs.Answer.{too_many_rows}
 use Rattle.machine_model.specs.Decision.{view_of_seen}
 use Rattle.machine_model.proofs.Adding.{any_filtered}
 use Rattle.machine_model.proofs.Refusing.{first_of, first_told, rest_told}

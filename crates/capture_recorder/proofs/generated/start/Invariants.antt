@@ -1,0 +1,5 @@
+use Rattle.capture_recorder.specs.Declaring.{IsDeclaring}
+use Rattle.capture_recorder.proofs.generated.start.Given as goal
+
+abbrev pub invariant-loop-k : goal.invariant-loop-k
+invariant-loop-k l = IsDeclaring l.draft l.k

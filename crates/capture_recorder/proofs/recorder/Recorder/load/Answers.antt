@@ -1,0 +1,13 @@
+use Rattle.std.proofs.Common.{◌≡◌, ◌∙◌, rules, sym, ap}
+use Rattle.desk_schema.specs.Start.{StartView}
+use Rattle.machine_model.specs.State.{opening}
+use Rattle.machine_model.specs.Machine.{Running}
+use Rattle.capture_recorder.proofs.Keeping.{keeps_loaded}
+use Rattle.capture_recorder.proofs.recorder.Recorder.load.Goals as goal
+
+pub invariant_of-result : goal.invariant_of-result
+invariant_of-result c =
+    let start = c.in_ok-start.start in
+    let engine = c.in_ok-engine.engine in
+    let first : engine ≡ record { state = opening start; steps = 0 } = c.in_ok-engine.ensures ∙ ap (λ (s : StartView). let r : Running = record { state = opening s; steps = 0 } in r) (sym c.in_ok-start.ensures) in
+    keeps_loaded start c.new.result.items engine c.in_ok-sessions.sessions.items c.new.ensures first (search rules)

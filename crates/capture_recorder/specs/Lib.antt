@@ -1,0 +1,5 @@
+pub mod Sessions
+pub mod Recording
+pub mod Keeping
+pub mod Generated
+pub mod Declaring

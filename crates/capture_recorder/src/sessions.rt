@@ -1,0 +1,44 @@
+//! The calls of each session.
+
+ghost use Rattle.std.specs.Prelude.{◌≡◌, ◌++◌, ℕ, drop, IfOk, OnOk, map};
+ghost use Rattle.capture_recorder.specs.Recording.{IsRecording, Recording};
+ghost use Rattle.capture_recorder.specs.Sessions.{AreSessions, calls_of, session_lists};
+
+use desk_values::{CallList, Captured, Copied, List, Memory, SessionLists};
+use std::alloc::Global;
+
+/// The calls of each session below `count`, in their order. Where they are those of a recorder, each list can be written
+/// as the file of its session.
+pub fn sessions_of(alloc: Global, calls: &CallList, count: u32) -> Result<SessionLists, Memory>
+    ensures lists { IfOk result (λ lists. map (λ list. list.items) lists ≡ session_lists count calls.now.items) }
+    ensures files { IfOk result (λ lists. (r : Recording) → IsRecording r → r.calls ≡ calls.now.items → AreSessions 0 (map (λ list. list.items) lists)) }
+{
+    know_lists();
+    let mut lists = List::new(alloc);
+    for session in 0..count {
+        lists.push(session_calls(alloc, calls.as_slice(), session)?)?;
+    }
+    Ok(lists)
+}
+
+/// The calls of a session, in their order.
+pub(crate) fn session_calls(
+    alloc: Global,
+    calls: &[Captured],
+    session: u32,
+) -> Result<CallList, Memory>
+    ensures { IfOk result (λ list. list.items ≡ calls_of session calls.now) }
+{
+    let mut list = CallList::new(alloc);
+    for call in calls {
+        if call.session == session {
+            list.push(call.copy()?)?;
+        }
+    }
+    Ok(list)
+}
+
+/// The calls of each session of a recorder have a file. It costs nothing.
+fn know_lists()
+    ensures { (r : Recording) (count : ℕ) → IsRecording r → AreSessions 0 (session_lists count r.calls) }
+{}

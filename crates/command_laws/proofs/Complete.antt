@@ -1,0 +1,60 @@
+-- The steps of a command go through where the files are a capture.
+use Rattle.std.proofs.Common.{◌≡◌, ℕ, ◌+◌, ◌-◌, ◌≤◌, List, [], ◌∷◌, length, Option, Some, Ok, refl, sym, ap, subst, ◌∙◌, arith}
+use Rattle.std.proofs.lemmas.Bool.{le-ltb}
+use Rattle.desk_values.specs.declared.capture.Captured.{Captured}
+use Rattle.desk_files.specs.Outside.{FileMap}
+use Rattle.desk_files.specs.declared.files.TheConstants.{FILE_LIMIT}
+use Rattle.capture_format.specs.declared.start.StartFile.{StartFile}
+use Rattle.prepare_plan.specs.Lists.{all_calls, by_stamp}
+use Rattle.prepare_plan.specs.Verdict.{Plan, verdict}
+use Rattle.legality_law.specs.First.{plan_of}
+use Rattle.legality_law.proofs.Taken.{plan_given}
+use Rattle.replay_cli.specs.declared.words.Command.{Command}
+use Rattle.replay_cli.specs.declared.words.Command.TheVariants.{Run, Prepare}
+use Rattle.replay_cli.specs.Command.{command_of}
+use Rattle.replay_cli.specs.Decision.{Decides, LegalIn, SessionOf, Task, ToReplay, ToTell, Verdict, VerdictOf}
+use Rattle.replay_cli.specs.Steps.{Reading, file_in, file_of}
+use Rattle.replay_cli.specs.Words.{session_names, start_name}
+use Rattle.command_laws.specs.Complete.{AreCapture, AreThere, CapturesArePrepared, CapturesAreReplayed, IsThere, LegalCapturesAreReplayed, capture_limit, total}
+
+-- a file that is there is read where there is room
+file_read : (files : FileMap) (room : ℕ) (name bytes : List ℕ) → IsThere files name bytes → length bytes ≤ room → file_in files room name ≡ Ok bytes
+file_read files room name bytes there small =
+    ap (λ (file : Option (List ℕ)). file_of file room name) there.0
+    ∙ rw (le-ltb FILE_LIMIT (length bytes) there.1, le-ltb room (length bytes) small) refl
+
+-- so are those of the sessions
+all_read : (files : FileMap) (room session : ℕ) (names texts : List (List ℕ)) (lists : List (List Captured)) → AreThere files session names texts lists → total texts ≤ room → Reading SessionOf files room session names (Ok lists)
+all_read files room session [] [] [] there small = refl
+all_read files room session (name ∷ names) (bytes ∷ texts) (calls ∷ lists) there small =
+    (bytes, file_read files room name bytes there.0 (omega (arith, small)), (calls, there.1, (lists, all_read files (room - length bytes) (session + 1) names texts lists there.2 (omega (arith, small)), refl)))
+all_read files room session [] (bytes ∷ texts) lists there small = absurd there
+all_read files room session [] [] (calls ∷ lists) there small = absurd there
+all_read files room session (name ∷ names) [] lists there small = absurd there
+all_read files room session (name ∷ names) (bytes ∷ texts) [] there small = absurd there
+
+-- and the capture is legal as it was decided
+capture_read : (files : FileMap) (folder : List ℕ) (file : StartFile) (lists : List (List Captured)) (plan : Plan) → AreCapture files folder file lists → verdict file.start lists ≡ Ok plan
+    → LegalIn files folder (Ok (record { start = file.start; calls = plan.calls; facts = plan.facts }))
+capture_read files folder file lists plan are is =
+    let room : length are.bytes ≤ capture_limit = omega (arith, are.together) in
+    let left : total are.texts ≤ capture_limit - length are.bytes = omega (arith, are.together) in (
+      record { file = file; left = capture_limit - length are.bytes },
+      (are.bytes, file_read files capture_limit (start_name folder) are.bytes are.there room, (file, are.start, refl)),
+      (lists, all_read files (capture_limit - length are.bytes) 0 (session_names folder file.sessions) are.texts lists are.sessions left, (refl, is)),
+    )
+
+decided : (words : List (List ℕ)) (files : FileMap) (command : Command) (task : Task) → command_of words ≡ Some command → Decides command files (Ok task) → Verdict words files (Ok task)
+decided words files command task is h = subst (λ (c : Option Command). VerdictOf c files (Ok task)) (sym is) h
+
+pub replayed : CapturesAreReplayed
+replayed words files folder out file lists plan command are is =
+    decided words files (Run folder out) (ToReplay out file.start plan.calls) command (record { start = file.start; calls = plan.calls; facts = plan.facts }, capture_read files folder file lists plan are is, refl)
+
+pub prepared : CapturesArePrepared
+prepared words files folder out file lists plan command are is =
+    decided words files (Prepare folder out) (ToTell out plan.facts) command (record { start = file.start; calls = plan.calls; facts = plan.facts }, capture_read files folder file lists plan are is, refl)
+
+pub legal_replayed : LegalCapturesAreReplayed
+legal_replayed words files folder out file lists command are can =
+    replayed words files folder out file lists (plan_of file.start (by_stamp (all_calls lists))) command are (plan_given file.start lists can.0 can.1 can.2)

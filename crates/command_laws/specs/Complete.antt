@@ -1,0 +1,59 @@
+-- When the files of a folder are a capture, told without the steps of a command.
+use Rattle.std.specs.Prelude.{◌≡◌, ℕ, ◌+◌, ◌≤◌, List, [], ◌∷◌, length, Some, Ok}
+use Rattle.std.specs.FinMap.{get}
+use Rattle.desk_values.specs.declared.capture.Captured.{Captured}
+use Rattle.desk_files.specs.Outside.{FileMap}
+use Rattle.desk_files.specs.declared.files.TheConstants.{FILE_LIMIT}
+use Rattle.capture_format.specs.declared.start.StartFile.{StartFile}
+use Rattle.capture_format.specs.StartFile.{IsStartFile}
+use Rattle.capture_format.specs.SessionFile.{IsSessionFile}
+use Rattle.prepare_plan.specs.Lists.{all_calls, by_stamp}
+use Rattle.prepare_plan.specs.Verdict.{CanBeLegal, Plan, verdict}
+use Rattle.replay_cli.specs.declared.words.Command.TheVariants.{Run, Prepare}
+use Rattle.replay_cli.specs.Command.{command_of}
+use Rattle.replay_cli.specs.Decision.{Verdict, ToReplay, ToTell}
+use Rattle.replay_cli.specs.Words.{session_names, start_name}
+
+-- the file of this name is there, with these bytes, and within the limit of one file
+abbrev pub IsThere : FileMap → List ℕ → List ℕ → Type 0
+IsThere files name bytes = (get files name ≡ Some bytes) × (length bytes ≤ FILE_LIMIT)
+
+-- the files of these names are those of the sessions from this one on, with these calls
+abbrev pub AreThere : FileMap → ℕ → List (List ℕ) → List (List ℕ) → List (List Captured) → Type 0
+AreThere files session [] [] [] = Unit {0}
+AreThere files session (name ∷ names) (bytes ∷ texts) (calls ∷ lists) = IsThere files name bytes × IsSessionFile session bytes calls × AreThere files (session + 1) names texts lists
+AreThere files session names texts lists = ⊥
+
+-- how many bytes the files of a capture have together at most
+abbrev pub capture_limit : ℕ
+capture_limit = 268435456
+
+-- how many bytes the texts have together
+abbrev pub total : List (List ℕ) → ℕ
+total [] = 0
+total (bytes ∷ texts) = length bytes + total texts
+
+-- the files of a folder are this start and these calls of its sessions
+pub record AreCapture (files : FileMap) (folder : List ℕ) (file : StartFile) (lists : List (List Captured)) : Type 0 where
+  pub bytes : List ℕ
+  pub texts : List (List ℕ)
+  pub there : IsThere files (start_name folder) bytes
+  pub start : IsStartFile bytes file
+  pub sessions : AreThere files 0 (session_names folder file.sessions) texts lists
+  pub together : length bytes + total texts ≤ capture_limit
+
+abbrev pub CapturesAreReplayed : Type 0
+CapturesAreReplayed = (words : List (List ℕ)) (files : FileMap) (folder out : List ℕ) (file : StartFile) (lists : List (List Captured)) (plan : Plan)
+    → command_of words ≡ Some (Run folder out) → AreCapture files folder file lists → verdict file.start lists ≡ Ok plan
+    → Verdict words files (Ok (ToReplay out file.start plan.calls))
+
+abbrev pub CapturesArePrepared : Type 0
+CapturesArePrepared = (words : List (List ℕ)) (files : FileMap) (folder out : List ℕ) (file : StartFile) (lists : List (List Captured)) (plan : Plan)
+    → command_of words ≡ Some (Prepare folder out) → AreCapture files folder file lists → verdict file.start lists ≡ Ok plan
+    → Verdict words files (Ok (ToTell out plan.facts))
+
+-- where some order of the calls is a legal capture, they are replayed by stamp
+abbrev pub LegalCapturesAreReplayed : Type 0
+LegalCapturesAreReplayed = (words : List (List ℕ)) (files : FileMap) (folder out : List ℕ) (file : StartFile) (lists : List (List Captured))
+    → command_of words ≡ Some (Run folder out) → AreCapture files folder file lists → CanBeLegal file.start (all_calls lists)
+    → Verdict words files (Ok (ToReplay out file.start (by_stamp (all_calls lists))))

@@ -1,0 +1,28 @@
+use Rattle.std.proofs.Common.{◌≡◌, ◌<◌, refl, length}
+use Rattle.std.proofs.lemmas.Bool.{leb-true, le-leb}
+use Rattle.object_depends.specs.Facts.{fact_at}
+use Rattle.commit_gate.proofs.Readiness.{by_scn, by_object, by_order}
+use Rattle.commit_gate.proofs.gate.Gate.marks_passed.Goals as goal
+
+pub returns-in-Off : goal.returns-in-Off
+returns-in-Off c = rw (← c.self.view_is, c.in-Off.is) (λ _ j required. absurd cc, λ _. refl)
+
+pub returns-in-Scn : goal.returns-in-Scn
+returns-in-Scn c =
+    let stamp : c.args.k < length c.self.inside.facts = rw (← c.self.view_is) at c.requires.stamp in
+    let both = by_scn c.self.inside c.self.invariant c.args.k stamp in
+    rw (← c.self.view_is, c.in-Scn.is) (λ is. both.0 (leb-true _ _ is), λ all. le-leb _ _ (both.1 all))
+
+pub returns-in-Object : goal.returns-in-Object
+returns-in-Object c =
+    let stamp : c.args.k < length c.self.inside.facts = rw (← c.self.view_is) at c.requires.stamp in
+    let refs : c.args.refs ≡ (fact_at c.self.inside.facts c.args.k).refs = rw (← c.self.view_is) at c.requires.refs in
+    let passed = rw (c.as_slice.ensures.value, refs) at c.tables_passed.ensures in
+    let both = by_object c.self.inside c.self.invariant c.args.k stamp in
+    rw (← c.self.view_is, c.in-Object.is) (λ is. both.0 (passed.0 is), λ all. passed.1 (both.1 all))
+
+pub returns-in-Order : goal.returns-in-Order
+returns-in-Order c =
+    let stamp : c.args.k < length c.self.inside.facts = rw (← c.self.view_is) at c.requires.stamp in
+    let both = by_order c.self.inside c.self.invariant c.args.k stamp in
+    rw (← c.self.view_is, c.in-Order.is) (λ is. both.0 (leb-true _ _ is), λ all. le-leb _ _ (both.1 all))

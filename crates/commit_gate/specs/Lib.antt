@@ -1,0 +1,4 @@
+pub mod Heads
+pub mod Marks
+pub mod Gates
+pub mod Inside

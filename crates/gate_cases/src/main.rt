@@ -1,0 +1,140 @@
+//! Cases of which call may go next in a replay, as lines; laws over random captures; and what a bench drives.
+//!
+//! - `case NAME`: a new case, with no calls
+//! - `fact SESSION SEEN NUMBER REFS WRITES`: a call more; its tables are `-`, `all`, or numbers joined by `,`
+//! - `csv`: the file `requires.csv` of these calls
+//! - `required MODE K`: the stamps that a call requires, how many they are and the last
+//! - `gate MODE`: a gate, where no call is started; then `start K`, `answer K`, `ready` (all ready stamps), `pick S,S`,
+//!   `first`, `done S,S`, `mark`, `table T`
+//! - `random ROUNDS`: laws over random calls, events and gates
+//! - `bench MODE N`: how many events a gate of N calls took
+//!
+//! Enters: lines of the standard input. Leaves: lines. It touches the standard input and output alone. The expected lines
+//! were worked out by hand from what each mode means, independently of the gate.
+#![tactic(auto)]
+
+mod bench;
+mod laws;
+mod parts;
+mod plain;
+mod play;
+mod random;
+mod shown;
+
+use anyhow::anyhow;
+use desk_values::List;
+use object_depends::{FactList, Needs, requires_csv};
+use parts::{fact_of, mode_of, number_of, numbers_of};
+use play::Play;
+use std::alloc::Global;
+
+/// The case that is being told.
+#[derive(Drop)]
+struct Case {
+    facts: FactList,
+    play: Option<Play>,
+}
+
+fn main(rt: HostRuntime) -> Result<(), anyhow::Error> {
+    let alloc = rt.alloc();
+    let mut case = Case {
+        facts: List::new(alloc),
+        play: None,
+    };
+    for line in rt.lines(alloc) {
+        let line = line?;
+        if let Some(answer) = told(alloc, &mut case, line.as_str())? {
+            println!(rt; "{answer}")?;
+        }
+    }
+    Ok(())
+}
+
+// What a line is answered; the lines of calls are not.
+fn told(alloc: Global, case: &mut Case, line: &str) -> Result<Option<String>, anyhow::Error> {
+    let (word, rest) = line.split_once(' ').unwrap_or((line, ""));
+    match word {
+        "case" => {
+            case.facts = List::new(alloc);
+            case.play = None;
+            Ok(Some(String::from_str(alloc, line)?))
+        }
+        "fact" => {
+            case.facts.push(fact_of(alloc, rest)?)?;
+            Ok(None)
+        }
+        "csv" => Ok(Some(csv(alloc, &case.facts)?)),
+        "required" => Ok(Some(required(alloc, &case.facts, rest)?)),
+        "random" => Ok(Some(laws::told(alloc, number_of(rest)?)?)),
+        "bench" => Ok(Some(bench::told(alloc, rest)?)),
+        "gate" => {
+            case.play = Play::new(alloc, &case.facts, mode_of(rest)?)?;
+            let made = if case.play.is_some() {
+                "gate"
+            } else {
+                "not sound"
+            };
+            Ok(Some(format!(in alloc; "{made} {rest}")?))
+        }
+        _ => {
+            let play = case.play.as_mut().ok_or(anyhow!("no gate"))?;
+            Ok(Some(played(alloc, play, word, rest)?))
+        }
+    }
+}
+
+// The file, without its last line feed.
+fn csv(alloc: Global, facts: &FactList) -> Result<String, anyhow::Error> {
+    if facts.len() > 100_000 {
+        return Err(anyhow!("too many calls"));
+    }
+    let bytes = requires_csv(alloc, facts)?;
+    let text = str::from_utf8(bytes.as_slice()).map_err(|_| anyhow!("no text"))?;
+    Ok(String::from_str(alloc, text.strip_suffix('\n').unwrap_or(text))?)
+}
+
+fn required(alloc: Global, facts: &FactList, rest: &str) -> Result<String, anyhow::Error> {
+    let (mode, k) = rest.split_once(' ').ok_or(anyhow!("no stamp"))?;
+    let k = number_of(k)?;
+    if facts.len() > 100_000 || facts.len() <= k as usize {
+        return Err(anyhow!("no such call"));
+    }
+    let needs = Needs::of(alloc, facts, mode_of(mode)?)?;
+    let stamps = needs.required(k)?;
+    let (count, last) = needs.count_last(k);
+    let list = shown::numbers(alloc, stamps.as_slice())?;
+    let last = shown::stamp(alloc, last)?;
+    Ok(format!(in alloc; "required {mode} {k}: {list}, count {count}, last {last}")?)
+}
+
+// What becomes of a gate, or what it says.
+fn played(alloc: Global, play: &mut Play, word: &str, rest: &str) -> Result<String, anyhow::Error> {
+    let done = match word {
+        "start" if play.start(number_of(rest)?) => "started",
+        "start" => "not ready",
+        "answer" if play.answer(number_of(rest)?) => "answered",
+        "answer" => "not open",
+        _ => return asked(alloc, play, word, rest),
+    };
+    Ok(format!(in alloc; "{word} {rest}: {done}")?)
+}
+
+fn asked(alloc: Global, play: &Play, word: &str, rest: &str) -> Result<String, anyhow::Error> {
+    let gate = play.gate();
+    let answer = match word {
+        "ready" => shown::numbers(alloc, play.all_ready(alloc)?.as_slice())?,
+        "first" => shown::stamp(alloc, gate.first_open())?,
+        "pick" => shown::stamp(alloc, gate.pick(numbers_of(alloc, rest)?.as_slice()))?,
+        "done" => format!(in alloc; "{}", gate.done(numbers_of(alloc, rest)?.as_slice()))?,
+        "mark" => format!(in alloc; "{}", gate.mark())?,
+        "table" => {
+            let table = number_of(rest)?;
+            if table >= 32 {
+                return Err(anyhow!("no such table"));
+            }
+            format!(in alloc; "{}", gate.table_mark(table))?
+        }
+        _ => return Err(anyhow!("no such line")),
+    };
+    Ok(format!(in alloc; "{word} {rest}: {answer}")?)
+}

@@ -1,0 +1,5 @@
+pub mod Facts
+pub mod Required
+pub mod Tallies
+pub mod Csv
+pub mod NeedsView

@@ -1,0 +1,6 @@
+use Rattle.std.proofs.Common.{◌≡◌, ◌++◌, drop, map}
+use Rattle.prepare_plan.specs.Facts.{fact_of}
+use Rattle.prepare_plan.proofs.facts.facts_of.Given as goal
+
+abbrev pub invariant-loop-call : goal.invariant-loop-call
+invariant-loop-call l = l.facts ++ map (fact_of l.schema) (drop l.call-index l.calls) ≡ map (fact_of l.schema) l.calls

@@ -1,0 +1,7 @@
+use Rattle.std.proofs.Common.{◌≡◌, ◌++◌, drop}
+use Rattle.prepare_plan.specs.Inside.{shown}
+use Rattle.prepare_plan.specs.Lists.{all_calls, lists_of}
+use Rattle.prepare_plan.proofs.gathering.gathered.Given as goal
+
+abbrev pub invariant-loop-session : goal.invariant-loop-session
+invariant-loop-session l = shown l.calls.items ++ all_calls (lists_of (drop l.session-index l.sessions)) ≡ all_calls (lists_of l.sessions)

@@ -1,0 +1,88 @@
+-- Words for the steps of the work.
+use Rattle.std.specs.Prelude.{◌≡◌, ℕ, ◌<◌, ◌≤◌, Bool, true, false, List, length, map, Option, None, Some, Result, Ok, Err, slice_index_or}
+use Rattle.std.specs.BTreeSet.{contains}
+use Rattle.std.specs.declared.cmp.Ordering.{Ordering}
+use Rattle.std.specs.Ordering.{nat_cmp, ordering_then}
+use Rattle.std.specs.List.{list_any}
+use denote.Ref.{Bor}
+use Rattle.desk_values.specs.Room.{Room}
+use Rattle.desk_values.specs.Good.{IsGoodReply}
+use Rattle.desk_values.specs.Ids.{is_id}
+use Rattle.prepare_plan.specs.Same.{same_value}
+use Rattle.desk_values.specs.declared.value.Value.{Value}
+use Rattle.desk_values.specs.declared.value.Value.TheVariants.{Row, Draw}
+use Rattle.desk_values.specs.declared.capture.Captured.{Captured}
+use Rattle.prepare_plan.specs.declared.refusal.Refusal.{Refusal}
+use Rattle.prepare_plan.specs.declared.refusal.Refusal.TheVariants.{Memory}
+use Rattle.prepare_plan.specs.declared.seats.Seat.{Seat}
+use Rattle.prepare_plan.specs.declared.seats.Seat.TheVariants.{Empty, Taken, Crowded}
+use Rattle.prepare_plan.specs.declared.known.KnownIds.{KnownIds}
+use Rattle.prepare_plan.specs.Lists.{count_at, call_at, by_stamp}
+use Rattle.prepare_plan.specs.Tests.{bad_stamp}
+
+-- the calls that are looked at
+abbrev pub shown : List (Bor Captured) → List Captured
+shown calls = map (λ (call : Bor Captured). call.now) calls
+
+-- want of memory tells nothing of a test
+abbrev pub told : Refusal → Option (Option Refusal)
+told Memory = None
+told refusal = Some (Some refusal)
+
+-- a test is passed where there is no refusal
+abbrev pub passed : Unit {0} → Option Refusal
+passed tt = None
+
+-- the seat of a stamp tells how many calls have it, and which it is where it is one
+abbrev pub IsSeatOf : List Captured → ℕ → Seat → Type 0
+IsSeatOf calls k Empty = (count_at calls k ≡ 0) × (call_at calls k ≡ None)
+IsSeatOf calls k (Taken call) = (count_at calls k ≡ 1) × (call_at calls k ≡ Some call.now)
+IsSeatOf calls k Crowded = 2 ≤ count_at calls k
+
+abbrev pub AreSeatsOf : List Captured → ℕ → List Seat → Type 0
+AreSeatsOf calls n seats = (length seats ≡ n) × ((k : ℕ) → k < n → IsSeatOf calls k (slice_index_or seats k Empty))
+
+abbrev pub is_taken : Seat → Bool
+is_taken (Taken call) = true
+is_taken other = false
+
+abbrev pub taken_call : Seat → Option Captured
+taken_call (Taken call) = Some call.now
+taken_call other = None
+
+-- the calls by stamp, where each stamp is that of one call
+abbrev pub ordered_or : Option Refusal → List Captured → Result (List Captured) Refusal
+ordered_or (Some refusal) calls = Err refusal
+ordered_or None calls = Ok (by_stamp calls)
+
+abbrev pub ordered : List Captured → Result (List Captured) Refusal
+ordered calls = ordered_or (bad_stamp calls) calls
+
+abbrev pub ordered_seen : Room Captured → Result (List Captured) Refusal
+ordered_seen calls = Ok calls.items
+
+abbrev pub order_told : Refusal → Option (Result (List Captured) Refusal)
+order_told Memory = None
+order_told refusal = Some (Err refusal)
+
+-- ---- ids
+
+abbrev pub pair_cmp : ℕ × ℕ → ℕ × ℕ → Ordering
+pair_cmp a b = ordering_then (nat_cmp a.0 b.0) (nat_cmp a.1 b.1)
+
+-- whether an id is among those that are known
+abbrev pub knows : KnownIds → Value → Bool
+knows ids (Row n) = contains nat_cmp ids.rows n
+knows ids (Draw sequence n) = contains pair_cmp ids.draws (sequence, n)
+knows ids other = false
+
+-- they know just the ids of the list
+abbrev pub KnowsAll : KnownIds → List Value → Type 0
+KnowsAll ids known = (value : Value) → is_id value ≡ true → knows ids value ≡ list_any (same_value value) known
+
+-- ---- what holds of the calls of sessions
+
+-- a session that there is, and a reply that can be written
+pub record IsFit (call : Captured) : Type 0 where
+  pub session : call.session < 64
+  pub reply : IsGoodReply call.reply

@@ -1,0 +1,6 @@
+pub mod Lists
+pub mod Same
+pub mod Facts
+pub mod Tests
+pub mod Verdict
+pub mod Inside

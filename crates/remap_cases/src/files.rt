@@ -1,0 +1,63 @@
+//! Remap files.
+
+use crate::escape::unescaped;
+use anyhow::anyhow;
+use desk_values::{Bytes, List, Memory};
+use remap_ids::{Remap, RemapErr};
+use std::alloc::Global;
+
+/// What a remap file is read as, by its first bad record.
+pub fn verdict(alloc: Global, word: &str, rest: &str) -> Result<String, anyhow::Error> {
+    let bytes = file(alloc, word, rest)?;
+    match Remap::read(alloc, bytes.as_slice()) {
+        Ok(_) => Ok(String::from_str(alloc, "read")?),
+        Err(RemapErr::BadRow { n }) => Ok(format!(in alloc; "bad {n}")?),
+        Err(RemapErr::TwiceFrom { n }) => Ok(format!(in alloc; "twice {n}")?),
+        Err(RemapErr::Memory) => Err(Memory.into()),
+    }
+}
+
+// The bytes of the file that a case tells.
+fn file(alloc: Global, word: &str, rest: &str) -> Result<Bytes, anyhow::Error> {
+    if word == "read" {
+        return Ok(unescaped(alloc, rest)?);
+    }
+    let (times, text) = rest.split_once(' ').ok_or(anyhow!("no number"))?;
+    let times: u32 = times.parse()?;
+    let text = unescaped(alloc, text)?;
+    if word == "fill" {
+        filled(alloc, times, text.as_slice())
+    } else {
+        behind(alloc, times, text.as_slice())
+    }
+}
+
+// The bytes with so many `a` for each `~`.
+fn filled(alloc: Global, times: u32, text: &[u8]) -> Result<Bytes, anyhow::Error> {
+    let mut bytes: Bytes = List::new(alloc);
+    for byte in text {
+        push_filled(times, *byte, &mut bytes)?;
+    }
+    Ok(bytes)
+}
+
+fn push_filled(times: u32, byte: u8, to: &mut Bytes) -> Result<(), Memory> {
+    if byte != b'~' {
+        return to.push(byte);
+    }
+    for _ in 0..times {
+        to.push(b'a')?;
+    }
+    Ok(())
+}
+
+// The bytes behind so many good records.
+fn behind(alloc: Global, times: u32, text: &[u8]) -> Result<Bytes, anyhow::Error> {
+    let mut bytes: Bytes = List::new(alloc);
+    for number in 0..times {
+        let row = format!(in alloc; "service,s{number},main\n")?;
+        bytes.append(row.as_str().as_bytes())?;
+    }
+    bytes.append(text)?;
+    Ok(bytes)
+}

@@ -1,0 +1,69 @@
+//! Cases of remap files and of maps of ids, as lines.
+//!
+//! - `read FILE`: what a remap file is read as, `read`, `bad N` or `twice N`; `fill N FILE` and `many N FILE` are the
+//!   same, with N times `a` for each `~`, and with N good records before it
+//! - `remap FILE`: from now on calls are sent by this file
+//! - `start FILE`: a map of ids begins with the ids of this start
+//! - `learn REPLY = REPLY`: what it learns from a captured and a replayed reply
+//! - `send CALL`: the call that is sent, `image VALUE`: the id that stands for one, `maps`: the text of the learnt pairs
+//! - `bench N`: N pairs are learnt and looked up
+//!
+//! Enters: lines of the standard input. Leaves: as many lines. It touches the standard input and output alone. `|` stands
+//! for a line feed, and `\` with two hexadecimal digits for a byte. The expected lines were worked out by hand from the
+//! rules and from what CSV is.
+#![tactic(auto)]
+
+mod bench;
+mod escape;
+mod files;
+mod maps;
+
+use anyhow::anyhow;
+use desk_values::{Bytes, List};
+use maps::Replay;
+use remap_ids::Remap;
+use std::alloc::Global;
+
+fn main(rt: HostRuntime) -> Result<(), anyhow::Error> {
+    let alloc = rt.alloc();
+    let mut replay = Replay {
+        remap: Remap::none(alloc),
+        ids: None,
+    };
+    for line in rt.lines(alloc) {
+        let line = line?;
+        let (word, rest) = line.as_str().split_once(' ').unwrap_or((line.as_str(), ""));
+        let answer = answered(alloc, &mut replay, word, rest)?;
+        println!(rt; "{answer}")?;
+    }
+    Ok(())
+}
+
+fn answered(
+    alloc: Global,
+    replay: &mut Replay,
+    word: &str,
+    rest: &str,
+) -> Result<String, anyhow::Error> {
+    match word {
+        "read" | "fill" | "many" => files::verdict(alloc, word, rest),
+        "remap" | "start" | "learn" => {
+            replay.told(alloc, word, rest)?;
+            Ok(String::from_str(alloc, "ok")?)
+        }
+        "send" => replay.sent(alloc, rest),
+        "image" => replay.image(alloc, rest),
+        "maps" => replay.maps(alloc),
+        "bench" => bench::learnt(alloc, rest),
+        _ => Err(anyhow!("no such case")),
+    }
+}
+
+/// The text of bytes, with `|` for each line feed.
+pub(crate) fn shown(alloc: Global, bytes: &[u8]) -> Result<String, anyhow::Error> {
+    let mut line: Bytes = List::new(alloc);
+    for byte in bytes {
+        line.push(if *byte == b'\n' { b'|' } else { *byte })?;
+    }
+    Ok(String::from_str(alloc, str::from_utf8(line.as_slice())?)?)
+}

@@ -1,0 +1,60 @@
+-- A map of ids as an `IndexMap` and a set.
+use Rattle.std.proofs.Common.{◌≡◌, ◌∙◌, Bool, true, false, ◌||◌, List, [], ◌∷◌, ◌++◌, map, Option, None, Some, refl, sym, ap, subst, is_some}
+use Rattle.std.specs.Prelude.{if◌then◌else◌}
+use Rattle.std.proofs.lemmas.List.{map-append}
+use Rattle.std.proofs.lemmas.Map.Made.{is_some-lookup}
+use Rattle.std.specs.List.{AllByRecursion, IsDistinct, list_any}
+use Rattle.std.specs.Map.{keys_of}
+use Rattle.indexmap.specs.IndexMap.{IndexMap, insert_entry}
+use Rattle.indexmap.specs.IndexSet.{insert_key}
+use Rattle.indexmap.proofs.CallerLemmas.{insert_entry-new}
+use Rattle.id_pairs.specs.contracts.IdPartialEq.TheImpl as derived
+use Rattle.id_pairs.specs.declared.Id.{Id}
+use Rattle.id_pairs.specs.Ids.{same_id}
+use Rattle.id_pairs.specs.Pairs.{IdPair, AreLike, IsIdMap, image_in, is_known, with_new}
+use Rattle.id_pairs.proofs.SameIds.{derived_is_same}
+
+pub none_of : {A : Type 0} (o : Option A) → is_some o ≡ false → o ≡ None
+none_of None e = refl
+none_of (Some x) e = absurd (cc)
+
+-- ids on the replayed side
+abbrev pub replayed_of : List IdPair → List Id
+replayed_of pairs = map (λ pair. pair.1) pairs
+
+-- the two tests are those of both sides
+pub tests : (pairs : List IdPair) (captured replayed : Id) → (is_some (image_in pairs captured) || list_any (same_id replayed) (replayed_of pairs)) ≡ is_known pairs (captured, replayed)
+tests pairs captured replayed = ap (λ (there : Bool). there || list_any (same_id replayed) (replayed_of pairs)) (is_some-lookup (same_id captured) pairs)
+
+neither : (a b : Bool) → (a || b) ≡ false → (a ≡ false) × (b ≡ false)
+neither true b e = absurd (cc)
+neither false b e = (refl, e)
+
+module _ {S : Type 0} (m : IndexMap Id Id S) (captured replayed : Id) (unknown : is_known m.entries (captured, replayed) ≡ false) where
+  parts : (list_any (same_id captured) (keys_of m.entries) ≡ false) × (list_any (same_id replayed) (replayed_of m.entries) ≡ false)
+  parts = neither (list_any (same_id captured) (keys_of m.entries)) (list_any (same_id replayed) (replayed_of m.entries)) unknown
+
+  pub goes_last : insert_entry (derived.eq-value).it m.entries captured replayed ≡ m.entries ++ (captured, replayed) ∷ []
+  goes_last = ap (λ eq. insert_entry eq m.entries captured replayed) derived_is_same ∙ insert_entry-new same_id m captured replayed (none_of (image_in m.entries captured) (is_some-lookup (same_id captured) m.entries ∙ parts.0))
+
+  pub grows : m.entries ++ (captured, replayed) ∷ [] ≡ with_new m.entries (captured, replayed)
+  grows = sym (ap (λ (known : Bool). if known then m.entries else m.entries ++ (captured, replayed) ∷ []) unknown)
+
+  pub keys_go_last : (keys : List Id) → keys ≡ replayed_of m.entries → insert_key (derived.eq-value).it keys replayed ≡ replayed_of (m.entries ++ (captured, replayed) ∷ [])
+  keys_go_last keys is =
+      let known = replayed_of m.entries in
+      ap (λ eq. insert_key eq keys replayed) derived_is_same ∙ ap (λ (ids : List Id). insert_key same_id ids replayed) is ∙ ap (λ (there : Bool). if there then known else known ++ replayed ∷ []) parts.1 ∙ sym (map-append (λ (pair : IdPair). pair.1) m.entries ((captured, replayed) ∷ []))
+
+both_like : (xs : List IdPair) (x : IdPair) → AllByRecursion (λ pair. AreLike pair.0 pair.1) xs → AreLike x.0 x.1 → AllByRecursion (λ pair. AreLike pair.0 pair.1) (xs ++ x ∷ [])
+both_like [] x all last = (last, tt)
+both_like (first ∷ xs) x all last = (all.0, both_like xs x all.1 last)
+
+-- a map of ids with a further pair
+pub one_more : (pairs after : List IdPair) (pair : IdPair) (keys : List Id) → IsIdMap pairs → AreLike pair.0 pair.1 → after ≡ pairs ++ pair ∷ [] → IsDistinct (derived.eq-value).it (keys_of after) → IsDistinct (derived.eq-value).it keys → keys ≡ replayed_of after → IsIdMap after
+one_more pairs after pair keys is alike grown captured replayed sides = record {
+  once = record {
+    captured = subst (λ eq. IsDistinct eq (keys_of after)) derived_is_same captured;
+    replayed = subst (IsDistinct same_id) sides (subst (λ eq. IsDistinct eq keys) derived_is_same replayed);
+  };
+  like = subst (λ (all : List IdPair). AllByRecursion (λ pair. AreLike pair.0 pair.1) all) (sym grown) (both_like pairs pair is.like alike);
+}

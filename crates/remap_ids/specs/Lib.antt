@@ -1,0 +1,4 @@
+pub mod Services
+pub mod IdMap
+pub mod Sent
+pub mod MapsText

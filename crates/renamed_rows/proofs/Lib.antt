@@ -1,0 +1,4 @@
+pub mod Members
+pub mod Bags
+pub mod Expressions
+pub mod Totals

@@ -1,0 +1,13 @@
+pub mod Cases
+pub mod Matched
+pub mod Longer
+pub mod Sets
+pub mod Rising
+pub mod Keys
+pub mod Found
+pub mod Selecting
+pub mod Order
+pub mod Writing
+pub mod Drawing
+pub mod Checking
+pub mod Answering

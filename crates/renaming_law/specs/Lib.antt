@@ -1,0 +1,6 @@
+pub mod Cases
+pub mod Inputs
+pub mod Twins
+pub mod Replies
+pub mod Order
+pub mod Laws

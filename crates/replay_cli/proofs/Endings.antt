@@ -1,0 +1,171 @@
+-- How a command ends, from what its work came to and what was printed.
+use Rattle.std.proofs.Common.{◌≡◌, ◌≢◌, ℕ, ◌≤◌, ◌⊎◌, inl, inr, List, length, arith, Option, Some, None, Result, Ok, Err, refl, sym, ap, subst, ◌∙◌}
+use Rattle.std.specs.Prelude.{IsSomeAnd, IsErrOf, IsNone}
+use Rattle.std.proofs.Math.Seq.{take-length}
+use Rattle.desk_files.specs.declared.fault.WriteErr.{WriteErr}
+use Rattle.desk_files.specs.declared.fault.WriteErr.TheVariants.{Failed, Memory}
+use Rattle.desk_files.specs.declared.writes.Write.{Write}
+use Rattle.desk_files.specs.Answers.{write_ending}
+use Rattle.desk_files.specs.Outside.{Appends, Counts, FileMap, Told, HasRisen}
+use Rattle.desk_files.specs.Writes.{LeavesOfWrites, with_all}
+use Rattle.replay_cli.specs.declared.failure.Refusal.{Refusal}
+use Rattle.replay_cli.specs.declared.failure.Refusal.TheVariants.{Missing, TooLong, BadLine, NotLegal}
+use Rattle.replay_cli.specs.declared.failure.Failure.{Failure}
+use Rattle.replay_cli.specs.declared.failure.Failure.TheVariants.{BadCommand, Refused, DeviceFault, OutOfMemory}
+use Rattle.replay_cli.specs.declared.plan.Plan.{Plan}
+use Rattle.replay_cli.specs.declared.words.Command.{Command}
+use Rattle.replay_cli.specs.Lines.{refusal_status}
+use Rattle.replay_cli.specs.Command.{command_of}
+use Rattle.replay_cli.specs.Decision.{Decides, Task, Verdict, VerdictOf}
+use Rattle.replay_cli.specs.Done.{IsDone}
+use Rattle.replay_cli.specs.Steps.{Step, Stops}
+use Rattle.replay_cli.specs.Ending.{Causes, Ends, EndsSo, IsOutside, LeftOver, Reports, RunFaults, RunSays, status_of, line_of}
+use Rattle.replay_cli.proofs.StepLaws.{told, told_both, told_at, some_and}
+use Rattle.replay_cli.proofs.Unique.{verdict_one}
+
+-- ---- the work
+
+verdict_is : (words : List (List ℕ)) (files : FileMap) (command : Command) (task : Task) → command_of words ≡ Some command → Decides command files (Ok task) → Verdict words files (Ok task)
+verdict_is words files command task is decided = subst (λ (c : Option Command). VerdictOf c files (Ok task)) (sym is) decided
+
+abbrev pub failure_of : WriteErr → Failure
+failure_of Failed = DeviceFault
+failure_of Memory = OutOfMemory
+
+-- what writing leaves, as a part of the whole
+of_left : (wanted : Result Task Failure → Type 0) (files after : FileMap) (f0 f1 f2 : ℕ) (task : Task) (plan : Plan) (error : WriteErr) → wanted (Ok task) → IsDone task plan → f1 ≡ f0 → LeavesOfWrites plan.writes files (Err error) after → Counts (write_ending (Err error)) f1 f2 → RunSays wanted files after f0 f2 (Err (failure_of error))
+of_left wanted files after f0 f1 f2 task plan Failed is done same left failed = inr (task, is, inr (plan, done, inr (left, subst (λ (f : ℕ). HasRisen f f2) same failed.0)))
+of_left wanted files after f0 f1 f2 task plan Memory is done same left failed = inr (task, is, inr (plan, done, inl left))
+
+pub run_cut : (c0 c1 c2 : Option FileMap) (f0 f1 f2 : ℕ) (words : List (List ℕ)) (command : Command) (task : Task) (plan : Plan) (writes : List Write) (error : WriteErr)
+    → command_of words ≡ Some command → Step (λ files. Decides command files) c0 c1 f0 f1 (Ok task) → IsDone task plan → writes ≡ plan.writes
+    → Told c1 (λ files. IsSomeAnd c2 (LeavesOfWrites writes files (Err error))) → Counts (write_ending (Err error)) f1 f2
+    → Told c0 (λ files. IsSomeAnd c2 (λ after. RunSays (Verdict words files) files after f0 f2 (Err (failure_of error))))
+run_cut c0 c1 c2 f0 f1 f2 words command task plan writes error is step done same left counts =
+    told_both c0 (λ files decided some. some_and c2 (λ after l. of_left (Verdict words files) files after f0 f1 f2 task plan error (verdict_is words files command task is decided) done step.faults (subst (λ (ws : List Write). LeavesOfWrites ws files (Err error) after) same l) counts) some) step.says (told_at _ c0 c1 step.content left)
+
+pub run_done : (c0 c1 c2 : Option FileMap) (f0 f1 f2 : ℕ) (words : List (List ℕ)) (command : Command) (task : Task) (plan : Plan) (writes : List Write)
+    → command_of words ≡ Some command → Step (λ files. Decides command files) c0 c1 f0 f1 (Ok task) → IsDone task plan → writes ≡ plan.writes → Told c1 (λ files. IsSomeAnd c2 (LeavesOfWrites writes files (Ok tt)))
+    → Told c0 (λ files. IsSomeAnd c2 (λ after. RunSays (Verdict words files) files after f0 f2 (Ok plan)))
+run_done c0 c1 c2 f0 f1 f2 words command task plan writes is step done same left =
+    told_both c0 (λ files decided some. some_and c2 (λ after l. (task, verdict_is words files command task is decided, done, l ∙ ap (λ ws. with_all ws files) same)) some) step.says (told_at _ c0 c1 step.content left)
+
+-- the work stops where deciding does
+stopped : (words : List (List ℕ)) (files : FileMap) (command : Command) (f0 f1 : ℕ) (failure : Failure) → command_of words ≡ Some command → Stops (Decides command files) failure → RunSays (Verdict words files) files files f0 f1 (Err failure)
+stopped words files command f0 f1 BadCommand is stops = absurd stops
+stopped words files command f0 f1 (Refused refusal) is stops = (subst (λ (c : Option Command). VerdictOf c files (Err (Refused refusal))) (sym is) stops, refl)
+stopped words files command f0 f1 DeviceFault is stops = inl refl
+stopped words files command f0 f1 OutOfMemory is stops = inl refl
+
+pub run_stopped : (c0 c1 : Option FileMap) (f0 f1 : ℕ) (words : List (List ℕ)) (command : Command) (failure : Failure) → command_of words ≡ Some command → Step (λ files. Decides command files) c0 c1 f0 f1 (Err failure)
+    → Told c0 (λ files. IsSomeAnd c1 (λ after. RunSays (Verdict words files) files after f0 f1 (Err failure)))
+run_stopped None c1 f0 f1 words command failure is step = tt
+run_stopped (Some files) c1 f0 f1 words command failure is step =
+    subst (λ (c : Option FileMap). IsSomeAnd c (λ after. RunSays (Verdict words files) files after f0 f1 (Err failure))) (sym step.content) (stopped words files command f0 f1 failure is step.says)
+
+-- ---- the end
+
+outside : (done : Result Plan Failure) (result : ℕ) (b a : Option (List ℕ)) (s0 s1 : ℕ) → Reports done result b a s0 s1 → status_of done ≡ 5 ⊎ status_of done ≡ 6 → IsOutside result
+outside done result b a s0 s1 (inl own) (inl five) = inl (own.0 ∙ five)
+outside done result b a s0 s1 (inl own) (inr six) = inr (own.0 ∙ six)
+outside done result b a s0 s1 (inr (inl short)) is = inr short.0
+outside done result b a s0 s1 (inr (inr fault)) is = inl fault.0
+
+own_or_outside : (done : Result Plan Failure) (result : ℕ) (b a : Option (List ℕ)) (s0 s1 : ℕ) → Reports done result b a s0 s1 → ((result ≡ status_of done) × Appends (line_of done) b a) ⊎ (IsOutside result)
+own_or_outside done result b a s0 s1 (inl own) = inl own
+own_or_outside done result b a s0 s1 (inr (inl short)) = inr (inr short.0)
+own_or_outside done result b a s0 s1 (inr (inr fault)) = inr (inl fault.0)
+
+left_ends : (wanted : Result Task Failure → Type 0) (files after : FileMap) (f0 f1 result : ℕ) (b a : Option (List ℕ)) → LeftOver wanted files after f0 f1 → IsOutside result → EndsSo wanted files after f0 f1 result b a
+left_ends wanted files after f0 f1 result b a (inl same) is = inr (is, same)
+left_ends wanted files after f0 f1 result b a (inr left) is = inl (Ok left.0, left.1, inr (is, left.2))
+
+pub ends : (wanted : Result Task Failure → Type 0) (files after : FileMap) (f0 f1 : ℕ) (done : Result Plan Failure) (result : ℕ) (b a : Option (List ℕ)) (s0 s1 : ℕ) → RunSays wanted files after f0 f1 done → Reports done result b a s0 s1 → EndsSo wanted files after f0 f1 result b a
+ends wanted files after f0 f1 (Ok plan) result b a s0 s1 says reports = elim (own_or_outside (Ok plan) result b a s0 s1 reports) [
+  | inl own ↦ inl (Ok says.0, says.1, inl (plan, says.2, says.3, own.0, own.1))
+  | inr is ↦ inl (Ok says.0, says.1, inr (is, inr (plan, says.2, inl (length plan.writes, says.3 ∙ ap (λ ws. with_all ws files) (sym (take-length plan.writes))))))
+]
+ends wanted files after f0 f1 (Err BadCommand) result b a s0 s1 says reports = inl (Err BadCommand, says.0, (says.1, own_or_outside (Err BadCommand) result b a s0 s1 reports))
+ends wanted files after f0 f1 (Err (Refused refusal)) result b a s0 s1 says reports = inl (Err (Refused refusal), says.0, (says.1, own_or_outside (Err (Refused refusal)) result b a s0 s1 reports))
+ends wanted files after f0 f1 (Err DeviceFault) result b a s0 s1 says reports = left_ends wanted files after f0 f1 result b a says (outside (Err DeviceFault) result b a s0 s1 reports (inl refl))
+ends wanted files after f0 f1 (Err OutOfMemory) result b a s0 s1 says reports = left_ends wanted files after f0 f1 result b a says (outside (Err OutOfMemory) result b a s0 s1 reports (inr refl))
+
+pub told_ends : (c0 c1 : Option FileMap) (words : List (List ℕ)) (f0 f1 : ℕ) (done : Result Plan Failure) (result : ℕ) (b a : Option (List ℕ)) (s0 s1 : ℕ) → Told c0 (λ files. IsSomeAnd c1 (λ after. RunSays (Verdict words files) files after f0 f1 done)) → Reports done result b a s0 s1
+    → Told c0 (λ files. IsSomeAnd c1 (λ after. EndsSo (Verdict words files) files after f0 f1 result b a))
+told_ends c0 c1 words f0 f1 done result b a s0 s1 says reports = told c0 (λ files some. some_and c1 (λ after s. ends (Verdict words files) files after f0 f1 done result b a s0 s1 s reports) some) says
+
+-- it ends so with each verdict, since there is one
+each_end : (words : List (List ℕ)) (files after : FileMap) (f0 f1 result : ℕ) (b a : Option (List ℕ)) → EndsSo (Verdict words files) files after f0 f1 result b a → (verdict : Result Task Failure) → Verdict words files verdict → Ends verdict files after f0 f1 result b a
+each_end words files after f0 f1 result b a (inl some) verdict is = subst (λ (v : Result Task Failure). Ends v files after f0 f1 result b a) (verdict_one words files some.0 verdict some.1 is) some.2
+each_end words files after f0 f1 result b a (inr none) (Ok task) is = inr (none.0, inl none.1)
+each_end words files after f0 f1 result b a (inr none) (Err failure) is = (none.1, inr none.0)
+
+pub told_each : (c0 c1 : Option FileMap) (words : List (List ℕ)) (f0 f1 result : ℕ) (b a : Option (List ℕ)) → Told c0 (λ files. IsSomeAnd c1 (λ after. EndsSo (Verdict words files) files after f0 f1 result b a))
+    → Told c0 (λ files. IsSomeAnd c1 (λ after. (verdict : Result Task Failure) → Verdict words files verdict → Ends verdict files after f0 f1 result b a))
+told_each c0 c1 words f0 f1 result b a says = told c0 (λ files some. some_and c1 (λ after s. each_end words files after f0 f1 result b a s) some) says
+
+-- ---- the causes
+
+-- a refusal has a status of its own
+record IsOwn (status : ℕ) : Type 0 where
+  no_command : status ≢ 2
+  no_fault : status ≢ 5
+  no_memory : status ≢ 6
+
+refused_own : (refusal : Refusal) → IsOwn (refusal_status refusal)
+refused_own (Missing name) = record { no_command = λ e. omega (arith, e); no_fault = λ e. omega (arith, e); no_memory = λ e. omega (arith, e) }
+refused_own (TooLong name) = record { no_command = λ e. omega (arith, e); no_fault = λ e. omega (arith, e); no_memory = λ e. omega (arith, e) }
+refused_own (BadLine name line) = record { no_command = λ e. omega (arith, e); no_fault = λ e. omega (arith, e); no_memory = λ e. omega (arith, e) }
+refused_own (NotLegal cause) = record { no_command = λ e. omega (arith, e); no_fault = λ e. omega (arith, e); no_memory = λ e. omega (arith, e) }
+
+two_means : (done : Result Plan Failure) → status_of done ≡ 2 → IsErrOf done BadCommand
+two_means (Ok plan) two = absurd (omega (arith, two))
+two_means (Err BadCommand) two = refl
+two_means (Err (Refused refusal)) two = absurd ((refused_own refusal).no_command two)
+two_means (Err DeviceFault) two = absurd (omega (arith, two))
+two_means (Err OutOfMemory) two = absurd (omega (arith, two))
+
+five_means : (done : Result Plan Failure) (f0 f1 : ℕ) → RunFaults done f0 f1 → status_of done ≡ 5 → HasRisen f0 f1
+five_means (Ok plan) f0 f1 faults five = absurd (omega (arith, five))
+five_means (Err BadCommand) f0 f1 faults five = absurd (omega (arith, five))
+five_means (Err (Refused refusal)) f0 f1 faults five = absurd ((refused_own refusal).no_fault five)
+five_means (Err DeviceFault) f0 f1 faults five = faults.0
+five_means (Err OutOfMemory) f0 f1 faults five = absurd (omega (arith, five))
+
+stands : (done : Result Plan Failure) (f0 f1 : ℕ) → RunFaults done f0 f1 → ¬ IsErrOf done DeviceFault → f1 ≡ f0
+stands (Ok plan) f0 f1 faults other = faults
+stands (Err BadCommand) f0 f1 faults other = faults
+stands (Err (Refused refusal)) f0 f1 faults other = faults
+stands (Err DeviceFault) f0 f1 faults other = absurd (other refl)
+stands (Err OutOfMemory) f0 f1 faults other = faults
+
+grows : (done : Result Plan Failure) (f0 f1 : ℕ) → RunFaults done f0 f1 → f0 ≤ f1
+grows (Ok plan) f0 f1 faults = omega (arith, faults)
+grows (Err BadCommand) f0 f1 faults = omega (arith, faults)
+grows (Err (Refused refusal)) f0 f1 faults = omega (arith, faults)
+grows (Err DeviceFault) f0 f1 faults = faults.1
+grows (Err OutOfMemory) f0 f1 faults = omega (arith, faults)
+
+fault_of : (done : Result Plan Failure) (result : ℕ) (b a : Option (List ℕ)) (f0 f1 s0 s1 : ℕ) → RunFaults done f0 f1 → Reports done result b a s0 s1 → result ≡ 5 → HasRisen f0 f1 ⊎ HasRisen s0 s1
+fault_of done result b a f0 f1 s0 s1 faults (inl own) five = inl (five_means done f0 f1 faults (sym own.0 ∙ five))
+fault_of done result b a f0 f1 s0 s1 faults (inr (inl short)) five = absurd (omega (arith, short.0, five))
+fault_of done result b a f0 f1 s0 s1 faults (inr (inr fault)) five = inr fault.1
+
+memory_of : (done : Result Plan Failure) (result : ℕ) (b a : Option (List ℕ)) (f0 f1 s0 s1 : ℕ) → RunFaults done f0 f1 → Reports done result b a s0 s1 → result ≡ 6 → f1 ≡ f0
+memory_of done result b a f0 f1 s0 s1 faults (inl own) six = stands done f0 f1 faults (λ e. omega (arith, own.0, six, ap status_of e))
+memory_of done result b a f0 f1 s0 s1 faults (inr (inl short)) six = stands done f0 f1 faults short.2
+memory_of done result b a f0 f1 s0 s1 faults (inr (inr fault)) six = absurd (omega (arith, fault.0, six))
+
+command_of_two : (words : List (List ℕ)) (done : Result Plan Failure) (result : ℕ) (b a : Option (List ℕ)) (s0 s1 : ℕ) → (IsErrOf done BadCommand → IsNone (command_of words)) → Reports done result b a s0 s1 → result ≡ 2 → IsNone (command_of words)
+command_of_two words done result b a s0 s1 only (inl own) two = only (two_means done (sym own.0 ∙ two))
+command_of_two words done result b a s0 s1 only (inr (inl short)) two = absurd (omega (arith, short.0, two))
+command_of_two words done result b a s0 s1 only (inr (inr fault)) two = absurd (omega (arith, fault.0, two))
+
+pub causes : (words : List (List ℕ)) (done : Result Plan Failure) (result : ℕ) (b a : Option (List ℕ)) (f0 f1 s0 s1 : ℕ) → (IsErrOf done BadCommand → IsNone (command_of words)) → RunFaults done f0 f1 → Reports done result b a s0 s1 → s0 ≤ s1 → Causes words result f0 f1 s0 s1
+causes words done result b a f0 f1 s0 s1 only faults reports out = record {
+  command = command_of_two words done result b a s0 s1 only reports;
+  fault = fault_of done result b a f0 f1 s0 s1 faults reports;
+  memory = memory_of done result b a f0 f1 s0 s1 faults reports;
+  files = grows done f0 f1 faults;
+  out = out;
+}

@@ -1,0 +1,172 @@
+-- The verdict of the words and the files is one.
+use Rattle.std.proofs.Common.{◌≡◌, ℕ, ◌+◌, ◌-◌, ◌<◌, ◌≤◌, ◌^◌, List, [], ◌∷◌, length, Option, None, Some, Result, Ok, Err, inl, inr, sym, ap, subst, ◌∙◌, arith}
+use Rattle.desk_values.specs.declared.capture.Captured.{Captured}
+use Rattle.desk_files.specs.Outside.{FileMap}
+use Rattle.desk_schema.specs.Start.{StartView}
+use Rattle.desk_schema.specs.declared.line.TheConstants.{SESSION_LIMIT}
+use Rattle.capture_format.specs.declared.start.StartFile.{StartFile}
+use Rattle.capture_format.specs.StartFile.{IsBadStart, IsStartFile}
+use Rattle.capture_format.specs.SessionFile.{IsBadSession, IsSessionFile}
+use Rattle.capture_format.proofs.StartFiles as start
+use Rattle.capture_format.proofs.SessionFiles as session
+use Rattle.prepare_plan.specs.declared.refusal.Refusal.{Refusal as Illegal}
+use Rattle.prepare_plan.specs.Verdict as plan
+use Rattle.replay_cli.specs.declared.capture.Opened.{Opened}
+use Rattle.replay_cli.specs.declared.capture.TheConstants.{ROOM}
+use Rattle.replay_cli.specs.declared.failure.Refusal.{Refusal}
+use Rattle.replay_cli.specs.declared.failure.Refusal.TheVariants.{BadLine, NotLegal}
+use Rattle.replay_cli.specs.declared.failure.Failure.{Failure}
+use Rattle.replay_cli.specs.declared.failure.Failure.TheVariants.{BadCommand, Refused, DeviceFault, OutOfMemory}
+use Rattle.replay_cli.specs.declared.words.Command.{Command}
+use Rattle.replay_cli.specs.declared.words.Command.TheVariants.{Run, Prepare, Generate, Trial}
+use Rattle.replay_cli.specs.Command.{command_of}
+use Rattle.replay_cli.specs.Words.{session_names, start_name}
+use Rattle.replay_cli.proofs.Sessions.{count_names}
+use Rattle.replay_cli.specs.Decision.{Decides, Failing, Legal, LegalIn, LegalOf, OpenedIn, Reads, SessionOf, StartOf, Task, ToMake, ToReplay, ToTell, ToTry, Verdict, VerdictOf}
+use Rattle.replay_cli.specs.Steps.{Is, Reading, Then, file_in}
+
+abbrev pub IsOne : {X : Type 0} → (Result X Refusal → Type 0) → Type 0
+IsOne {X = X} want = (a b : Result X Refusal) → want a → want b → a ≡ b
+
+is_one : {X : Type 0} (answer : Result X Refusal) → IsOne (Is answer)
+is_one answer a b h k = sym h ∙ k
+
+abbrev value_of : {X : Type 0} → X → Result X Refusal → X
+value_of x (Ok y) = y
+value_of x (Err refusal) = x
+
+abbrev refusal_of : {X : Type 0} → Refusal → Result X Refusal → Refusal
+refusal_of refusal (Ok x) = refusal
+refusal_of refusal (Err other) = other
+
+no_ok : {X P : Type 0} (x : X) (refusal : Refusal) → Ok x ≡ Err refusal → P
+no_ok x refusal e = absurd (cc e)
+
+then_one : {X Y : Type 0} (first : Result X Refusal → Type 0) (next : X → Result Y Refusal → Type 0) → IsOne first → ((x : X) → first (Ok x) → IsOne (next x)) → IsOne (Then first next)
+then_one first next one more (Ok y) (Ok z) h k =
+    more k.0 k.1 (Ok y) (Ok z) (subst (λ x. next x (Ok y)) (ap (value_of h.0) (one (Ok h.0) (Ok k.0) h.1 k.1)) h.2) k.2
+then_one first next one more (Ok y) (Err s) h (inl k) = no_ok h.0 s (one (Ok h.0) (Err s) h.1 k)
+then_one first next one more (Ok y) (Err s) h (inr k) =
+    more k.0 k.1 (Ok y) (Err s) (subst (λ x. next x (Ok y)) (ap (value_of h.0) (one (Ok h.0) (Ok k.0) h.1 k.1)) h.2) k.2
+then_one first next one more (Err r) (Ok z) (inl h) k = no_ok k.0 r (one (Ok k.0) (Err r) k.1 h)
+then_one first next one more (Err r) (Ok z) (inr h) k =
+    more k.0 k.1 (Err r) (Ok z) (subst (λ x. next x (Err r)) (ap (value_of h.0) (one (Ok h.0) (Ok k.0) h.1 k.1)) h.2) k.2
+then_one first next one more (Err r) (Err s) (inl h) (inl k) = ap (λ e. Err e) (ap (refusal_of r) (one (Err r) (Err s) h k))
+then_one first next one more (Err r) (Err s) (inl h) (inr k) = no_ok k.0 r (one (Ok k.0) (Err r) k.1 h)
+then_one first next one more (Err r) (Err s) (inr h) (inl k) = no_ok h.0 s (one (Ok h.0) (Err s) h.1 k)
+then_one first next one more (Err r) (Err s) (inr h) (inr k) =
+    more k.0 k.1 (Err r) (Err s) (subst (λ x. next x (Err r)) (ap (value_of h.0) (one (Ok h.0) (Ok k.0) h.1 k.1)) h.2) k.2
+
+-- ---- the files
+
+reads_one : {X : Type 0} (name : List ℕ) (IsFileOf : X → Type 0) (IsFirstBad : ℕ → Type 0) → ((a b : X) → IsFileOf a → IsFileOf b → a ≡ b) → ((m n : ℕ) → IsFirstBad m → IsFirstBad n → m ≡ n) → IsOne (Reads name IsFileOf IsFirstBad)
+reads_one name IsFileOf IsFirstBad one_file one_bad (Ok a) (Ok b) h k = ap (λ x. Ok x) (one_file a b h k)
+reads_one name IsFileOf IsFirstBad one_file one_bad (Ok a) (Err s) h k = absurd (k.1.1 a h)
+reads_one name IsFileOf IsFirstBad one_file one_bad (Err r) (Ok b) h k = absurd (h.1.1 b k)
+reads_one name IsFileOf IsFirstBad one_file one_bad (Err r) (Err s) h k = ap (λ e. Err e) (h.2 ∙ ap (BadLine name) (one_bad h.0 k.0 h.1.0 k.1.0) ∙ sym k.2)
+
+start_one : (name bytes : List ℕ) → IsOne (StartOf name bytes)
+start_one name bytes = reads_one name (IsStartFile bytes) (IsBadStart bytes) (start.one_file bytes) (start.one_bad bytes)
+
+session_one : (place : ℕ) (name bytes : List ℕ) → place < 2 ^ 32 → IsOne (SessionOf place name bytes)
+session_one place name bytes small = reads_one name (IsSessionFile place bytes) (IsBadSession place bytes) (λ a b. session.one_file place bytes a b small) (session.one_bad place bytes)
+
+reading_one : (files : FileMap) (room place : ℕ) (names : List (List ℕ)) → place + length names ≤ 2 ^ 32 → IsOne (Reading SessionOf files room place names)
+reading_one files room place [] small = is_one (Ok [])
+reading_one files room place (name ∷ names) small =
+    then_one (Is (file_in files room name)) (λ bytes. Then (SessionOf place name bytes) (λ item. Then (Reading SessionOf files (room - length bytes) (place + 1) names) (λ items. Is (Ok (item ∷ items))))) (is_one (file_in files room name)) (λ bytes held. then_one (SessionOf place name bytes) (λ item. Then (Reading SessionOf files (room - length bytes) (place + 1) names) (λ items. Is (Ok (item ∷ items)))) (session_one place name bytes (omega (arith, small))) (λ item read.
+    then_one (Reading SessionOf files (room - length bytes) (place + 1) names) (λ items. Is (Ok (item ∷ items))) (reading_one files (room - length bytes) (place + 1) names (omega (arith, small))) (λ items all. is_one (Ok (item ∷ items)))))
+
+-- ---- a capture
+
+abbrev opened_of : List ℕ → StartFile → Result Opened Refusal → Type 0
+opened_of bytes file = Is (Ok (record { file = file; left = ROOM - length bytes }))
+
+abbrev start_in : List ℕ → List ℕ → Result Opened Refusal → Type 0
+start_in capture bytes = Then (StartOf (start_name capture) bytes) (opened_of bytes)
+
+opened_one : (files : FileMap) (capture : List ℕ) → IsOne (OpenedIn files capture)
+opened_one files capture =
+    then_one (Is (file_in files ROOM (start_name capture))) (start_in capture) (is_one (file_in files ROOM (start_name capture))) (λ bytes held.
+    then_one (StartOf (start_name capture) bytes) (opened_of bytes) (start_one (start_name capture) bytes) (λ file read. is_one (Ok (record { file = file; left = ROOM - length bytes }))))
+
+abbrev ok_opened : Opened → Result Opened Refusal
+ok_opened opened = Ok opened
+
+few_sessions : (files : FileMap) (capture : List ℕ) (opened : Opened) → OpenedIn files capture (Ok opened) → opened.file.sessions ≤ SESSION_LIMIT
+few_sessions files capture opened h =
+    let same : record { file = h.2.0; left = ROOM - length h.0 } ≡ opened = same_opened _ opened h.2.2 in
+    subst (λ (o : Opened). o.file.sessions ≤ SESSION_LIMIT) same h.2.1.sessions
+  where
+    same_opened : (a b : Opened) → ok_opened a ≡ ok_opened b → a ≡ b
+    same_opened a b e = cc
+
+abbrev ok_plan : plan.Plan → Result plan.Plan Illegal
+ok_plan p = Ok p
+
+abbrev err_plan : Illegal → Result plan.Plan Illegal
+err_plan cause = Err cause
+
+plans_same : (a b : plan.Plan) → ok_plan a ≡ ok_plan b → a ≡ b
+plans_same a b e = cc
+
+causes_same : (a b : Illegal) → err_plan a ≡ err_plan b → a ≡ b
+causes_same a b e = cc
+
+not_both : {P : Type 0} (a : plan.Plan) (b : Illegal) → ok_plan a ≡ err_plan b → P
+not_both a b e = absurd (cc e)
+
+legal_one : (start : StartView) (sessions : List (List Captured)) → IsOne (LegalOf start sessions)
+legal_one start sessions (Ok a) (Ok b) h k =
+    let same : record { calls = a.calls; facts = a.facts } ≡ record { calls = b.calls; facts = b.facts } = plans_same _ _ (sym h.1 ∙ k.1) in
+    ap (λ (s : StartView). Ok (record { start = s; calls = a.calls; facts = a.facts })) (h.0 ∙ sym k.0) ∙ ap (λ (p : plan.Plan). Ok (record { start = b.start; calls = p.calls; facts = p.facts })) same
+legal_one start sessions (Ok a) (Err s) h k = not_both (record { calls = a.calls; facts = a.facts }) k.0 (sym h.1 ∙ k.1)
+legal_one start sessions (Err r) (Ok b) h k = not_both (record { calls = b.calls; facts = b.facts }) h.0 (sym k.1 ∙ h.1)
+legal_one start sessions (Err r) (Err s) h k = ap (λ e. Err e) (h.2 ∙ ap (λ (c : Illegal). NotLegal c) (causes_same h.0 k.0 (sym h.1 ∙ k.1)) ∙ sym k.2)
+
+abbrev tested_of : Opened → List (List Captured) → Result Legal Refusal → Type 0
+tested_of opened = LegalOf opened.file.start
+
+abbrev read_of : FileMap → List ℕ → Opened → Result Legal Refusal → Type 0
+read_of files capture opened = Then (Reading SessionOf files opened.left 0 (session_names capture opened.file.sessions)) (tested_of opened)
+
+capture_one : (files : FileMap) (capture : List ℕ) → IsOne (LegalIn files capture)
+capture_one files capture = then_one (OpenedIn files capture) (read_of files capture) (opened_one files capture) (λ opened is.
+    let few = few_sessions files capture opened is in
+    let names = count_names capture opened.file.sessions in
+    let small : 0 + length (session_names capture opened.file.sessions) ≤ 2 ^ 32 = omega (arith, few, names) in
+    then_one (Reading SessionOf files opened.left 0 (session_names capture opened.file.sessions)) (tested_of opened) (reading_one files opened.left 0 (session_names capture opened.file.sessions) small) (λ sessions read. legal_one opened.file.start sessions))
+
+-- ---- a command
+
+decides_one : (command : Command) (files : FileMap) → IsOne (Decides command files)
+decides_one (Run capture out) files = then_one (LegalIn files capture) (λ legal. Is (Ok (ToReplay out legal.start legal.calls))) (capture_one files capture) (λ legal is. is_one (Ok (ToReplay out legal.start legal.calls)))
+decides_one (Prepare capture out) files = then_one (LegalIn files capture) (λ legal. Is (Ok (ToTell out legal.facts))) (capture_one files capture) (λ legal is. is_one (Ok (ToTell out legal.facts)))
+decides_one (Generate n out) files = is_one (Ok (ToMake n out))
+decides_one (Trial n) files = is_one (Ok (ToTry n))
+
+abbrev failed_of : {X : Type 0} → Result X Refusal → Result X Failure
+failed_of (Ok x) = Ok x
+failed_of (Err refusal) = Err (Refused refusal)
+
+failing_one : {X : Type 0} (want : Result X Refusal → Type 0) → IsOne want → (a b : Result X Failure) → Failing want a → Failing want b → a ≡ b
+failing_one want one (Ok x) (Ok y) h k = ap failed_of (one (Ok x) (Ok y) h k)
+failing_one want one (Ok x) (Err (Refused s)) h k = ap failed_of (one (Ok x) (Err s) h k)
+failing_one want one (Err (Refused r)) (Ok y) h k = ap failed_of (one (Err r) (Ok y) h k)
+failing_one want one (Err (Refused r)) (Err (Refused s)) h k = ap failed_of (one (Err r) (Err s) h k)
+failing_one want one (Ok x) (Err BadCommand) h k = absurd k
+failing_one want one (Ok x) (Err DeviceFault) h k = absurd k
+failing_one want one (Ok x) (Err OutOfMemory) h k = absurd k
+failing_one want one (Err (Refused r)) (Err BadCommand) h k = absurd k
+failing_one want one (Err (Refused r)) (Err DeviceFault) h k = absurd k
+failing_one want one (Err (Refused r)) (Err OutOfMemory) h k = absurd k
+failing_one want one (Err BadCommand) b h k = absurd h
+failing_one want one (Err DeviceFault) b h k = absurd h
+failing_one want one (Err OutOfMemory) b h k = absurd h
+
+verdict_of_one : (command : Option Command) (files : FileMap) (a b : Result Task Failure) → VerdictOf command files a → VerdictOf command files b → a ≡ b
+verdict_of_one None files a b h k = h ∙ sym k
+verdict_of_one (Some command) files a b h k = failing_one (Decides command files) (decides_one command files) a b h k
+
+pub verdict_one : (words : List (List ℕ)) (files : FileMap) (a b : Result Task Failure) → Verdict words files a → Verdict words files b → a ≡ b
+verdict_one words files a b h k = verdict_of_one (command_of words) files a b h k

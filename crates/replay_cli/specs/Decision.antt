@@ -1,0 +1,107 @@
+-- What the words and the files come to: a list of steps, of which the first that refuses decides.
+use Rattle.std.specs.Prelude.{◌≡◌, ℕ, ◌-◌, List, length, Option, None, Some, Result, Ok, Err}
+use Rattle.desk_values.specs.declared.capture.Captured.{Captured}
+use Rattle.desk_files.specs.Outside.{FileMap}
+use Rattle.desk_schema.specs.Start.{StartView}
+use Rattle.file_lines.specs.File.{ReadsFile}
+use Rattle.file_lines.specs.declared.reader.FormErr.TheVariants.{Bad}
+use Rattle.capture_format.specs.declared.start.StartFile.{StartFile}
+use Rattle.capture_format.specs.StartFile.{IsBadStart, IsStartFile}
+use Rattle.capture_format.specs.SessionFile.{IsBadSession, IsSessionFile}
+use Rattle.object_depends.specs.declared.fact.Fact.{Fact}
+use Rattle.prepare_plan.specs.declared.refusal.Refusal.{Refusal as Illegal}
+use Rattle.prepare_plan.specs.Verdict as plan
+use Rattle.replay_cli.specs.declared.capture.Opened.{Opened}
+use Rattle.replay_cli.specs.declared.capture.TheConstants.{ROOM}
+use Rattle.replay_cli.specs.declared.failure.Refusal.{Refusal}
+use Rattle.replay_cli.specs.declared.failure.Refusal.TheVariants.{BadLine, NotLegal}
+use Rattle.replay_cli.specs.declared.failure.Failure.{Failure}
+use Rattle.replay_cli.specs.declared.failure.Failure.TheVariants.{BadCommand, Refused, DeviceFault, OutOfMemory}
+use Rattle.replay_cli.specs.declared.words.Command.{Command}
+use Rattle.replay_cli.specs.declared.words.Command.TheVariants.{Run, Prepare, Generate, Trial}
+use Rattle.replay_cli.specs.Command.{command_of}
+use Rattle.replay_cli.specs.Words.{session_names, start_name}
+use Rattle.replay_cli.specs.Steps.{Is, Reading, Then, file_in}
+
+-- ---- a capture
+
+-- the bytes of the file of this name as a reader takes them: what they are the file of, or their first bad line
+abbrev pub Reads : {X : Type 0} → List ℕ → (X → Type 0) → (ℕ → Type 0) → Result X Refusal → Type 0
+Reads name IsFileOf IsFirstBad (Ok value) = IsFileOf value
+Reads {X} name IsFileOf IsFirstBad (Err refusal) = (line : ℕ) × ReadsFile {X = X} (Err (Bad line)) IsFileOf IsFirstBad × (refusal ≡ BadLine name line)
+
+abbrev pub StartOf : List ℕ → List ℕ → Result StartFile Refusal → Type 0
+StartOf name bytes = Reads name (IsStartFile bytes) (IsBadStart bytes)
+
+abbrev pub SessionOf : ℕ → List ℕ → List ℕ → Result (List Captured) Refusal → Type 0
+SessionOf session name bytes = Reads name (IsSessionFile session bytes) (IsBadSession session bytes)
+
+-- the start of a capture, and how many bytes its other files may have
+abbrev pub OpenedIn : FileMap → List ℕ → Result Opened Refusal → Type 0
+OpenedIn files capture =
+    Then (Is (file_in files ROOM (start_name capture))) (λ bytes.
+    Then (StartOf (start_name capture) bytes) (λ file.
+    Is (Ok (record { file = file; left = ROOM - length bytes }))))
+
+-- a legal capture: its start, and its calls by stamp with their facts
+pub record Legal : Type 0 where
+  pub start : StartView
+  pub calls : List Captured
+  pub facts : List Fact
+
+-- the start and the calls of the sessions, as preparing them answers
+abbrev pub LegalOf : StartView → List (List Captured) → Result Legal Refusal → Type 0
+LegalOf start sessions (Ok legal) = (legal.start ≡ start) × (plan.verdict start sessions ≡ Ok (record { calls = legal.calls; facts = legal.facts }))
+LegalOf start sessions (Err refusal) = (cause : Illegal) × (plan.verdict start sessions ≡ Err cause) × (refusal ≡ NotLegal cause)
+
+-- the capture in a folder: its start file, as many session files as that says, and the test
+abbrev pub LegalIn : FileMap → List ℕ → Result Legal Refusal → Type 0
+LegalIn files capture =
+    Then (OpenedIn files capture) (λ opened.
+    Then (Reading SessionOf files opened.left 0 (session_names capture opened.file.sessions)) (λ sessions.
+    LegalOf opened.file.start sessions))
+
+-- ---- a command
+
+-- what is to be done, and what it takes
+pub data Task : Type 0 where
+  ToReplay : List ℕ → StartView → List Captured → Task
+  ToTell : List ℕ → List Fact → Task
+  ToMake : ℕ → List ℕ → Task
+  ToTry : ℕ → Task
+
+abbrev pub Decides : Command → FileMap → Result Task Refusal → Type 0
+Decides (Run capture out) files = Then (LegalIn files capture) (λ legal. Is (Ok (ToReplay out legal.start legal.calls)))
+Decides (Prepare capture out) files = Then (LegalIn files capture) (λ legal. Is (Ok (ToTell out legal.facts)))
+Decides (Generate n out) files = Is (Ok (ToMake n out))
+Decides (Trial n) files = Is (Ok (ToTry n))
+
+-- the command reads files, which may be refused
+abbrev pub ReadsFiles : Command → Type 0
+ReadsFiles (Run capture out) = Unit {0}
+ReadsFiles (Prepare capture out) = Unit {0}
+ReadsFiles (Generate n out) = ⊥
+ReadsFiles (Trial n) = ⊥
+
+-- only such a command is refused
+abbrev pub MayRefuse : Command → Failure → Type 0
+MayRefuse command BadCommand = Unit {0}
+MayRefuse command (Refused refusal) = ReadsFiles command
+MayRefuse command DeviceFault = Unit {0}
+MayRefuse command OutOfMemory = Unit {0}
+
+-- a refusal as the failure that it is
+abbrev pub Failing : {X : Type 0} → (Result X Refusal → Type 0) → Result X Failure → Type 0
+Failing want (Ok x) = want (Ok x)
+Failing want (Err BadCommand) = ⊥
+Failing want (Err (Refused refusal)) = want (Err refusal)
+Failing want (Err DeviceFault) = ⊥
+Failing want (Err OutOfMemory) = ⊥
+
+abbrev pub VerdictOf : Option Command → FileMap → Result Task Failure → Type 0
+VerdictOf None files verdict = verdict ≡ Err BadCommand
+VerdictOf (Some command) files verdict = Failing (Decides command files) verdict
+
+-- what the words and the files come to
+abbrev pub Verdict : List (List ℕ) → FileMap → Result Task Failure → Type 0
+Verdict words files verdict = VerdictOf (command_of words) files verdict

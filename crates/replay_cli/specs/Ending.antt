@@ -1,0 +1,100 @@
+-- How a command ends: its status, its line and its files.
+use Rattle.std.specs.Prelude.{◌≡◌, ℕ, ◌≤◌, ◌⊎◌, List, Option, IfSome, IsErrOf, IsNone, Result, Ok, Err}
+use Rattle.desk_files.specs.declared.fault.WriteErr.TheVariants.{Failed, Memory}
+use Rattle.desk_files.specs.Outside.{Appends, AppendsPart, FileMap, HasRisen}
+use Rattle.desk_files.specs.Writes.{CutShort, WrittenSoFar, with_all}
+use Rattle.replay_cli.specs.declared.failure.Failure.{Failure}
+use Rattle.replay_cli.specs.declared.failure.Failure.TheVariants.{BadCommand, Refused, DeviceFault, OutOfMemory}
+use Rattle.replay_cli.specs.declared.plan.Plan.{Plan}
+use Rattle.replay_cli.specs.Command.{command_of}
+use Rattle.replay_cli.specs.declared.words.Command.{Command}
+use Rattle.replay_cli.specs.Decision.{MayRefuse, Task}
+use Rattle.replay_cli.specs.Done.{IsDone, IsLineOf}
+use Rattle.replay_cli.specs.Lines.{failure_line, failure_status}
+
+-- ---- doing the work
+
+-- what was written of a plan, where not all of it was; a file is cut short only where the count of faults rose
+abbrev pub WrittenInPart : Plan → FileMap → FileMap → ℕ → ℕ → Type 0
+WrittenInPart plan before after faults_before faults_after =
+    WrittenSoFar plan.writes before after ⊎ (CutShort plan.writes before after × HasRisen faults_before faults_after)
+
+-- what is left of a task that was not done, or not told
+abbrev pub LeftOf : Task → FileMap → FileMap → ℕ → ℕ → Type 0
+LeftOf task before after faults_before faults_after = (after ≡ before) ⊎ ((plan : Plan) × IsDone task plan × WrittenInPart plan before after faults_before faults_after)
+
+-- the same, whatever the task is
+abbrev pub LeftOver : (Result Task Failure → Type 0) → FileMap → FileMap → ℕ → ℕ → Type 0
+LeftOver wanted before after fb fa = (after ≡ before) ⊎ ((task : Task) × wanted (Ok task) × LeftOf task before after fb fa)
+
+-- what doing the work answers
+abbrev pub RunSays : (Result Task Failure → Type 0) → FileMap → FileMap → ℕ → ℕ → Result Plan Failure → Type 0
+RunSays wanted before after fb fa (Ok plan) = (task : Task) × wanted (Ok task) × IsDone task plan × (after ≡ with_all plan.writes before)
+RunSays wanted before after fb fa (Err BadCommand) = wanted (Err BadCommand) × (after ≡ before)
+RunSays wanted before after fb fa (Err (Refused refusal)) = wanted (Err (Refused refusal)) × (after ≡ before)
+RunSays wanted before after fb fa (Err DeviceFault) = LeftOver wanted before after fb fa
+RunSays wanted before after fb fa (Err OutOfMemory) = LeftOver wanted before after fb fa
+
+-- how the count of faults moves in it
+abbrev pub RunFaults : Result Plan Failure → ℕ → ℕ → Type 0
+RunFaults (Ok plan) before after = after ≡ before
+RunFaults (Err BadCommand) before after = after ≡ before
+RunFaults (Err (Refused refusal)) before after = after ≡ before
+RunFaults (Err DeviceFault) before after = HasRisen before after × (before ≤ after)
+RunFaults (Err OutOfMemory) before after = after ≡ before
+
+-- ---- the line and the status
+
+abbrev pub status_of : Result Plan Failure → ℕ
+status_of (Ok plan) = 0
+status_of (Err failure) = failure_status failure
+
+abbrev pub line_of : Result Plan Failure → List ℕ
+line_of (Ok plan) = plan.line
+line_of (Err failure) = failure_line failure
+
+-- the line and the status of this outcome; or the line could not be made, which that of a fault always can; or a line was
+-- not printed whole
+abbrev pub Reports : Result Plan Failure → ℕ → Option (List ℕ) → Option (List ℕ) → ℕ → ℕ → Type 0
+Reports done result before after faults_before faults_after =
+    ((result ≡ status_of done) × Appends (line_of done) before after)
+    ⊎ (((result ≡ 6) × Appends (failure_line OutOfMemory) before after × ¬ IsErrOf done DeviceFault)
+    ⊎ ((result ≡ 5) × HasRisen faults_before faults_after × (AppendsPart (line_of done) before after ⊎ AppendsPart (failure_line OutOfMemory) before after)))
+
+-- ---- the top call
+
+abbrev pub IsOutside : ℕ → Type 0
+IsOutside result = (result ≡ 5) ⊎ (result ≡ 6)
+
+-- The end that a verdict has: a failure has its status and its line and changes no file; a task that is done has status 0,
+-- its line and its files. Or else a device failed or memory was short, and the task is done in part.
+abbrev pub Ends : Result Task Failure → FileMap → FileMap → ℕ → ℕ → ℕ → Option (List ℕ) → Option (List ℕ) → Type 0
+Ends (Err failure) files files_after fb fa result before after =
+    (files_after ≡ files) × (((result ≡ failure_status failure) × Appends (failure_line failure) before after) ⊎ IsOutside result)
+Ends (Ok task) files files_after fb fa result before after =
+    ((plan : Plan) × IsDone task plan × (files_after ≡ with_all plan.writes files) × (result ≡ 0) × Appends plan.line before after)
+    ⊎ (IsOutside result × LeftOf task files files_after fb fa)
+
+-- the end that some verdict has; or a device failed or memory was short before there was one
+abbrev pub EndsSo : (Result Task Failure → Type 0) → FileMap → FileMap → ℕ → ℕ → ℕ → Option (List ℕ) → Option (List ℕ) → Type 0
+EndsSo wanted files files_after fb fa result before after =
+    ((verdict : Result Task Failure) × wanted verdict × Ends verdict files files_after fb fa result before after)
+    ⊎ (IsOutside result × (files_after ≡ files))
+
+-- what a command may come to, whatever its files are: its own line, or a failure, and a refusal only where it reads files
+abbrev pub MayComeTo : Command → Result Plan Failure → Type 0
+MayComeTo command (Ok plan) = IsLineOf command plan.line
+MayComeTo command (Err failure) = MayRefuse command failure
+
+-- what is printed, also where the files are not told: the line of what the command may come to; or that of no command, just where the words are none
+abbrev pub PrintsLine : List (List ℕ) → ℕ → Option (List ℕ) → Option (List ℕ) → ℕ → ℕ → Type 0
+PrintsLine words result before after faults_before faults_after =
+    (done : Result Plan Failure) × (IsErrOf done BadCommand → IsNone (command_of words)) × (IsNone (command_of words) → IsErrOf done BadCommand ⊎ IsErrOf done OutOfMemory) × IfSome (command_of words) (λ command. MayComeTo command done) × Reports done result before after faults_before faults_after
+
+-- 2 comes only where the words are no command, 5 only where a count rose, 6 only where no file failed, and no count falls
+pub record Causes (words : List (List ℕ)) (result fb fa sb sa : ℕ) : Type 0 where
+  pub command : result ≡ 2 → IsNone (command_of words)
+  pub fault : result ≡ 5 → HasRisen fb fa ⊎ HasRisen sb sa
+  pub memory : result ≡ 6 → fa ≡ fb
+  pub files : fb ≤ fa
+  pub out : sb ≤ sa

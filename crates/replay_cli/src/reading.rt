@@ -1,0 +1,82 @@
+//! Reading the files of a command, one after the other.
+
+ghost use Rattle.std.specs.Prelude.{◌≡◌, ◌≤◌, length, IfOk};
+ghost use Rattle.desk_files.specs.Outside.{Told};
+ghost use Rattle.prepare_plan.specs.Lists.{AreListsFrom, lists_of};
+ghost use Rattle.replay_cli.specs.Decision.{SessionOf, StartOf};
+ghost use Rattle.replay_cli.specs.Steps.{Answers, FaultFree, Is, Reading, Step, file_in, seen_as};
+
+use crate::failure::{Failure, Refusal};
+use capture_format::{FormErr, StartFile, read_session, read_start};
+use desk_files::{FileErr, Files};
+use desk_values::{Bytes, CallList, Copied, List, SessionLists, Txt};
+use std::alloc::Global;
+
+/// The bytes of a file, of which at most `room` are taken.
+pub fn read_file<F: Files>(name: &Txt, room: usize, files: &mut F) -> Result<Bytes, Failure>
+    ensures step { Step (λ map. Is (file_in map room name.now)) (F.content files.old) (F.content files.new) (F.faults files.old) (F.faults files.new) result }
+    ensures room { IfOk result (λ bytes. length bytes ≤ room) }
+{
+    match files.read(name) {
+        Ok(bytes) if bytes.len() <= room => Ok(bytes),
+        Ok(_) => Err(Failure::Refused(Refusal::TooLong(name.copy()?))),
+        Err(FileErr::Missing) => Err(Failure::Refused(Refusal::Missing(name.copy()?))),
+        Err(FileErr::TooLong) => Err(Failure::Refused(Refusal::TooLong(name.copy()?))),
+        Err(FileErr::Failed) => Err(Failure::DeviceFault),
+        Err(FileErr::Memory) => Err(Failure::OutOfMemory),
+    }
+}
+
+/// What the bytes of the start file of this name say.
+pub fn parse_start(alloc: Global, name: &Txt, bytes: &Bytes) -> Result<StartFile, Failure>
+    ensures says { Answers (StartOf name.now bytes.now) result }
+    ensures free { FaultFree result }
+{
+    match read_start(alloc, bytes.as_slice()) {
+        Ok(file) => Ok(file),
+        Err(FormErr::Bad { line }) => Err(Failure::Refused(Refusal::BadLine(name.copy()?, line))),
+        Err(FormErr::Memory) => Err(Failure::OutOfMemory),
+    }
+}
+
+/// What the bytes of the file of this name say of a session.
+pub fn parse_session(
+    alloc: Global,
+    session: u32,
+    name: &Txt,
+    bytes: &Bytes,
+) -> Result<CallList, Failure>
+    ensures says { Answers (SessionOf session name.now bytes.now) (seen_as (λ calls. calls.items) result) }
+    ensures free { FaultFree result }
+{
+    match read_session(alloc, bytes.as_slice(), session) {
+        Ok(calls) => Ok(calls),
+        Err(FormErr::Bad { line }) => Err(Failure::Refused(Refusal::BadLine(name.copy()?, line))),
+        Err(FormErr::Memory) => Err(Failure::OutOfMemory),
+    }
+}
+
+/// Reads the files of the sessions from 0 on, in this order, and stops at the first that is refused. Together they have at
+/// most `room` bytes.
+pub fn read_sessions<F: Files>(
+    alloc: Global,
+    names: &[Txt],
+    room: usize,
+    files: &mut F,
+) -> Result<SessionLists, Failure>
+    requires { length names.now ≤ 64 }
+    ensures step { Step (λ map. Reading SessionOf map room 0 names.now) (F.content files.old) (F.content files.new) (F.faults files.old) (F.faults files.new) (seen_as lists_of result) }
+    ensures count { IfOk result (λ sessions. length sessions ≡ length names.now) }
+    ensures lists { IfOk result (λ sessions. AreListsFrom 0 (lists_of sessions)) }
+{
+    let mut sessions = List::new(alloc);
+    let mut left = room;
+    let mut session: u32 = 0;
+    for name in names {
+        let bytes = read_file(name, left, files)?;
+        left -= bytes.len();
+        sessions.push(parse_session(alloc, session, name, &bytes)?)?;
+        session += 1;
+    }
+    Ok(sessions)
+}
