@@ -20,7 +20,6 @@ use Rattle.machine_model.specs.Request.{disconnect}
 use Rattle.machine_model.specs.Answer.{answer, ended, unless}
 use Rattle.machine_model.specs.Step.{Gives, answer_in, session_after, step}
 use Rattle.capture_recorder.specs.Recording.{connected_count}
-use Rattle.capture_recorder.proofs.Growing.{tick, ticked}
 
 -- there are 64 sessions
 
@@ -52,7 +51,7 @@ pub disconnected_after : (state : State) (session : ℕ) → session < length st
 disconnected_after state session within is =
     let after = session_after (session_at state session) (length state.commits) (answer_in state session Disconnect) in
     let gone : after.rights ≡ None = rights_after state.start.schema (view_of state session None) state.next_values state.next_row is in
-    let count = sum_by-set (λ (s : Session). tick (is_some s.rights)) state.sessions session after disconnected within in
-    let here = ticked (is_connected state session) is in
-    let there = ap (λ (r : Option Rights). tick (is_some r)) gone in
+    let count = sum_by-set (λ (s : Session). cond (is_some s.rights) 1 0) state.sessions session after disconnected within in
+    let here = ap (λ b. cond {A = ℕ} b 1 0) is in
+    let there = ap (λ (r : Option Rights). cond {A = ℕ} (is_some r) 1 0) gone in
     omega (arith, count, here, there)

@@ -88,5 +88,5 @@ abbrev pub recorded_all : Recording → List Request → Recording
 recorded_all r requests = fold with_request r requests
 
 -- the first n calls, each with the reply that the server gives it
-abbrev pub generated : ℕ → Recording
+unfoldable pub generated : ℕ → Recording
 generated n = recorded_all (opened generated_start) (generated_requests n)

@@ -1,16 +1,15 @@
 -- What a recorder keeps beside its calls, so that it looks none of them up again.
-use Rattle.std.specs.Prelude.{◌≡◌, ℕ, ◌<◌, ◌≤◌, List, length, Some, slice_get}
+use Rattle.std.specs.Prelude.{◌≡◌, ℕ, ◌<◌, List, length, slice_index_or}
 use Rattle.desk_values.specs.declared.capture.Captured.{Captured}
-use Rattle.replay_history.specs.Gap.{IsCallAt}
 use Rattle.replay_history.specs.Capture.{commits_before, session_calls_before}
 use Rattle.machine_model.specs.Machine.{Running}
-use Rattle.capture_format.specs.declared.session_line.TheConstants.{LAST_MOMENT}
+use Rattle.capture_laws.specs.Moments.{ended_in}
 use Rattle.capture_recorder.specs.declared.progress.Progress.{Progress}
-use Rattle.capture_recorder.specs.Recording.{Recording, IsRecording, last_end}
+use Rattle.capture_recorder.specs.Recording.{Recording, IsRecording}
 
 -- how far a session has come: the number of its calls, and when the last one ended
 abbrev pub progress_of : List Captured → ℕ → Progress
-progress_of calls session = record { calls = session_calls_before calls session (length calls); ended = last_end calls session }
+progress_of calls session = record { calls = session_calls_before calls session (length calls); ended = ended_in session calls }
 
 -- the engine has made a step for each call; the numbered commits are counted, and the progress of each session is known
 pub record Keeps (r : Recording) (engine : Running) (numbered : ℕ) (sessions : List Progress) : Type 0 where
@@ -19,7 +18,4 @@ pub record Keeps (r : Recording) (engine : Running) (numbered : ℕ) (sessions :
   pub steps : engine.steps ≡ length r.calls
   pub numbered_is : numbered ≡ commits_before r.calls (length r.calls)
   pub count : length sessions ≡ 64
-  pub progress : (session : ℕ) → session < 64 → slice_get sessions session ≡ Some (progress_of r.calls session)
-  -- no call of a session ended after its last one
-  pub latest : (j : ℕ) (call : Captured) → IsCallAt r.calls j call → call.ended ≤ last_end r.calls call.session
-  pub limit : (session : ℕ) → last_end r.calls session ≤ LAST_MOMENT
+  pub progress : (session : ℕ) (other : Progress) → session < 64 → slice_index_or sessions session other ≡ progress_of r.calls session

@@ -1,21 +1,21 @@
 -- What a recorder holds, which calls it turns away, and what each other call adds.
-use Rattle.std.specs.Prelude.{◌≡◌, ℕ, ◌+◌, ◌≤◌, Bool, not, nat_le, if◌then◌else◌, min, max, List, [], ◌∷◌, ◌++◌, length, map, count_by, Option, None, Some, is_some, unwrap_or, Result, Ok, Err}
-use Rattle.std.specs.List.{AllByRecursion, last_or, list_any}
+use Rattle.std.specs.Prelude.{◌≡◌, ℕ, ◌+◌, ◌≤◌, Bool, not, nat_le, if◌then◌else◌, min, max, List, [], ◌∷◌, ◌++◌, length, count_by, Option, None, Some, is_some, Result, Ok, Err}
+use Rattle.std.specs.List.{AllByRecursion, list_any}
 use Rattle.desk_values.specs.declared.call.Call.{Call}
 use Rattle.desk_values.specs.declared.call.Call.TheVariants.{Disconnect}
 use Rattle.desk_values.specs.declared.call.Reply.{Reply}
 use Rattle.desk_values.specs.declared.capture.Captured.{Captured}
-use Rattle.desk_values.specs.Good.{IsGoodReply}
 use Rattle.desk_schema.specs.Start.{StartView}
 use Rattle.capture_format.specs.declared.session_line.TheConstants.{LAST_MOMENT}
 use Rattle.replay_history.specs.Capture.{IsLegalCapture, IsRun, binds_of, commits, commits_before, session_calls_before}
+use Rattle.capture_laws.specs.Moments.{ended_in}
+use Rattle.capture_laws.specs.Stamped.{HasText}
 use Rattle.machine_model.specs.declared.session.Session.{Session}
 use Rattle.machine_model.specs.State.{State, is_connected, is_given, opening}
 use Rattle.machine_model.specs.Step.{Gives, reply_in, step}
 use Rattle.capture_recorder.specs.declared.refusal.CallErr.{CallErr}
 use Rattle.capture_recorder.specs.declared.refusal.CallErr.TheVariants.{Stranger, Full, Memory}
 use Rattle.capture_recorder.specs.declared.recorder.TheConstants.{ACCEPTED_LIMIT}
-use Rattle.capture_recorder.specs.Sessions.{calls_of}
 
 pub record Recording : Type 0 where
   pub start : StartView
@@ -30,17 +30,13 @@ opened start = record { start = start; calls = []; state = opening start }
 
 -- ---- moments
 
--- when the last call of a session ended, 0 where there is none
-abbrev pub last_end : List Captured → ℕ → ℕ
-last_end calls session = unwrap_or (last_or None (map (λ (call : Captured). call.ended) (calls_of session calls))) 0
-
 -- at most the greatest moment of a capture
 abbrev pub cut : ℕ → ℕ
 cut moment = min moment LAST_MOMENT
 
 -- a call is kept as beginning when it did, but not before the end of its session's last call
 abbrev pub kept_began : List Captured → ℕ → ℕ → ℕ
-kept_began calls session began = cut (max began (last_end calls session))
+kept_began calls session began = cut (max began (ended_in session calls))
 
 -- and as ending when it did, but not before that beginning
 abbrev pub kept_ended : ℕ → ℕ → ℕ
@@ -90,12 +86,6 @@ closing_reply r session = if is_connected r.state session then Some (reply_in r.
 
 abbrev pub connected_count : State → ℕ
 connected_count state = count_by (λ (session : Session). is_some session.rights) state.sessions
-
--- the parts of the call that its types leave open are such that it has a text
-pub record HasText (call : Captured) : Type 0 where
-  pub began : call.began ≤ LAST_MOMENT
-  pub ended : call.ended ≤ LAST_MOMENT
-  pub reply : IsGoodReply call.reply
 
 pub record IsRecording (r : Recording) : Type 0 where
   -- the calls are a legal capture from the start

@@ -1,21 +1,2 @@
--- The calls of each session.
-use Rattle.std.specs.Prelude.{ℕ, ◌+◌, Bool, nat_eq, List, [], ◌∷◌, map}
-use Rattle.std.specs.List.{filter, range_with_len}
-use Rattle.desk_values.specs.declared.capture.Captured.{Captured}
-use Rattle.capture_format.specs.SessionFile.{AreCallsOf}
-
-abbrev pub is_of : ℕ → Captured → Bool
-is_of session call = nat_eq call.session session
-
--- the calls of a session, in their order
-abbrev pub calls_of : ℕ → List Captured → List Captured
-calls_of session calls = filter (is_of session) calls
-
--- those of each session below this number
-abbrev pub session_lists : ℕ → List Captured → List (List Captured)
-session_lists count calls = map (λ session. calls_of session calls) (range_with_len 0 count)
-
--- each of these lists, from the session of this number on, has a file
-abbrev pub AreSessions : ℕ → List (List Captured) → Type 0
-AreSessions session [] = Unit {0}
-AreSessions session (calls ∷ lists) = AreCallsOf session calls × AreSessions (session + 1) lists
+-- The lists of the calls of sessions.
+pub use Rattle.capture_laws.specs.Sessions.{AreSessionsFrom, calls_of, session_lists}

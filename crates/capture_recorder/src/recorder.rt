@@ -7,7 +7,7 @@ ghost use Rattle.machine_model.specs.Step.{reply_in, step};
 ghost use Rattle.replay_history.specs.Capture.{commits};
 ghost use Rattle.capture_recorder.specs.declared.recorder.TheConstants.{ACCEPTED_LIMIT as ACCEPTED};
 ghost use Rattle.capture_recorder.specs.Recording.{IsRecording, Turns, captured, closed, closing_reply, connected_count, cut, is_stranger, kept_ended, opened, recorded, turned_away};
-ghost use Rattle.capture_recorder.specs.Sessions.{calls_of};
+ghost use Rattle.capture_laws.specs.Sessions.{calls_of};
 
 use crate::progress::Progress;
 use crate::refusal::CallErr;

@@ -2,7 +2,7 @@
 
 ghost use Rattle.std.specs.Prelude.{◌≡◌, ◌++◌, ℕ, drop, IfOk, OnOk, map};
 ghost use Rattle.capture_recorder.specs.Recording.{IsRecording, Recording};
-ghost use Rattle.capture_recorder.specs.Sessions.{AreSessions, calls_of, session_lists};
+ghost use Rattle.capture_laws.specs.Sessions.{AreSessionsFrom, calls_of, session_lists};
 
 use desk_values::{CallList, Captured, Copied, List, Memory, SessionLists};
 use std::alloc::Global;
@@ -11,7 +11,7 @@ use std::alloc::Global;
 /// as the file of its session.
 pub fn sessions_of(alloc: Global, calls: &CallList, count: u32) -> Result<SessionLists, Memory>
     ensures lists { IfOk result (λ lists. map (λ list. list.items) lists ≡ session_lists count calls.now.items) }
-    ensures files { IfOk result (λ lists. (r : Recording) → IsRecording r → r.calls ≡ calls.now.items → AreSessions 0 (map (λ list. list.items) lists)) }
+    ensures files { IfOk result (λ lists. (r : Recording) → IsRecording r → r.calls ≡ calls.now.items → AreSessionsFrom 0 (map (λ list. list.items) lists)) }
 {
     know_lists();
     let mut lists = List::new(alloc);
@@ -40,5 +40,5 @@ pub(crate) fn session_calls(
 
 /// The calls of each session of a recorder have a file. It costs nothing.
 fn know_lists()
-    ensures { (r : Recording) (count : ℕ) → IsRecording r → AreSessions 0 (session_lists count r.calls) }
+    ensures { (r : Recording) (count : ℕ) → IsRecording r → AreSessionsFrom 0 (session_lists count r.calls) }
 {}

@@ -1,21 +1,21 @@
 -- The steps of a command go through where the files are a capture.
-use Rattle.std.proofs.Common.{◌≡◌, ℕ, ◌+◌, ◌-◌, ◌≤◌, List, [], ◌∷◌, length, Option, Some, Ok, refl, sym, ap, subst, ◌∙◌, arith}
+use Rattle.std.proofs.Common.{◌≡◌, ℕ, ◌+◌, ◌-◌, ◌≤◌, List, [], ◌∷◌, length, Option, None, Some, Ok, refl, sym, ap, subst, ◌∙◌, arith}
 use Rattle.std.proofs.lemmas.Bool.{le-ltb}
 use Rattle.desk_values.specs.declared.capture.Captured.{Captured}
 use Rattle.desk_files.specs.Outside.{FileMap}
 use Rattle.desk_files.specs.declared.files.TheConstants.{FILE_LIMIT}
 use Rattle.capture_format.specs.declared.start.StartFile.{StartFile}
 use Rattle.prepare_plan.specs.Lists.{all_calls, by_stamp}
-use Rattle.prepare_plan.specs.Verdict.{Plan, verdict}
 use Rattle.legality_law.specs.First.{plan_of}
 use Rattle.legality_law.proofs.Taken.{plan_given}
 use Rattle.replay_cli.specs.declared.words.Command.{Command}
 use Rattle.replay_cli.specs.declared.words.Command.TheVariants.{Run, Prepare}
 use Rattle.replay_cli.specs.Command.{command_of}
-use Rattle.replay_cli.specs.Decision.{Decides, LegalIn, SessionOf, Task, ToReplay, ToTell, Verdict, VerdictOf}
+use Rattle.remap_ids.specs.Services.{ServicePair}
+use Rattle.replay_cli.specs.Decision.{Decides, Legal, ReadIn, RemapIn, SessionOf, Task, ToReplay, ToTell, Verdict, VerdictOf, job_of, remap_of}
 use Rattle.replay_cli.specs.Steps.{Reading, file_in, file_of}
 use Rattle.replay_cli.specs.Words.{session_names, start_name}
-use Rattle.command_laws.specs.Complete.{AreCapture, AreThere, CapturesArePrepared, CapturesAreReplayed, IsThere, LegalCapturesAreReplayed, capture_limit, total}
+use Rattle.command_laws.specs.Complete.{AreCapture, AreThere, HasRemap, CapturesArePrepared, CapturesAreReplayed, IsThere, LegalCapturesArePrepared, LegalCapturesAreReplayed, capture_limit, total}
 
 -- a file that is there is read where there is room
 file_read : (files : FileMap) (room : ℕ) (name bytes : List ℕ) → IsThere files name bytes → length bytes ≤ room → file_in files room name ≡ Ok bytes
@@ -33,28 +33,39 @@ all_read files room session [] [] (calls ∷ lists) there small = absurd there
 all_read files room session (name ∷ names) [] lists there small = absurd there
 all_read files room session (name ∷ names) (bytes ∷ texts) [] there small = absurd there
 
--- and the capture is legal as it was decided
-capture_read : (files : FileMap) (folder : List ℕ) (file : StartFile) (lists : List (List Captured)) (plan : Plan) → AreCapture files folder file lists → verdict file.start lists ≡ Ok plan
-    → LegalIn files folder (Ok (record { start = file.start; calls = plan.calls; facts = plan.facts }))
-capture_read files folder file lists plan are is =
+-- and those of a capture
+capture_read : (files : FileMap) (folder : List ℕ) (file : StartFile) (lists : List (List Captured)) → AreCapture files folder file lists → ReadIn files folder (Ok (record { start = file.start; sessions = lists }))
+capture_read files folder file lists are =
     let room : length are.bytes ≤ capture_limit = omega (arith, are.together) in
     let left : total are.texts ≤ capture_limit - length are.bytes = omega (arith, are.together) in (
       record { file = file; left = capture_limit - length are.bytes },
       (are.bytes, file_read files capture_limit (start_name folder) are.bytes are.there room, (file, are.start, refl)),
-      (lists, all_read files (capture_limit - length are.bytes) 0 (session_names folder file.sessions) are.texts lists are.sessions left, (refl, is)),
+      (lists, all_read files (capture_limit - length are.bytes) 0 (session_names folder file.sessions) are.texts lists are.sessions left, refl),
     )
+
+-- and the remap file
+remap_read : (files : FileMap) (name : Option (List ℕ)) (services : List ServicePair) → HasRemap files name services → RemapIn files name (Ok services)
+remap_read files None services none = ap (λ pairs. Ok pairs) (sym none)
+remap_read files (Some name) services has = (has.0, file_read files FILE_LIMIT name has.0 has.1 has.1.1, ap remap_of has.2)
 
 decided : (words : List (List ℕ)) (files : FileMap) (command : Command) (task : Task) → command_of words ≡ Some command → Decides command files (Ok task) → Verdict words files (Ok task)
 decided words files command task is h = subst (λ (c : Option Command). VerdictOf c files (Ok task)) (sym is) h
 
 pub replayed : CapturesAreReplayed
-replayed words files folder out file lists plan command are is =
-    decided words files (Run folder out) (ToReplay out file.start plan.calls) command (record { start = file.start; calls = plan.calls; facts = plan.facts }, capture_read files folder file lists plan are is, refl)
+replayed words files folder out ways file lists services plan command are has is =
+    let legal : Legal = record { start = file.start; calls = plan.calls; facts = plan.facts } in
+    decided words files (Run folder out ways) (ToReplay out (job_of legal services ways)) command
+    (record { start = file.start; sessions = lists }, capture_read files folder file lists are, (services, remap_read files ways.remap services has, (legal, (refl, is), refl)))
 
 pub prepared : CapturesArePrepared
 prepared words files folder out file lists plan command are is =
-    decided words files (Prepare folder out) (ToTell out plan.facts) command (record { start = file.start; calls = plan.calls; facts = plan.facts }, capture_read files folder file lists plan are is, refl)
+    decided words files (Prepare folder out) (ToTell out plan.facts) command
+    (record { start = file.start; sessions = lists }, capture_read files folder file lists are, (record { start = file.start; calls = plan.calls; facts = plan.facts }, (refl, is), refl))
 
 pub legal_replayed : LegalCapturesAreReplayed
-legal_replayed words files folder out file lists command are can =
-    replayed words files folder out file lists (plan_of file.start (by_stamp (all_calls lists))) command are (plan_given file.start lists can.0 can.1 can.2)
+legal_replayed words files folder out ways file lists services command are has can =
+    replayed words files folder out ways file lists services (plan_of file.start (by_stamp (all_calls lists))) command are has (plan_given file.start lists can.0 can.1 can.2)
+
+pub legal_prepared : LegalCapturesArePrepared
+legal_prepared words files folder out file lists command are can =
+    prepared words files folder out file lists (plan_of file.start (by_stamp (all_calls lists))) command are (plan_given file.start lists can.0 can.1 can.2)

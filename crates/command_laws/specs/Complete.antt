@@ -1,5 +1,5 @@
 -- When the files of a folder are a capture, told without the steps of a command.
-use Rattle.std.specs.Prelude.{◌≡◌, ℕ, ◌+◌, ◌≤◌, List, [], ◌∷◌, length, Some, Ok}
+use Rattle.std.specs.Prelude.{◌≡◌, ℕ, ◌+◌, ◌≤◌, List, [], ◌∷◌, length, Option, None, Some, Ok}
 use Rattle.std.specs.FinMap.{get}
 use Rattle.desk_values.specs.declared.capture.Captured.{Captured}
 use Rattle.desk_files.specs.Outside.{FileMap}
@@ -9,9 +9,12 @@ use Rattle.capture_format.specs.StartFile.{IsStartFile}
 use Rattle.capture_format.specs.SessionFile.{IsSessionFile}
 use Rattle.prepare_plan.specs.Lists.{all_calls, by_stamp}
 use Rattle.prepare_plan.specs.Verdict.{CanBeLegal, Plan, verdict}
+use Rattle.prepare_plan.specs.Facts.{facts_of}
+use Rattle.remap_ids.specs.Services.{ServicePair, services_of}
+use Rattle.replay_cli.specs.declared.options.Ways.{Ways}
 use Rattle.replay_cli.specs.declared.words.Command.TheVariants.{Run, Prepare}
 use Rattle.replay_cli.specs.Command.{command_of}
-use Rattle.replay_cli.specs.Decision.{Verdict, ToReplay, ToTell}
+use Rattle.replay_cli.specs.Decision.{Verdict, ToReplay, ToTell, job_of}
 use Rattle.replay_cli.specs.Words.{session_names, start_name}
 
 -- the file of this name is there, with these bytes, and within the limit of one file
@@ -42,18 +45,30 @@ pub record AreCapture (files : FileMap) (folder : List ℕ) (file : StartFile) (
   pub sessions : AreThere files 0 (session_names folder file.sessions) texts lists
   pub together : length bytes + total texts ≤ capture_limit
 
+-- the remap file is there and says these services; or none is named, and there are none
+abbrev pub HasRemap : FileMap → Option (List ℕ) → List ServicePair → Type 0
+HasRemap files None services = services ≡ []
+HasRemap files (Some name) services = (bytes : List ℕ) × IsThere files name bytes × (services_of bytes ≡ Ok services)
+
 abbrev pub CapturesAreReplayed : Type 0
-CapturesAreReplayed = (words : List (List ℕ)) (files : FileMap) (folder out : List ℕ) (file : StartFile) (lists : List (List Captured)) (plan : Plan)
-    → command_of words ≡ Some (Run folder out) → AreCapture files folder file lists → verdict file.start lists ≡ Ok plan
-    → Verdict words files (Ok (ToReplay out file.start plan.calls))
+CapturesAreReplayed = (words : List (List ℕ)) (files : FileMap) (folder out : List ℕ) (ways : Ways) (file : StartFile) (lists : List (List Captured)) (services : List ServicePair) (plan : Plan)
+    → command_of words ≡ Some (Run folder out ways) → AreCapture files folder file lists → HasRemap files ways.remap services → verdict file.start lists ≡ Ok plan
+    → Verdict words files (Ok (ToReplay out (job_of (record { start = file.start; calls = plan.calls; facts = plan.facts }) services ways)))
 
 abbrev pub CapturesArePrepared : Type 0
 CapturesArePrepared = (words : List (List ℕ)) (files : FileMap) (folder out : List ℕ) (file : StartFile) (lists : List (List Captured)) (plan : Plan)
     → command_of words ≡ Some (Prepare folder out) → AreCapture files folder file lists → verdict file.start lists ≡ Ok plan
     → Verdict words files (Ok (ToTell out plan.facts))
 
--- where some order of the calls is a legal capture, they are replayed by stamp
+-- where some order of the calls is a legal capture, they are replayed, by stamp
 abbrev pub LegalCapturesAreReplayed : Type 0
-LegalCapturesAreReplayed = (words : List (List ℕ)) (files : FileMap) (folder out : List ℕ) (file : StartFile) (lists : List (List Captured))
-    → command_of words ≡ Some (Run folder out) → AreCapture files folder file lists → CanBeLegal file.start (all_calls lists)
-    → Verdict words files (Ok (ToReplay out file.start (by_stamp (all_calls lists))))
+LegalCapturesAreReplayed = (words : List (List ℕ)) (files : FileMap) (folder out : List ℕ) (ways : Ways) (file : StartFile) (lists : List (List Captured)) (services : List ServicePair)
+    → command_of words ≡ Some (Run folder out ways) → AreCapture files folder file lists → HasRemap files ways.remap services → CanBeLegal file.start (all_calls lists)
+    → let calls = by_stamp (all_calls lists) in
+    Verdict words files (Ok (ToReplay out (job_of (record { start = file.start; calls = calls; facts = facts_of file.start.schema calls }) services ways)))
+
+-- and which wait for which is told
+abbrev pub LegalCapturesArePrepared : Type 0
+LegalCapturesArePrepared = (words : List (List ℕ)) (files : FileMap) (folder out : List ℕ) (file : StartFile) (lists : List (List Captured))
+    → command_of words ≡ Some (Prepare folder out) → AreCapture files folder file lists → CanBeLegal file.start (all_calls lists)
+    → Verdict words files (Ok (ToTell out (facts_of file.start.schema (by_stamp (all_calls lists)))))

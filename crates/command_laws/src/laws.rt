@@ -1,9 +1,10 @@
 //! Laws of what the words and the files come to.
 
-ghost use Rattle.command_laws.specs.Complete.{CapturesArePrepared, CapturesAreReplayed, LegalCapturesAreReplayed};
+ghost use Rattle.command_laws.specs.Complete.{CapturesArePrepared, CapturesAreReplayed, LegalCapturesArePrepared, LegalCapturesAreReplayed};
+ghost use Rattle.command_laws.specs.Ends.{QuietRunsCarryTables, RunsAgainAreQuiet, TablesAreCarried};
 
 /// Completeness of `run`: where the words are its command, the files of the capture are there, each within the limit of one
-/// file and all within that of a capture, and its calls are accepted, the calls are to be replayed. By the clause `each` of
+/// file and all within that of a capture, the remap file says services where one is named, and the calls are accepted, the calls are to be replayed. By the clause `each` of
 /// `replay_main` the command then ends with its work done, or by a fault or want of memory.
 pub fn captures_are_replayed()
     ensures { CapturesAreReplayed }
@@ -14,7 +15,25 @@ pub fn captures_are_prepared()
     ensures { CapturesArePrepared }
 {}
 
-/// And in the words of a legal capture alone: where some order of the calls is one, they are replayed in it.
+/// And in the words of a legal capture alone: where some order of the calls is one, they are replayed, by stamp.
 pub fn legal_captures_are_replayed()
     ensures { LegalCapturesAreReplayed }
+{}
+
+/// The same of `prepare`.
+pub fn legal_captures_are_prepared()
+    ensures { LegalCapturesArePrepared }
+{}
+
+/// A run that does again what the capture did, in its order, from its start and by its services, prints that no call differs, and
+/// ends in the captured state, whose tables it writes.
+pub fn runs_again_are_quiet()
+    ensures { RunsAgainAreQuiet }
+{}
+
+/// In the captured order and in the order of commits, the tables that are written are the captured ones, each row number and each id
+/// replaced by the one that stands for it in the replay, where no commit differs; and so wherever no call differs.
+pub fn tables_are_carried()
+    ensures carried { TablesAreCarried }
+    ensures quiet { QuietRunsCarryTables }
 {}

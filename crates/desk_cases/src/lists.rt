@@ -3,13 +3,17 @@
 use crate::replies::append_same;
 use crate::values::{append_named_number, append_value};
 use case_text::{first_word, number_of, small_number};
-use desk_values::{BindErr, Binds, Bytes, Copied, List, Memory, ReadErr, Reserved, Value};
+use desk_values::{
+    BindErr, Binds, Bytes, Copied, List, Memory, ReadErr, Reserved, RowList, Value, read_values,
+    sort_rows, write_values,
+};
 use std::alloc::Global;
 
 pub fn answer(alloc: Global, word: &str, text: &str, to: &mut Bytes) -> Result<(), ReadErr> {
     match word {
         "reserved" => append_reserved(alloc, text, to),
         "binds" => Ok(append_binds(alloc, small_number(text), to)?),
+        "sort" => append_sorted(alloc, text, to),
         _ => Ok(append_joined(alloc, text, to)?),
     }
 }
@@ -48,6 +52,23 @@ fn append_numbers(numbers: &[u64], to: &mut Bytes) -> Result<(), Memory> {
         append_named_number(b" ", *number, to)?;
     }
     to.append(b" ]")
+}
+
+// The rows in ascending order.
+fn append_sorted(alloc: Global, text: &str, to: &mut Bytes) -> Result<(), ReadErr> {
+    let mut rows = List::new(alloc);
+    for row in text.split(' ') {
+        rows.push(read_values(alloc, row.as_bytes())?)?;
+    }
+    Ok(append_rows(&sort_rows(&rows)?, to)?)
+}
+
+fn append_rows(rows: &RowList, to: &mut Bytes) -> Result<(), Memory> {
+    for row in rows.as_slice() {
+        write_values(row.as_slice(), to)?;
+        to.push(b' ')?;
+    }
+    Ok(())
 }
 
 // Pushes so many numbers. The answer of each that is refused, and what a copy holds.

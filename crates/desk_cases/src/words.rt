@@ -1,12 +1,11 @@
-//! Words of keywords, modes, classes and rights, numbers of faults, and clean reports.
+//! Words of keywords, modes, classes and rights, and numbers of faults.
 
 use crate::values::append_named_number;
 use case_text::small_number;
 use desk_schema::Rights;
-use desk_values::fields::append_u64;
 use desk_values::keyword::Keyword;
 use desk_values::{Bytes, Fault, Memory, Word, find_word};
-use replay_history::{Class, Mode, Report};
+use replay_history::{Class, Mode};
 use std::alloc::Global;
 use std::fmt::Debug;
 
@@ -18,8 +17,7 @@ pub fn answer(alloc: Global, word: &str, text: &str, to: &mut Bytes) -> Result<(
         "rights" => append_found::<Rights>(alloc, text, to),
         "modes" => append_words(Mode::members(), to),
         "classes" => append_words(Class::members(), to),
-        "fault" => append_fault(alloc, small_number(text), to),
-        _ => append_clean(alloc, u64::from(small_number(text)), to),
+        _ => append_fault(alloc, small_number(text), to),
     }
 }
 
@@ -51,15 +49,4 @@ fn append_fault(alloc: Global, number: u32, to: &mut Bytes) -> Result<(), Memory
     append_name(alloc, &fault, to)?;
     append_named_number(b" ", u64::from(fault.number()), to)?;
     append_named_number(b", rank ", u64::from(fault.rank()), to)
-}
-
-// The report of so many calls that are the same: its calls, its counts and how many lines it has.
-fn append_clean(alloc: Global, calls: u64, to: &mut Bytes) -> Result<(), Memory> {
-    let report = Report::clean(alloc, calls);
-    append_u64(report.calls, to)?;
-    to.append(b" calls:")?;
-    for count in report.counts.as_slice() {
-        append_named_number(b" ", *count, to)?;
-    }
-    append_named_number(b", lines: ", report.lines.len() as u64, to)
 }

@@ -9,3 +9,4 @@ pub mod ValueTexts
 pub mod Words
 pub mod Faults
 pub mod Keeping
+pub mod ValueOrder

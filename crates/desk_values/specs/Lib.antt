@@ -10,3 +10,4 @@ pub mod Fields
 pub mod Reading
 pub mod Comparison
 pub mod Ids
+pub mod Sorting

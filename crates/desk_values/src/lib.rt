@@ -18,6 +18,7 @@ mod read_err;
 mod reading;
 mod reserved;
 mod same;
+mod sorting;
 mod text;
 mod value;
 mod well_formed;
@@ -33,7 +34,8 @@ pub use memory::{Copied, Memory};
 pub use read_err::ReadErr;
 pub use reading::{read_value, read_values};
 pub use reserved::Reserved;
-pub use same::Same;
+pub use same::{Same, same_items};
+pub use sorting::sort_rows;
 pub use text::{TEXT_LIMIT, Txt, TxtErr};
 pub use value::{
     BIND_LIMIT, BindErr, Binds, Bytes, Image, Images, RowList, Stamps, TABLE_LIMIT, Value, Values,

@@ -1,6 +1,7 @@
 ghost use Rattle.std.specs.Prelude.{◌≡◌, ◌↔◌, IsTrue};
 
 use crate::call::{Call, Outcome, Reply};
+use crate::capture::Captured;
 use crate::list::List;
 use crate::text::Txt;
 use crate::value::{Binds, Image, Value};
@@ -34,7 +35,8 @@ impl<T: Same> Same for List<T> {
     }
 }
 
-fn same_items<T: Same>(left: &[T], right: &[T]) -> bool
+/// Whether the two have equal items in one order.
+pub fn same_items<T: Same>(left: &[T], right: &[T]) -> bool
     ensures { IsTrue result ↔ (left.now ≡ right.now) }
 {
     if left.len() != right.len() {
@@ -113,5 +115,19 @@ impl Same for Call {
             (Call::Disconnect, Call::Disconnect) => true,
             _ => false,
         }
+    }
+}
+
+impl Same for Captured {
+    fn same(&self, other: &Captured) -> bool {
+        self.session == other.session
+            && self.place == other.place
+            && self.stamp == other.stamp
+            && self.seen == other.seen
+            && self.number == other.number
+            && self.began == other.began
+            && self.ended == other.ended
+            && self.call.same(&other.call)
+            && self.reply.same(&other.reply)
     }
 }

@@ -5,13 +5,13 @@
 //! for a line feed, and `\` with two hexadecimal digits for a byte.
 #![tactic(auto)]
 
-mod escape;
 mod shown;
 
 use capture_format::{
     FormErr, read_call, read_reply, read_session, read_start, write_call, write_reply,
     write_session, write_start,
 };
+use case_text::bytes_of_line;
 use desk_values::{Bytes, Memory, ReadErr};
 use std::alloc::Global;
 
@@ -20,7 +20,7 @@ fn main(rt: HostRuntime) -> Result<(), anyhow::Error> {
     for line in rt.lines(alloc) {
         let line = line?;
         let (wanted, text) = line.as_str().split_once(' ').unwrap_or(("", ""));
-        let bytes = escape::unescaped(alloc, text)?;
+        let bytes = bytes_of_line(alloc, text)?;
         let answer = answered(alloc, wanted, bytes.as_slice())?;
         println!(rt; "{answer}")?;
     }

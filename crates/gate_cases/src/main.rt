@@ -19,9 +19,9 @@ mod parts;
 mod plain;
 mod play;
 mod random;
-mod shown;
 
 use anyhow::anyhow;
+use case_text::{numbers_text, stamp_text};
 use desk_values::List;
 use object_depends::{FactList, Needs, requires_csv};
 use parts::{fact_of, mode_of, number_of, numbers_of};
@@ -102,8 +102,8 @@ fn required(alloc: Global, facts: &FactList, rest: &str) -> Result<String, anyho
     let needs = Needs::of(alloc, facts, mode_of(mode)?)?;
     let stamps = needs.required(k)?;
     let (count, last) = needs.count_last(k);
-    let list = shown::numbers(alloc, stamps.as_slice())?;
-    let last = shown::stamp(alloc, last)?;
+    let list = numbers_text(alloc, stamps.as_slice())?;
+    let last = stamp_text(alloc, last)?;
     Ok(format!(in alloc; "required {mode} {k}: {list}, count {count}, last {last}")?)
 }
 
@@ -122,9 +122,9 @@ fn played(alloc: Global, play: &mut Play, word: &str, rest: &str) -> Result<Stri
 fn asked(alloc: Global, play: &Play, word: &str, rest: &str) -> Result<String, anyhow::Error> {
     let gate = play.gate();
     let answer = match word {
-        "ready" => shown::numbers(alloc, play.all_ready(alloc)?.as_slice())?,
-        "first" => shown::stamp(alloc, gate.first_open())?,
-        "pick" => shown::stamp(alloc, gate.pick(numbers_of(alloc, rest)?.as_slice()))?,
+        "ready" => numbers_text(alloc, play.all_ready(alloc)?.as_slice())?,
+        "first" => stamp_text(alloc, gate.first_open())?,
+        "pick" => stamp_text(alloc, gate.pick(numbers_of(alloc, rest)?.as_slice()))?,
         "done" => format!(in alloc; "{}", gate.done(numbers_of(alloc, rest)?.as_slice()))?,
         "mark" => format!(in alloc; "{}", gate.mark())?,
         "table" => {

@@ -1,22 +1,24 @@
 -- A verdict takes what can be legal.
-use Rattle.std.proofs.Common.{◌≡◌, List, length, ap, subst, ◌∙◌, arith}
-use Rattle.std.specs.Prelude.{Option, None, Ok}
+use Rattle.std.proofs.Common.{◌≡◌, ℕ, List, length, ap, subst, ◌∙◌, arith}
+use Rattle.std.specs.Prelude.{Option, None, Ok, option_map}
 use Rattle.std.specs.List.Sorted.{IsPermutation}
 use Rattle.std.proofs.lemmas.Bool.{le-leb}
 use Rattle.desk_values.specs.declared.capture.Captured.{Captured}
 use Rattle.desk_schema.specs.Start.{StartView}
 use Rattle.prepare_plan.specs.declared.refusal.Refusal.{Refusal}
+use Rattle.prepare_plan.specs.declared.refusal.Refusal.TheVariants.{Stamp}
 use Rattle.prepare_plan.specs.declared.refusal.TheConstants.{CALL_LIMIT}
-use Rattle.prepare_plan.specs.Lists.{all_calls, by_stamp}
+use Rattle.capture_laws.specs.Stamped.{IsStamped}
+use Rattle.capture_laws.specs.Stamps.{all_calls, by_stamp}
+use Rattle.capture_laws.proofs.Ordered.{len, none_bad, order_is_by_stamp}
 use Rattle.prepare_plan.specs.Tests.{bad_stamp, too_many}
 use Rattle.prepare_plan.specs.Verdict.{IsLegal, fault_of, or_else, verdict, verdict_of}
 use Rattle.legality_law.specs.First.{plan_of}
 use Rattle.legality_law.proofs.Fits.{no_fault, unless_true}
-use Rattle.legality_law.proofs.Stamps.{StampedFrom, len, order_is_by_stamp, stamps_good}
 
 module _ (start : StartView) (lists : List (List Captured)) (ordered : List Captured) (same : IsPermutation (all_calls lists) ordered) (legal : IsLegal start ordered) where
-  stamped : StampedFrom 0 ordered
-  stamped j call there = omega (arith, (legal.each j call there).stamp)
+  stamped : IsStamped ordered
+  stamped j call there = (legal.each j call there).stamp
 
   pub order_is : ordered ≡ by_stamp (all_calls lists)
   order_is = order_is_by_stamp (all_calls lists) ordered same stamped
@@ -25,12 +27,13 @@ module _ (start : StartView) (lists : List (List Captured)) (ordered : List Capt
   few = unless_true _ _ (le-leb (length (all_calls lists)) CALL_LIMIT (omega (arith, legal.count, len (all_calls lists) ordered same stamped)))
 
   stamps : bad_stamp (all_calls lists) ≡ None
-  stamps = stamps_good (all_calls lists) ordered same stamped
+  stamps = ap (λ (o : Option ℕ). option_map Stamp o) (none_bad (all_calls lists) ordered same stamped)
 
   passes : fault_of start (by_stamp (all_calls lists)) ≡ None
   passes = subst (λ (l : List Captured). fault_of start l ≡ None) order_is (no_fault start ordered legal)
 
   pub plan_given : verdict start lists ≡ Ok (plan_of start (by_stamp (all_calls lists)))
+  unfolding verdict
   plan_given =
       let plan = plan_of start (by_stamp (all_calls lists)) in
       ap (λ (o : Option Refusal). or_else o (or_else (bad_stamp (all_calls lists)) (verdict_of start (by_stamp (all_calls lists))))) few

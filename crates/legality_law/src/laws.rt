@@ -7,7 +7,8 @@ ghost use Rattle.desk_schema.specs.Start.{StartView};
 ghost use Rattle.replay_history.specs.Capture.{commits_before, number_of};
 ghost use Rattle.replay_history.specs.Gap.{IsCallAt};
 ghost use Rattle.prepare_plan.specs.declared.refusal.Refusal.{Refusal};
-ghost use Rattle.prepare_plan.specs.Lists.{AreListsFrom, all_calls, by_stamp};
+ghost use Rattle.capture_laws.specs.Sessions.{AreSessionsFrom};
+ghost use Rattle.capture_laws.specs.Stamps.{all_calls, by_stamp};
 ghost use Rattle.prepare_plan.specs.Tests.{bad_stamp, commits_in, first_refused, right_number};
 ghost use Rattle.prepare_plan.specs.Verdict.{CanBeLegal, IsLegal, verdict};
 ghost use Rattle.legality_law.specs.First.{IsFirstRefused, IsNeverRefused, IsTaken, Test, plan_of};
@@ -20,7 +21,7 @@ pub fn legal_captures_are_taken()
 
 /// Of lists that files of sessions have, the verdict takes exactly those whose calls can be a legal capture.
 pub fn taken_where_legal()
-    ensures { (start : StartView) (lists : List (List Captured)) → AreListsFrom 0 lists → length lists ≤ 64 → IsTaken start lists ↔ CanBeLegal start (all_calls lists) }
+    ensures { (start : StartView) (lists : List (List Captured)) → AreSessionsFrom 0 lists → length lists ≤ 64 → IsTaken start lists ↔ CanBeLegal start (all_calls lists) }
 {}
 
 /// A test that goes over calls refuses at the first of them that it fails, and nowhere where each passes. Where each number

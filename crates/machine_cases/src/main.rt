@@ -11,13 +11,13 @@
 //! lines were worked out from the rules of the server, independently of the engine.
 #![tactic(auto)]
 
-mod calls;
 mod shown;
 
 ghost use Rattle.std.specs.Prelude.{◌<◌};
 
 use anyhow::anyhow;
 use capture_format::{read_start, write_reply};
+use case_text::call_of;
 use desk_values::{Bytes, List, Value, read_value};
 use std::alloc::Global;
 use txn_engine::{Engine, STEP_LIMIT};
@@ -99,7 +99,7 @@ fn replied(
     session: u32,
     text: &str,
 ) -> Result<String, anyhow::Error> {
-    let call = calls::call_of(alloc, text)?;
+    let call = call_of(alloc, text)?;
     if session >= 64 || engine.steps() >= STEP_LIMIT {
         return Err(anyhow!("no such session"));
     }
@@ -111,7 +111,7 @@ fn replied(
 fn copied(alloc: Global, engine: &mut Engine, text: &str) -> Result<String, anyhow::Error> {
     let (session, text) = text.split_once(' ').ok_or(anyhow!("no session"))?;
     let session: u32 = session.parse()?;
-    let call = calls::call_of(alloc, text)?;
+    let call = call_of(alloc, text)?;
     if session >= 64 || engine.steps() >= STEP_LIMIT {
         return Err(anyhow!("no such session"));
     }

@@ -2,7 +2,7 @@ ghost use Rattle.std.specs.Prelude.{◌≡◌, ◌<◌, ◌≤◌, ◌↔◌, Is
 ghost use Rattle.object_depends.specs.Facts.{has_table, is_commit, AreSound};
 ghost use Rattle.object_depends.specs.Required.{shares_table};
 
-use desk_values::{Copied, List, Memory};
+use desk_values::{Copied, List, Memory, Same};
 
 /// What a replay has to know of a call, to tell which calls it waits for.
 #[derive(Clone, Copy, Debug, PartialEq, Eq)]
@@ -22,6 +22,16 @@ pub struct Fact {
 impl Copied for Fact {
     fn copy(&self) -> Result<Fact, Memory> {
         Ok(*self)
+    }
+}
+
+impl Same for Fact {
+    fn same(&self, other: &Fact) -> bool {
+        self.session == other.session
+            && self.seen == other.seen
+            && self.number == other.number
+            && self.refs == other.refs
+            && self.writes == other.writes
     }
 }
 

@@ -14,12 +14,9 @@
 
 mod shown;
 
-ghost use Rattle.std.specs.Prelude.{◌≡◌, ◌≤◌, length, IfOk};
-ghost use Rattle.prepare_plan.specs.Lists.{AreListsFrom, lists_of};
-
 use anyhow::anyhow;
-use capture_format::{read_session, read_start};
-use desk_values::{Bytes, List, SessionLists};
+use case_captures::capture_of;
+use desk_values::{Bytes, List};
 use prepare_plan::prepare;
 use std::alloc::Global;
 
@@ -74,34 +71,9 @@ fn append_many(alloc: Global, file: &mut Bytes, count: u32) -> Result<(), anyhow
 }
 
 fn verdict(alloc: Global, files: &[Bytes], with_facts: bool) -> Result<String, anyhow::Error> {
-    let [first, others @ ..] = files else {
-        return Err(anyhow!("no start"));
-    };
-    if others.len() > 64 {
-        return Err(anyhow!("too many sessions"));
-    }
-    let Ok(file) = read_start(alloc, first.as_slice()) else {
-        return Err(anyhow!("no start file"));
-    };
-    let sessions = sessions(alloc, others)?;
-    match prepare(alloc, &file.start, &sessions) {
+    let told = capture_of(alloc, files)?;
+    match prepare(alloc, &told.start, &told.sessions) {
         Ok(prepared) => shown::prepared(alloc, &prepared, with_facts),
         Err(refusal) => shown::refusal(alloc, refusal),
     }
-}
-
-// The calls of each session, by its file.
-fn sessions(alloc: Global, files: &[Bytes]) -> Result<SessionLists, anyhow::Error>
-    requires { length files.now ≤ 64 }
-    ensures count { IfOk result (λ sessions. length sessions ≡ length files.now) }
-    ensures lists { IfOk result (λ sessions. AreListsFrom 0 (lists_of sessions)) }
-{
-    let mut sessions = List::new(alloc);
-    for i in 0..files.len() {
-        let Ok(calls) = read_session(alloc, files[i].as_slice(), i as u32) else {
-            return Err(anyhow!("no session file"));
-        };
-        sessions.push(calls)?;
-    }
-    Ok(sessions)
 }

@@ -6,20 +6,22 @@ use Rattle.std.specs.declared.cmp.Ordering.TheVariants.{Less, Equal, Greater}
 use Rattle.std.specs.Ordering.{is_eq, nat_cmp, ordering_then}
 use Rattle.std.specs.List.{flat_map, list_any}
 use Rattle.std.proofs.lemmas.Grind.{common_steps}
+use Rattle.std.proofs.lemmas.List.{append-nil}
 use Rattle.std.proofs.lemmas.List.Folds.{list_any-append}
 use Rattle.std.proofs.lemmas.Grind.{flat_map-append}
 use Rattle.std.proofs.lemmas.Map.Views.{any-filter_same}
 use Rattle.desk_values.specs.Ids.{ids_of_image, ids_in, ids_left, is_id, ids_made}
 use Rattle.desk_values.specs.declared.value.Value.{Value}
-use Rattle.desk_values.specs.declared.value.Value.TheVariants.{Null, Int, Text, Row, Draw}
+use Rattle.desk_values.specs.declared.value.Value.TheVariants.{Row}
 use Rattle.desk_values.specs.declared.value.Image.{Image}
 use Rattle.desk_values.specs.declared.capture.Captured.{Captured}
 use Rattle.desk_values.specs.declared.call.Reply.{Reply}
-use Rattle.prepare_plan.specs.Same.{same_value}
-use Rattle.prepare_plan.specs.Tests.{given_by, ids_known}
+use Rattle.capture_laws.specs.Known.{given_by, ids_known}
+use Rattle.capture_laws.specs.Same.{same_value}
+use Rattle.capture_laws.proofs.Sameness.{value_decided}
 use Rattle.prepare_plan.specs.Inside.{pair_cmp, KnowsAll}
 use Rattle.prepare_plan.specs.declared.known.KnownIds.{KnownIds}
-use Rattle.prepare_plan.proofs.Walking.{taken}
+use Rattle.capture_laws.proofs.Scanning.{taken}
 
 -- ---- pairs
 
@@ -41,37 +43,10 @@ either false c = refl
 -- ---- values that are no ids
 
 same_id : (id value : Value) → is_id id ≡ true → same_value id value ≡ true → is_id value ≡ true
-same_id (Row n) (Row m) is same = refl
-same_id (Draw p n) (Draw q m) is same = refl
-same_id (Row n) Null is same = cc
-same_id (Row n) (Int m) is same = cc
-same_id (Row n) (Text m) is same = cc
-same_id (Row n) (Draw q m) is same = cc
-same_id (Draw p n) Null is same = cc
-same_id (Draw p n) (Int m) is same = cc
-same_id (Draw p n) (Text m) is same = cc
-same_id (Draw p n) (Row m) is same = cc
-same_id Null value is same = cc
-same_id (Int n) value is same = cc
-same_id (Text n) value is same = cc
+same_id id value is same = subst (λ (v : Value). is_id v ≡ true) ((value_decided id value).0 same) is
 
 only_ids : (id : Value) (values : List Value) → is_id id ≡ true → list_any (same_value id) (ids_in values) ≡ list_any (same_value id) values
 only_ids id values is = any-filter_same (same_value id) is_id true (λ value same. same_id id value is same) values
-
--- a value that is no id adds nothing
-pub adds_nothing : (ids : KnownIds) (known : List Value) (value : Value) → is_id value ≡ false → KnowsAll ids known → KnowsAll ids (known ++ value ∷ [])
-adds_nothing ids known value not_id knows id is = knows id is ∙ sym (list_any-append (same_value id) known (value ∷ []) ∙ tail (same_value id value) refl)
-  where
-    tail : (b : Bool) → same_value id value ≡ b → (list_any (same_value id) known || (same_value id value || false)) ≡ list_any (same_value id) known
-    tail true same = absurd (clash (sym (same_id id value is same) ∙ not_id))
-      where
-        clash : true ≡ false → ⊥
-        clash e = cc
-    tail false other = rw other (or_false (list_any (same_value id) known))
-      where
-        or_false : (b : Bool) → (b || false) ≡ b
-        or_false true = refl
-        or_false false = refl
 
 -- ---- more ids
 
@@ -91,8 +66,4 @@ pub ids_more : (rows : List Image) (calls : List Captured) (i : ℕ) (call : Cap
 ids_more rows calls i call within read =
     let given : Captured → List Value = λ (c : Captured). given_by c.reply in
     append_assoc (flat_map ids_of_image rows) (flat_map given (take i calls)) (given_by call.reply)
-    ∙ ap (λ (l : List Value). flat_map ids_of_image rows ++ l) (sym (ap (flat_map given) (taken calls i call within read) ∙ flat_map-append given (take i calls) (call ∷ []) ∙ ap (λ (l : List Value). flat_map given (take i calls) ++ l) (last (given_by call.reply))))
-  where
-    last : (l : List Value) → l ++ [] ≡ l
-    last [] = refl
-    last (x ∷ xs) = ap (λ (l : List Value). x ∷ l) (last xs)
+    ∙ ap (λ (l : List Value). flat_map ids_of_image rows ++ l) (sym (ap (flat_map given) (taken calls i call within read) ∙ flat_map-append given (take i calls) (call ∷ []) ∙ ap (λ (l : List Value). flat_map given (take i calls) ++ l) (append-nil (given_by call.reply))))

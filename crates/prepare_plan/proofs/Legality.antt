@@ -1,37 +1,131 @@
--- Calls that pass the tests are a legal capture.
-use Rattle.std.proofs.Common.{◌≡◌, ℕ, suc, ◌+◌, ◌<◌, ◌≤◌, Bool, true, false, ◌&&◌, ◌||◌, ◌⊎◌, inl, inr, ⊎_elim, List, [], ◌∷◌, ◌++◌, length, get_or, take, refl, sym, ap, subst, ◌∙◌, arith, cond}
-use Rattle.std.specs.Prelude.{Option, None, Some, count_by, nat_eq, nat_le, not, slice_get, if◌then◌else◌, option_map}
-use Rattle.std.specs.List.{AllByRecursion, Any, flat_map, fold, list_any}
-use Rattle.std.proofs.lemmas.List.Folds.{Any-from_list_any}
-use Rattle.std.proofs.lemmas.Bool.{eq-eqb, eqb-true, leb-true, true≢false}
-use Rattle.std.proofs.lemmas.List.{map-append}
-use Rattle.std.proofs.lemmas.List.Folds.{list_any-append}
-use Rattle.desk_values.specs.declared.value.Value.{Value}
-use Rattle.desk_values.specs.declared.value.Value.TheVariants.{Null, Int, Text, Row, Draw}
-use Rattle.desk_values.specs.declared.value.Image.{Image}
-use Rattle.desk_values.specs.declared.call.Reply.{Reply}
+-- From the tests that pass to a plan, and what a plan is: a legal capture with sound facts.
+use Rattle.std.proofs.Common.{◌≡◌, ℕ, ◌+◌, ◌<◌, ◌≤◌, List, [], ◌∷◌, length, refl, sym, ap, subst, ◌∙◌, arith, suc, Bool, true, false, map, get_or, ◌&&◌, ◌||◌, ◌++◌, take}
+use Rattle.std.specs.Prelude.{Option, None, Some, Result, Ok, Err, IfOk, option_map, slice_get, nat_le, not}
+use Rattle.std.specs.List.{AllByRecursion, list_any}
+use Rattle.std.proofs.lemmas.List.Elements.{All-from_recursion, recursion_from_All}
+use Rattle.std.proofs.lemmas.List.Sorted.{All-permutation}
+use Rattle.std.proofs.lemmas.Bool.{eqb-true, leb-true}
+use Rattle.std.proofs.lemmas.List.{length-map, map-append}
+use Rattle.desk_values.specs.Answers.{Answers}
 use Rattle.desk_values.specs.declared.capture.Captured.{Captured}
-use Rattle.desk_values.specs.Good.{IsGoodDraw, IsGoodReply}
-use Rattle.desk_values.specs.Ids.{ids_of_image, is_id, ids_made}
+use Rattle.capture_format.specs.SessionFile.{AreCallsFrom}
+use Rattle.object_depends.specs.declared.fact.Fact.{Fact}
+use Rattle.capture_laws.specs.Sessions.{AreSessionsFrom}
+use Rattle.capture_laws.specs.Stamps.{HasEach, all_calls, by_stamp}
+use Rattle.capture_laws.proofs.Members.{each_joined, some_is, each_get, each_weaker}
+use Rattle.capture_laws.proofs.Permuted.{stamped_are_all}
+use Rattle.capture_laws.proofs.Stamping.{by_stamp_len, has_each, stamp_is}
+use Rattle.prepare_plan.specs.declared.refusal.Refusal.{Refusal}
+use Rattle.prepare_plan.specs.declared.refusal.Refusal.TheVariants.{Stamp}
+use Rattle.prepare_plan.specs.declared.prepared.Prepared.{Prepared}
+use Rattle.prepare_plan.specs.Inside.{IsFit, ordered, ordered_or}
+use Rattle.prepare_plan.specs.Tests.{bad_stamp, bad_ids, bad_number, bad_reply, bad_seen, bad_times, first_refused, unless, asked, too_many}
+use Rattle.prepare_plan.specs.Verdict.{Plan, plan_seen, refusal_told, fault_of, IsLegal, or_else, verdict, verdict_of}
+use Rattle.desk_schema.specs.Schema.{SchemaView}
 use Rattle.desk_schema.specs.Start.{StartView}
+use Rattle.object_depends.specs.Facts.{AreSound, no_fact}
+use Rattle.capture_laws.specs.Numbered.{AreKnown, AreNumbered}
+use Rattle.capture_laws.proofs.Scanning.{both_none, none_told}
+use Rattle.capture_laws.proofs.Sound.{known_sound}
+use Rattle.prepare_plan.specs.Facts.{fact_of, facts_of}
+use Rattle.desk_values.specs.declared.value.Value.{Value}
+use Rattle.desk_values.specs.declared.value.Image.{Image}
+use Rattle.desk_values.specs.Good.{IsGoodReply}
 use Rattle.machine_model.specs.State.{State, opening}
 use Rattle.machine_model.specs.Step.{Gives, reply_in, run, step}
-use Rattle.replay_history.specs.Capture.{FitsIn, IsGivenBy, IsKnown, IsRun, StandsIn, binds_of}
+use Rattle.replay_history.specs.Capture.{FitsIn, IsKnown, IsRun, binds_of}
 use Rattle.replay_history.specs.Gap.{IsCallAt}
-use Rattle.prepare_plan.specs.Same.{same_value}
-use Rattle.prepare_plan.specs.Tests.{asked, bad_ids, bad_number, bad_reply, bad_seen, bad_times, first_refused, bad_stamp, given_by, ids_known, is_stranger}
-use Rattle.prepare_plan.proofs.Passing.{Passes, both_none, count_cons, count_yes, count_no, each_get, refused_none, unless_none, within}
-use Rattle.prepare_plan.proofs.Placing.{HasEach, by_stamp_get, by_stamp_len, has_each, place_is, stamp_is}
-use Rattle.prepare_plan.specs.Lists.{AreListsFrom, all_calls, by_stamp}
-use Rattle.prepare_plan.specs.Inside.{IsFit}
-use Rattle.prepare_plan.specs.Verdict.{IsLegal}
-use Rattle.prepare_plan.specs.declared.refusal.Refusal.TheVariants.{Stamp}
-use Rattle.prepare_plan.proofs.Sameness.{reply_is, value_decided}
-use Rattle.prepare_plan.proofs.Replying.{run_more}
+use Rattle.capture_laws.specs.Known.{ids_known, is_stranger}
+use Rattle.capture_laws.specs.Stamped.{ArePlaced}
+use Rattle.capture_laws.proofs.Following.{follows}
+use Rattle.capture_laws.proofs.Places.{place_is}
+use Rattle.capture_laws.proofs.Sameness.{reply_is}
+use Rattle.capture_laws.proofs.Strangers.{known_tells}
+use Rattle.prepare_plan.proofs.Walking.{run_more}
+use Rattle.prepare_plan.specs.declared.refusal.TheConstants.{CALL_LIMIT}
 
--- ---- replies
+fit_calls : (session place least : ℕ) (calls : List Captured) → session < 64 → AreCallsFrom session place least calls → AllByRecursion IsFit calls
+fit_calls session place least [] lt are = tt
+fit_calls session place least (call ∷ calls) lt are = (record { session = omega (arith, lt, are.0.session_is); reply = are.0.reply }, fit_calls session (place + 1) (call.stamp + 1) calls lt are.1)
 
-pub runs : (start : StartView) (before calls : List Captured) → first_refused (bad_reply start) before calls ≡ None → (last : State) × IsRun Gives (run (opening start) (asked before)) calls last
+pub fit_lists : (session : ℕ) (lists : List (List Captured)) → session + length lists ≤ 64 → AreSessionsFrom session lists → AllByRecursion IsFit (all_calls lists)
+fit_lists session [] few are = tt
+fit_lists session (calls ∷ lists) few are = each_joined IsFit calls (all_calls lists) (fit_calls session 0 0 calls (omega (arith, few)) are.0) (fit_lists (session + 1) lists (omega (arith, few)) are.1)
+
+nothing_bad : (o : Option ℕ) → option_map Stamp o ≡ None → o ≡ None
+nothing_bad None e = refl
+nothing_bad (Some n) e = cc
+
+pub all_stamped : (calls : List Captured) → bad_stamp calls ≡ None → HasEach calls
+all_stamped calls none = has_each calls (nothing_bad _ none)
+
+pub fit_by_stamp : (calls : List Captured) → HasEach calls → AllByRecursion IsFit calls → AllByRecursion IsFit (by_stamp calls)
+fit_by_stamp calls has fit = recursion_from_All IsFit (by_stamp calls) (All-permutation IsFit calls (by_stamp calls) (stamped_are_all calls has) (All-from_recursion IsFit calls fit))
+
+-- ---- what comes of an order
+
+ordered_case : (fault : Option Refusal) (calls items : List Captured) → ordered_or fault calls ≡ Ok items → (fault ≡ None) × (items ≡ by_stamp calls)
+ordered_case None calls items is = (refl, same is)
+  where
+    same : ◌≡◌ {A = Result (List Captured) Refusal} (Ok (by_stamp calls)) (Ok items) → items ≡ by_stamp calls
+    same e = cc
+ordered_case (Some fault) calls items is = cc
+
+module _ (lists : List (List Captured)) (calls items : List Captured) (all : calls ≡ all_calls lists) (given : ordered calls ≡ Ok items) where
+  -- no stamp is bad, and the calls stand by stamp
+  pub order_is : (bad_stamp (all_calls lists) ≡ None) × (items ≡ by_stamp (all_calls lists))
+  order_is = ordered_case (bad_stamp (all_calls lists)) (all_calls lists) items (sym (ap ordered all) ∙ given)
+
+  pub order_fit : length lists ≤ 64 → AreSessionsFrom 0 lists → AllByRecursion IsFit items
+  order_fit few are = subst (AllByRecursion IsFit) (sym order_is.1) (fit_by_stamp (all_calls lists) (all_stamped (all_calls lists) order_is.0) (fit_lists 0 lists (omega (arith, few)) are))
+
+  pub order_few : length calls ≤ 100000 → length items ≤ 100000
+  order_few few = omega (arith, few, ap length all, by_stamp_len (all_calls lists) (all_stamped (all_calls lists) order_is.0), ap length order_is.1)
+
+-- what is said of each plan that the verdict gives holds of an answer
+pub when_planned : (expected : Result Plan Refusal) (result : Result Prepared Refusal) (P : List Captured → List Fact → Type 0) → Answers plan_seen refusal_told result expected
+    → ((plan : Plan) → expected ≡ Ok plan → P plan.calls plan.facts) → IfOk result (λ prepared. P prepared.calls.items prepared.facts)
+when_planned expected (Ok prepared) P is each = each (record { calls = prepared.calls.items; facts = prepared.facts }) is
+when_planned expected (Err refusal) P is each = tt
+
+pub unless_none : (b : Bool) (refusal : Refusal) → unless b refusal ≡ None → b ≡ true
+unless_none true refusal e = refl
+unless_none false refusal e = cc
+
+pub record Passes (start : StartView) (calls : List Captured) : Type 0 where
+  pub numbers : first_refused bad_number [] calls ≡ None
+  pub seen : first_refused bad_seen [] calls ≡ None
+  pub times : first_refused bad_times [] calls ≡ None
+  pub ids : first_refused (bad_ids start.rows) [] calls ≡ None
+  pub replies : first_refused (bad_reply start) [] calls ≡ None
+
+pub passes_all : (start : StartView) (calls : List Captured) → fault_of start calls ≡ None → Passes start calls
+passes_all start calls none =
+    let one = both_none (first_refused bad_number [] calls) _ none in
+    let two = both_none (first_refused bad_seen [] calls) _ one.1 in
+    let three = both_none (first_refused bad_times [] calls) _ two.1 in
+    let four = both_none (first_refused (bad_ids start.rows) [] calls) _ three.1 in
+    record { numbers = one.0; seen = two.0; times = three.0; ids = four.0; replies = four.1 }
+
+pub numbered : (start : StartView) (calls : List Captured) → Passes start calls → AreNumbered calls
+numbered start calls passes k call there = (eqb-true _ _ (unless_none _ _ (none_told bad_seen [] calls passes.seen k call there)), eqb-true _ _ (unless_none _ _ (none_told bad_number [] calls passes.numbers k call there)))
+
+mapped_get : {X Y : Type 0} (f : X → Y) (xs : List X) (k : ℕ) (x : X) (d : Y) → slice_get xs k ≡ Some x → get_or (map f xs) k d ≡ f x
+mapped_get f [] k x d there = cc
+mapped_get f (y ∷ ys) Prim.Native.Nat.zero x d there = ap f (some_is there)
+mapped_get f (y ∷ ys) (suc k) x d there = mapped_get f ys k x d there
+
+pub facts_known : (schema : SchemaView) (calls : List Captured) → AreKnown calls (facts_of schema calls)
+unfolding facts_of
+facts_known schema calls = record {
+  count = length-map calls (fact_of schema);
+  each = λ k call there. (let at = mapped_get (fact_of schema) calls k call no_fact there in (ap (λ (f : Fact). f.seen) at, ap (λ (f : Fact). f.number) at));
+}
+
+pub facts_sound : (start : StartView) (schema : SchemaView) (calls : List Captured) → Passes start calls → AreSound (facts_of schema calls)
+facts_sound start schema calls passes = known_sound calls (facts_of schema calls) (numbered start calls passes) (facts_known schema calls)
+
+runs : (start : StartView) (before calls : List Captured) → first_refused (bad_reply start) before calls ≡ None → (last : State) × IsRun Gives (run (opening start) (asked before)) calls last
 runs start before [] none = (run (opening start) (asked before), refl)
 runs start before (call ∷ calls) none =
     let two = both_none (bad_reply start before call) _ none in
@@ -42,173 +136,89 @@ runs start before (call ∷ calls) none =
     let rest = runs start (before ++ call ∷ []) calls two.1 in
     (rest.0, (run (opening start) (asked (before ++ call ∷ [])), (same, next), rest.1))
 
--- ---- ids
-
-either_of : (a b : Bool) → (a || b) ≡ true → (a ≡ true) ⊎ (b ≡ true)
-either_of true b e = inl refl
-either_of false b e = inr e
-
-same_is : (id value : Value) → same_value id value ≡ true → value ≡ id
-same_is id value same = sym ((value_decided id value).0 same)
-
-any_same : (id : Value) (values : List Value) → list_any (same_value id) values ≡ true → Any (λ (other : Value). other ≡ id) values
-any_same id values found = let h = Any-from_list_any (same_value id) values found in (h.0, h.1, h.2, h.3, same_is id h.1 h.4)
-
-any_flat : {X : Type 0} (p : Value → Bool) (f : X → List Value) (xs : List X) → list_any p (flat_map f xs) ≡ list_any (λ x. list_any p (f x)) xs
-any_flat p f [] = refl
-any_flat p f (x ∷ xs) = list_any-append p (f x) (flat_map f xs) ∙ ap (λ (b : Bool). list_any p (f x) || b) (any_flat p f xs)
-
-stands : (id : Value) (rows : List Image) → list_any (same_value id) (flat_map ids_of_image rows) ≡ true → StandsIn rows id
-stands id rows found =
-    let h = Any-from_list_any (λ (row : Image). list_any (same_value id) (ids_of_image row)) rows (sym (any_flat (same_value id) ids_of_image rows) ∙ found) in
-    (h.0, h.1, h.2, h.3, any_same id (ids_of_image h.1) h.4)
-
-no_row : (n : ℕ) (draws : List Value) → AllByRecursion IsGoodDraw draws → list_any (same_value (Row n)) draws ≡ false
-no_row n [] all = refl
-no_row n (Draw q m ∷ draws) all = no_row n draws all.1
-no_row n (Null ∷ draws) all = absurd all.0
-no_row n (Int m ∷ draws) all = absurd all.0
-no_row n (Text m ∷ draws) all = absurd all.0
-no_row n (Row m ∷ draws) all = absurd all.0
-
-made_it : (n : ℕ) (made : Option ℕ) → list_any (same_value (Row n)) (ids_made made) ≡ true → made ≡ Some n
-made_it n None found = cc
-made_it n (Some m) found = ap (λ (k : ℕ). Some k) (sym (eqb-true n m (first (nat_eq n m) found)))
+known_each : (rows : List Image) (calls : List Captured) (k : ℕ) → AllByRecursion IsFit calls → (values : List Value) → list_any (is_stranger (ids_known rows (take k calls))) values ≡ false → AllByRecursion (IsKnown rows calls k) values
+known_each rows calls k fit [] none = tt
+known_each rows calls k fit (v ∷ values) none =
+    let two = neither (is_stranger (ids_known rows (take k calls)) v) _ none in
+    ((known_tells rows calls (each_weaker IsFit (λ (call : Captured). IsGoodReply call.reply) (λ call is. is.reply) calls fit) k v).0 two.0, known_each rows calls k fit values two.1)
   where
-    first : (b : Bool) → (b || false) ≡ true → b ≡ true
-    first true e = refl
-    first false e = cc
+    neither : (a b : Bool) → (a || b) ≡ false → (a ≡ false) × (b ≡ false)
+    neither true b e = cc
+    neither false b e = (refl, e)
 
-no_draw : (q n : ℕ) (made : Option ℕ) → list_any (same_value (Draw q n)) (ids_made made) ≡ true → ⊥
-no_draw q n None found = cc
-no_draw q n (Some m) found = cc
+both_true : (a b : Bool) → (a && b) ≡ true → (a ≡ true) × (b ≡ true)
+both_true true b e = (refl, e)
+both_true false b e = cc
 
-given : (id : Value) (reply : Reply) → IsGoodReply reply → is_id id ≡ true → list_any (same_value id) (given_by reply) ≡ true → IsGivenBy id reply
-given (Row n) reply good is found = ⊎_elim (λ drawn. absurd (true≢false (sym drawn ∙ no_row n reply.draws good.draws))) (λ made. made_it n reply.made made)
-    (either_of (list_any (same_value (Row n)) reply.draws) (list_any (same_value (Row n)) (ids_made reply.made)) (sym (list_any-append (same_value (Row n)) reply.draws (ids_made reply.made)) ∙ found))
-given (Draw q n) reply good is found = ⊎_elim (λ drawn. any_same (Draw q n) reply.draws drawn) (λ made. absurd (no_draw q n reply.made made))
-    (either_of (list_any (same_value (Draw q n)) reply.draws) (list_any (same_value (Draw q n)) (ids_made reply.made)) (sym (list_any-append (same_value (Draw q n)) reply.draws (ids_made reply.made)) ∙ found))
-given Null reply good is found = cc
-given (Int n) reply good is found = cc
-given (Text n) reply good is found = cc
+not_true : (b : Bool) → not b ≡ true → b ≡ false
+not_true true e = cc
+not_true false e = refl
 
-get_of : {X : Type 0} (xs : List X) (j : ℕ) (x : X) → j < length xs → get_or xs j x ≡ x → slice_get xs j ≡ Some x
-get_of [] j x lt is = absurd (omega (arith, lt))
-get_of {X = X} (y ∷ ys) Prim.Native.Nat.zero x lt is = ap (λ (z : X). Some z) is
-get_of (y ∷ ys) (suc j) x lt is = get_of ys j x (omega (arith, lt)) is
-
-taken_get : {X : Type 0} (k : ℕ) (xs : List X) (j : ℕ) (x : X) → slice_get (take k xs) j ≡ Some x → (j < k) × (slice_get xs j ≡ Some x)
-taken_get Prim.Native.Nat.zero xs j x there = cc
-taken_get (suc k) [] j x there = cc
-taken_get (suc k) (y ∷ ys) Prim.Native.Nat.zero x there = (omega arith, there)
-taken_get (suc k) (y ∷ ys) (suc j) x there = let h = taken_get k ys j x there in (omega (arith, h.0), h.1)
-
-module _ (rows : List Image) (calls : List Captured) (fit : AllByRecursion IsFit calls) (k : ℕ) where
-  known_one : (id : Value) → is_stranger (ids_known rows (take k calls)) id ≡ false → IsKnown rows calls k id
-  known_one id no_stranger is = ⊎_elim (λ here. inl (stands id rows here)) (λ later. inr (earlier_call later)) (either_of _ _ (sym (list_any-append (same_value id) (flat_map ids_of_image rows) (flat_map given_in (take k calls))) ∙ found (is_id id) (list_any (same_value id) (ids_known rows (take k calls))) is no_stranger))
-    where
-      given_in : Captured → List Value
-      given_in call = given_by call.reply
-
-      found : (a b : Bool) → a ≡ true → (a && not b) ≡ false → b ≡ true
-      found true true e f = refl
-      found true false e f = cc
-      found false b e f = cc
-
-      earlier_call : list_any (same_value id) (flat_map (λ (call : Captured). given_by call.reply) (take k calls)) ≡ true → (j : ℕ) × (call : Captured) × (j < k) × IsCallAt calls j call × IsGivenBy id call.reply
-      earlier_call e =
-          let h = Any-from_list_any (λ (call : Captured). list_any (same_value id) (given_by call.reply)) (take k calls) (sym (any_flat (same_value id) (λ (call : Captured). given_by call.reply) (take k calls)) ∙ e) in
-          let there = taken_get k calls h.0 h.1 (get_of (take k calls) h.0 h.1 h.2 h.3) in
-          let fits : IsFit h.1 = each_get IsFit calls h.0 h.1 fit there.1 in
-          (h.0, h.1, there.0, there.1, given id h.1.reply fits.reply is h.4)
-
-  known_each : (values : List Value) → list_any (is_stranger (ids_known rows (take k calls))) values ≡ false → AllByRecursion (IsKnown rows calls k) values
-  known_each [] none = tt
-  known_each (v ∷ values) none = (known_one v (left (is_stranger (ids_known rows (take k calls)) v) (list_any (is_stranger (ids_known rows (take k calls))) values) none), known_each values (right (is_stranger (ids_known rows (take k calls)) v) (list_any (is_stranger (ids_known rows (take k calls))) values) none))
-    where
-      left : (a b : Bool) → (a || b) ≡ false → a ≡ false
-      left true b e = cc
-      left false b e = refl
-
-      right : (a b : Bool) → (a || b) ≡ false → b ≡ false
-      right true b e = cc
-      right false b e = e
-
--- ---- moments
-
-abbrev of_session : ℕ → Captured → Bool
-of_session session call = nat_eq call.session session
-
-abbrev last_moment : ℕ → ℕ → List Captured → ℕ
-last_moment session moment calls = fold (λ moment call. if nat_eq call.session session then call.ended else moment) moment calls
-
-stays : (session moment : ℕ) (calls : List Captured) → count_by (of_session session) calls ≡ 0 → last_moment session moment calls ≡ moment
-stays session moment [] none = refl
-stays session moment (x ∷ xs) none = at (nat_eq x.session session) refl (stays session moment xs)
-  where
-    at : (b : Bool) → nat_eq x.session session ≡ b → (count_by (of_session session) xs ≡ 0 → last_moment session moment xs ≡ moment) → last_moment session moment (x ∷ xs) ≡ moment
-    at true is later = absurd (omega (arith, count_yes (of_session session) x xs is, none))
-    at false is later = ap (λ (b : Bool). last_moment session (if b then x.ended else moment) xs) is ∙ later (sym (count_no (of_session session) x xs is) ∙ none)
-
--- where one more call of the session stands before k than before j, it is that at j, and it ended last
-last_is : (session moment : ℕ) (calls : List Captured) (j k : ℕ) (before : Captured) → slice_get calls j ≡ Some before → before.session ≡ session
-    → count_by (of_session session) (take k calls) ≡ suc (count_by (of_session session) (take j calls)) → last_moment session moment (take k calls) ≡ before.ended
-last_is session moment [] j k before there own more = cc
-last_is session moment (x ∷ xs) j Prim.Native.Nat.zero before there own more = absurd (omega (arith, more))
-last_is session moment (x ∷ xs) Prim.Native.Nat.zero (suc k) before there own more =
-    let is : x ≡ before = some_is there in
-    let mine : nat_eq x.session session ≡ true = eq-eqb x.session session (ap (λ (c : Captured). c.session) is ∙ own) in
-    let none : count_by (of_session session) (take k xs) ≡ 0 = omega (arith, count_yes (of_session session) x (take k xs) mine, more) in
-    ap (λ (b : Bool). last_moment session (if b then x.ended else moment) (take k xs)) mine ∙ stays session x.ended (take k xs) none ∙ ap (λ (c : Captured). c.ended) is
-  where
-    some_is : ◌≡◌ {A = Option Captured} (Some x) (Some before) → x ≡ before
-    some_is e = cc
-last_is session moment (x ∷ xs) (suc j) (suc k) before there own more =
-    let number : Bool → ℕ = λ (b : Bool). cond b 1 0 in
-    let first : count_by (of_session session) (take (suc k) (x ∷ xs)) ≡ number (of_session session x) + count_by (of_session session) (take k xs) = count_cons (of_session session) x (take k xs) in
-    let second : count_by (of_session session) (take (suc j) (x ∷ xs)) ≡ number (of_session session x) + count_by (of_session session) (take j xs) = count_cons (of_session session) x (take j xs) in
-    last_is session (if nat_eq x.session session then x.ended else moment) xs j k before there own (omega (arith, first, second, more))
-
--- ---- all of it
-
-pub legal : (start : StartView) (lists : List (List Captured)) → AreListsFrom 0 lists → AllByRecursion IsFit (by_stamp (all_calls lists)) → length (by_stamp (all_calls lists)) ≤ 100000 → bad_stamp (all_calls lists) ≡ None → Passes start (by_stamp (all_calls lists)) → IsLegal start (by_stamp (all_calls lists))
+pub legal : (start : StartView) (lists : List (List Captured)) → AreSessionsFrom 0 lists → AllByRecursion IsFit (by_stamp (all_calls lists)) → length (by_stamp (all_calls lists)) ≤ 100000 → bad_stamp (all_calls lists) ≡ None → Passes start (by_stamp (all_calls lists)) → IsLegal start (by_stamp (all_calls lists))
 legal start lists are fit few stamps passes = record { count = few; each = each; replies = runs start [] calls passes.replies }
   where
     calls : List Captured
     calls = by_stamp (all_calls lists)
 
-    nothing : (o : Option ℕ) → option_map Stamp o ≡ None → o ≡ None
-    nothing None e = refl
-    nothing (Some n) e = cc
-
     has : HasEach (all_calls lists)
-    has = has_each (all_calls lists) (nothing _ stamps)
+    has = all_stamped (all_calls lists) stamps
 
-    place_at : (k : ℕ) (call : Captured) → IsCallAt calls k call → call.place ≡ count_by (of_session call.session) (take k calls)
-    place_at k call there = place_is lists are has k call (omega (arith, within calls k call there, by_stamp_len (all_calls lists) has)) there
+    placed : ArePlaced calls
+    placed = place_is lists are has
 
     each : (k : ℕ) (call : Captured) → IsCallAt calls k call → FitsIn start.rows calls k call
     each k call there =
-        let times = unless_none _ _ (refused_none bad_times [] calls passes.times k call there) in
-        let on_time = both_true (nat_le call.began call.ended) _ times in
-        let fits : IsFit call = each_get IsFit calls k call fit there in
+        let times = both_true (nat_le call.began call.ended) _ (unless_none _ _ (none_told bad_times [] calls passes.times k call there)) in
         record {
-          stamp = stamp_is (all_calls lists) has k call (by_stamp_get (all_calls lists) has k call there);
-          session = fits.session;
-          place = place_at k call there;
-          number = eqb-true _ _ (unless_none _ _ (refused_none bad_number [] calls passes.numbers k call there));
-          seen = eqb-true _ _ (unless_none _ _ (refused_none bad_seen [] calls passes.seen k call there));
-          ends = leb-true _ _ on_time.0;
-          follows = λ j before at_j just.
-              let more : count_by (of_session call.session) (take k calls) ≡ suc (count_by (of_session call.session) (take j calls)) = sym (place_at k call there) ∙ sym just.place ∙ ap suc (place_at j before at_j ∙ ap (λ (s : ℕ). count_by (of_session s) (take j calls)) just.session) in
-              subst (λ (m : ℕ). m ≤ call.began) (last_is call.session 0 calls j k before at_j just.session more) (leb-true _ _ on_time.1);
-          known = known_each start.rows calls fit k (binds_of call.call) (not_true _ (unless_none _ _ (refused_none (bad_ids start.rows) [] calls passes.ids k call there)));
+          stamp = stamp_is (all_calls lists) has k call there;
+          session = (each_get IsFit calls k call fit there).session;
+          place = placed k call there;
+          number = (numbered start calls passes k call there).1;
+          seen = (numbered start calls passes k call there).0;
+          ends = leb-true _ _ times.0;
+          follows = follows calls k call placed (placed k call there) (leb-true _ _ times.1);
+          known = known_each start.rows calls k fit (binds_of call.call) (not_true _ (unless_none _ _ (none_told (bad_ids start.rows) [] calls passes.ids k call there)));
         }
-      where
-        both_true : (a b : Bool) → (a && b) ≡ true → (a ≡ true) × (b ≡ true)
-        both_true true b e = (refl, e)
-        both_true false b e = cc
 
-        not_true : (b : Bool) → not b ≡ true → b ≡ false
-        not_true true e = cc
-        not_true false e = refl
+passed : (fault : Option Refusal) (others : Result Plan Refusal) (plan : Plan) → or_else fault others ≡ Ok plan → (fault ≡ None) × (others ≡ Ok plan)
+passed None others plan is = (refl, is)
+passed (Some fault) others plan is = cc
+
+ok_is : (a b : Plan) → ◌≡◌ {A = Result Plan Refusal} (Ok a) (Ok b) → b ≡ a
+ok_is a b e = cc
+
+module _ (start : StartView) (lists : List (List Captured)) (plan : Plan) (is : verdict start lists ≡ Ok plan) where
+  abbrev pub calls : List Captured
+  calls = by_stamp (all_calls lists)
+
+  few : (too_many (all_calls lists) ≡ None) × (or_else (bad_stamp (all_calls lists)) (verdict_of start calls) ≡ Ok plan)
+  unfolding verdict
+  few = passed (too_many (all_calls lists)) (or_else (bad_stamp (all_calls lists)) (verdict_of start calls)) plan is
+
+  stamps : (bad_stamp (all_calls lists) ≡ None) × (or_else (fault_of start calls) (Ok (record { calls = calls; facts = facts_of start.schema calls })) ≡ Ok plan)
+  stamps = passed (bad_stamp (all_calls lists)) (verdict_of start calls) plan few.1
+
+  tests : (fault_of start calls ≡ None) × (◌≡◌ {A = Result Plan Refusal} (Ok (record { calls = calls; facts = facts_of start.schema calls })) (Ok plan))
+  tests = passed (fault_of start calls) _ plan stamps.1
+
+  plan_is : plan ≡ record { calls = calls; facts = facts_of start.schema calls }
+  plan_is = ok_is _ plan tests.1
+
+  pub plan_calls : plan.calls ≡ calls
+  plan_calls = ap (λ (p : Plan). p.calls) plan_is
+
+  pub has : HasEach (all_calls lists)
+  has = all_stamped (all_calls lists) stamps.0
+
+  pub plan_few : length plan.calls ≤ 100000
+  plan_few = omega (arith, leb-true (length (all_calls lists)) CALL_LIMIT (unless_none _ _ few.0), by_stamp_len (all_calls lists) has, ap length plan_calls)
+
+  pub plan_legal : AreSessionsFrom 0 lists → length lists ≤ 64 → IsLegal start plan.calls
+  plan_legal are count =
+      subst (IsLegal start) (sym plan_calls) (legal start lists are (fit_by_stamp (all_calls lists) has (fit_lists 0 lists (omega (arith, count)) are)) (omega (arith, plan_few, ap length plan_calls)) stamps.0 (passes_all start calls tests.0))
+
+  pub plan_sound : AreSound plan.facts
+  plan_sound = subst AreSound (sym (ap (λ (p : Plan). p.facts) plan_is)) (facts_sound start start.schema calls (passes_all start calls tests.0))
+
+  pub plan_facts : length plan.facts ≡ length plan.calls
+  plan_facts = ap (λ (p : Plan). length p.facts) plan_is ∙ (facts_known start.schema calls).count ∙ sym (ap length plan_calls)

@@ -1,11 +1,5 @@
 pub mod Walking
 pub mod Seating
 pub mod Knowing
-pub mod Sameness
 pub mod Places
-pub mod Replying
-pub mod Deciding
-pub mod Passing
-pub mod Placing
 pub mod Legality
-pub mod Verdicts

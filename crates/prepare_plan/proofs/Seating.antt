@@ -1,83 +1,50 @@
 -- The seats of calls by their stamps.
-use Rattle.std.proofs.Common.{◌≡◌, ◌≢◌, ℕ, suc, ◌+◌, ◌-◌, ◌<◌, ◌≤◌, Bool, true, false, List, [], ◌∷◌, ◌++◌, length, get_or, set, take, refl, sym, ap, subst, ◌∙◌, arith, length-set}
-use Rattle.std.specs.Prelude.{Option, None, Some, nat_eq, not, slice_index_or, option_map, Ok, Err}
-use Rattle.std.specs.Option.{option_or}
-use Rattle.std.specs.List.{find, filter_map, range_with_len}
+use Rattle.std.proofs.Common.{◌≡◌, ◌≢◌, ℕ, suc, ◌+◌, ◌-◌, ◌<◌, ◌≤◌, Bool, true, false, cond, List, [], ◌∷◌, ◌++◌, length, get_or, set, take, refl, sym, ap, subst, ◌∙◌, arith, length-set}
+use Rattle.std.specs.Prelude.{Option, None, Some, nat_eq, not, slice_get, slice_index_or, option_map, Ok, Err}
+use Rattle.std.specs.List.{cons_option, filter, find, filter_map, range_with_len}
 use Rattle.std.proofs.lemmas.Bool.{eq-eqb, eqb-true, ne_eqb, true≢false}
-use Rattle.std.proofs.lemmas.List.{get_or-set_same, get_or-set_other, get_or_default, map-append, length-map}
-use Rattle.std.proofs.lemmas.List.Sums.{sum_by-append}
-use Rattle.std.proofs.lemmas.List.Folds.{find-append}
+use Rattle.std.proofs.lemmas.List.{append-nil, get_or-set_same, get_or-set_other, get_or_default, map-append, length-map}
+use Rattle.std.proofs.lemmas.List.Elements.{filter-append}
+use Rattle.std.proofs.lemmas.List.Sums.{length-filter}
 use denote.Ref.{Bor}
 use Rattle.desk_values.specs.declared.capture.Captured.{Captured}
+use Rattle.capture_laws.specs.Stamps.{HasEach, has_stamp, count_at, call_at, by_stamp, stamps_for}
+use Rattle.capture_laws.proofs.Scanning.{taken}
+use Rattle.capture_laws.proofs.Stamping.{has_each}
 use Rattle.prepare_plan.specs.declared.seats.Seat.{Seat}
 use Rattle.prepare_plan.specs.declared.seats.Seat.TheVariants.{Empty, Taken, Crowded}
-use Rattle.prepare_plan.specs.Lists.{has_stamp, count_at, call_at, by_stamp, stamps_for}
-use Rattle.prepare_plan.specs.Inside.{shown, IsSeatOf, AreSeatsOf, is_taken, taken_call, ordered, ordered_or}
+use Rattle.prepare_plan.specs.Inside.{shown, calls_at, IsSeat, AreSeatsOf, is_taken, taken_call, ordered, ordered_or}
 use Rattle.prepare_plan.specs.declared.refusal.Refusal.TheVariants.{Stamp}
-use Rattle.prepare_plan.proofs.Walking.{taken}
 
 -- ---- one more call
 
-count_more : (calls : List Captured) (call : Captured) (k : ℕ) → count_at (calls ++ call ∷ []) k ≡ count_at calls k + count_at (call ∷ []) k
-count_more calls call k = sum_by-append _ calls (call ∷ [])
+module _ (calls : List Captured) (call : Captured) where
+  own_more : calls_at (calls ++ call ∷ []) call.stamp ≡ calls_at calls call.stamp ++ call ∷ []
+  own_more = filter-append (has_stamp call.stamp) calls (call ∷ []) ∙ ap (λ (b : Bool). calls_at calls call.stamp ++ cond b (call ∷ []) []) (eq-eqb call.stamp call.stamp refl)
 
-first_more : (calls : List Captured) (call : Captured) (k : ℕ) → call_at (calls ++ call ∷ []) k ≡ option_or (call_at calls k) (call_at (call ∷ []) k)
-first_more calls call k = find-append (has_stamp k) calls (call ∷ [])
+  other_more : (k : ℕ) → call.stamp ≢ k → calls_at (calls ++ call ∷ []) k ≡ calls_at calls k
+  other_more k apart = filter-append (has_stamp k) calls (call ∷ []) ∙ ap (λ (b : Bool). calls_at calls k ++ cond b (call ∷ []) []) (ne_eqb call.stamp k apart) ∙ append-nil (calls_at calls k)
 
-count_own : (call : Captured) → count_at (call ∷ []) call.stamp ≡ 1
-count_own call = rw (eq-eqb call.stamp call.stamp refl) refl
+  module _ (seats : List Seat) (are : AreSeatsOf calls (length seats) seats) where
+    stays : (k : ℕ) → k < length seats → call.stamp ≢ k → IsSeat (calls_at (calls ++ call ∷ []) k) (get_or seats k Empty)
+    stays k lt apart = subst (λ (mine : List Captured). IsSeat mine (get_or seats k Empty)) (sym (other_more k apart)) (are.1 k lt)
 
-first_own : (call : Captured) → call_at (call ∷ []) call.stamp ≡ Some call
-first_own call = rw (eq-eqb call.stamp call.stamp refl) refl
+    pub seat_left : length seats ≤ call.stamp → AreSeatsOf (calls ++ call ∷ []) (length seats) seats
+    seat_left out = (refl, λ k lt. stays k lt (λ same. absurd (omega (arith, same, lt, out))))
 
-pub with_empty : (calls : List Captured) (call : Captured) → IsSeatOf calls call.stamp Empty → (count_at (calls ++ call ∷ []) call.stamp ≡ 1) × (call_at (calls ++ call ∷ []) call.stamp ≡ Some call)
-with_empty calls call was = (
-  rw (count_more calls call call.stamp, was.0, count_own call) refl,
-  rw (first_more calls call call.stamp, was.1, first_own call) refl,
-)
-
--- a call with another stamp leaves a seat as it was
-other_more : (calls : List Captured) (call : Captured) (k : ℕ) (seat : Seat) → call.stamp ≢ k → IsSeatOf calls k seat → IsSeatOf (calls ++ call ∷ []) k seat
-other_more calls call k seat other was = go seat was
-  where
-    unequal : nat_eq call.stamp k ≡ false
-    unequal = ne_eqb call.stamp k other
-
-    count : count_at (calls ++ call ∷ []) k ≡ count_at calls k
-    count = rw (count_more calls call k, unequal) (omega arith)
-
-    first : (o : Option Captured) → option_or o None ≡ o
-    first None = refl
-    first (Some x) = refl
-
-    first_is : call_at (calls ++ call ∷ []) k ≡ call_at calls k
-    first_is = first_more calls call k ∙ rw unequal (first (call_at calls k))
-
-    go : (seat : Seat) → IsSeatOf calls k seat → IsSeatOf (calls ++ call ∷ []) k seat
-    go Empty was = (count ∙ was.0, first_is ∙ was.1)
-    go (Taken c) was = (count ∙ was.0, first_is ∙ was.1)
-    go Crowded was = omega (arith, count, was)
-
-module _ (calls : List Captured) (call : Captured) (seats : List Seat) (are : AreSeatsOf calls (length seats) seats) where
-  pub seat_left : length seats ≤ call.stamp → AreSeatsOf (calls ++ call ∷ []) (length seats) seats
-  seat_left out = (refl, λ k lt. other_more calls call k _ (λ same. absurd (omega (arith, same, lt, out))) (are.1 k lt))
-
-  pub seat_taken : (seat : Seat) → call.stamp < length seats → IsSeatOf (calls ++ call ∷ []) call.stamp seat → AreSeatsOf (calls ++ call ∷ []) (length seats) (set seats call.stamp seat)
-  seat_taken seat within is = (length-set seats call.stamp seat, each)
-    where
-      each : (k : ℕ) → k < length seats → IsSeatOf (calls ++ call ∷ []) k (slice_index_or (set seats call.stamp seat) k Empty)
-      each k lt = at (nat_eq call.stamp k) refl
-        where
-          at : (b : Bool) → nat_eq call.stamp k ≡ b → IsSeatOf (calls ++ call ∷ []) k (slice_index_or (set seats call.stamp seat) k Empty)
-          at true same = subst (λ (j : ℕ). IsSeatOf (calls ++ call ∷ []) j (get_or (set seats call.stamp seat) j Empty)) (eqb-true call.stamp k same)
-              (subst (IsSeatOf (calls ++ call ∷ []) call.stamp) (sym (get_or-set_same seats call.stamp seat Empty within)) is)
-          at false other =
-              let apart : call.stamp ≢ k = λ same. absurd (true≢false (sym (eq-eqb call.stamp k same) ∙ other)) in
-              subst (IsSeatOf (calls ++ call ∷ []) k) (sym (get_or-set_other seats call.stamp k seat Empty (λ same. apart (sym same)))) (other_more calls call k _ apart (are.1 k lt))
+    pub seat_taken : (seat : Seat) → call.stamp < length seats → IsSeat (calls_at calls call.stamp ++ call ∷ []) seat → AreSeatsOf (calls ++ call ∷ []) (length seats) (set seats call.stamp seat)
+    seat_taken seat within is = (length-set seats call.stamp seat, λ k lt. each k lt (nat_eq call.stamp k) refl)
+      where
+        each : (k : ℕ) → k < length seats → (b : Bool) → nat_eq call.stamp k ≡ b → IsSeat (calls_at (calls ++ call ∷ []) k) (get_or (set seats call.stamp seat) k Empty)
+        each k lt true same = subst (λ (j : ℕ). IsSeat (calls_at (calls ++ call ∷ []) j) (get_or (set seats call.stamp seat) j Empty)) (eqb-true call.stamp k same)
+            (subst (IsSeat (calls_at (calls ++ call ∷ []) call.stamp)) (sym (get_or-set_same seats call.stamp seat Empty within)) (subst (λ (mine : List Captured). IsSeat mine seat) (sym own_more) is))
+        each k lt false other =
+            let apart : call.stamp ≢ k = λ same. absurd (true≢false (sym (eq-eqb call.stamp k same) ∙ other)) in
+            subst (IsSeat (calls_at (calls ++ call ∷ []) k)) (sym (get_or-set_other seats call.stamp k seat Empty (λ same. apart (sym same)))) (stays k lt apart)
 
 -- the seat that was read is that of its stamp
-pub seat_read : (calls : List Captured) (seats : List Seat) (k : ℕ) (seat : Seat) → AreSeatsOf calls (length seats) seats → k < length seats → seat ≡ get_or seats k seat → IsSeatOf calls k seat
-seat_read calls seats k seat are lt read = subst (IsSeatOf calls k) (get_or_default seats k Empty seat lt ∙ sym read) (are.1 k lt)
+pub seat_read : (calls : List Captured) (seats : List Seat) (k : ℕ) (seat : Seat) → AreSeatsOf calls (length seats) seats → k < length seats → seat ≡ get_or seats k seat → IsSeat (calls_at calls k) seat
+seat_read calls seats k seat are lt read = subst (IsSeat (calls_at calls k)) (get_or_default seats k Empty seat lt ∙ sym read) (are.1 k lt)
 
 pub seated_more : (calls : List (Bor Captured)) (i : ℕ) (call : Bor Captured) (n : ℕ) (old new : List Seat) → i < length calls → call ≡ get_or calls i call → AreSeatsOf (shown (take i calls)) n old
     → ((cs : List Captured) → AreSeatsOf cs (length old) old → AreSeatsOf (cs ++ call.now ∷ []) (length old) new) → AreSeatsOf (shown (take (i + 1) calls)) n new
@@ -101,43 +68,38 @@ find_same : (p q : ℕ → Bool) (a n : ℕ) → ((k : ℕ) → a ≤ k → k < 
 find_same p q a Prim.Native.Nat.zero same = refl
 find_same p q a (suc n) same = rw (same a (omega arith) (omega arith), find_same p q (a + 1) n (λ k from below. same k (omega (arith, from)) (omega (arith, below)))) refl
 
-taken_is : (calls : List Captured) (k : ℕ) (seat : Seat) → IsSeatOf calls k seat → is_taken seat ≡ nat_eq (count_at calls k) 1
-taken_is calls k Empty is = rw is.0 refl
-taken_is calls k (Taken call) is = rw is.0 refl
-taken_is calls k Crowded is = sym (ne_eqb (count_at calls k) 1 (λ one. omega (arith, one, is)))
+taken_is : (mine : List Captured) (seat : Seat) → IsSeat mine seat → is_taken seat ≡ nat_eq (length mine) 1
+taken_is mine Empty is = sym (ap (λ (cs : List Captured). nat_eq (length cs) 1) is)
+taken_is mine (Taken call) is = sym (ap (λ (cs : List Captured). nat_eq (length cs) 1) is)
+taken_is mine Crowded is = sym (ne_eqb (length mine) 1 (λ one. omega (arith, one, is)))
 
 pub free_is : (calls : List Captured) (seats : List Seat) → AreSeatsOf calls (length seats) seats
     → find (λ k. not (is_taken (slice_index_or seats k Empty))) (range_with_len 0 (length seats)) ≡ find (λ k. not (nat_eq (count_at calls k) 1)) (range_with_len 0 (length seats))
-free_is calls seats are = find_same _ _ 0 (length seats) (λ k from below. ap not (taken_is calls k _ (are.1 k (omega (arith, below)))))
+free_is calls seats are = find_same _ _ 0 (length seats) (λ k from below. ap not (taken_is (calls_at calls k) _ (are.1 k (omega (arith, below))) ∙ ap (λ (n : ℕ). nat_eq n 1) (length-filter (has_stamp k) calls)))
 
 -- ---- the calls of the seats
 
-module _ (calls : List Captured) where
-  call_is : (k : ℕ) (seat : Seat) → IsSeatOf calls k seat → count_at calls k ≡ 1 → taken_call seat ≡ call_at calls k
-  call_is k Empty is one = sym is.1
-  call_is k (Taken call) is one = sym is.1
-  call_is k Crowded is one = absurd (omega (arith, is, one))
+picked_same : {X Y : Type 0} (f : X → Option Y) (g : ℕ → Option Y) (d : X) (a : ℕ) (xs : List X) → ((k : ℕ) → k < length xs → f (get_or xs k d) ≡ g (a + k)) → filter_map f xs ≡ filter_map g (range_with_len a (length xs))
+picked_same f g d a [] same = refl
+picked_same {Y = Y} f g d a (x ∷ xs) same =
+    let first : f x ≡ g a = same 0 (omega arith) ∙ ap g (omega arith) in
+    let rest = picked_same f g d (a + 1) xs (λ k lt. same (suc k) (omega (arith, lt)) ∙ ap g (omega arith)) in
+    ap (λ (o : Option Y). cons_option o (filter_map f xs)) first ∙ ap (λ (l : List Y). cons_option (g a) l) rest
 
-  pub listed_is : (a : ℕ) (seats : List Seat) → ((k : ℕ) → k < length seats → IsSeatOf calls (a + k) (slice_index_or seats k Empty)) → find (λ k. not (nat_eq (count_at calls k) 1)) (range_with_len a (length seats)) ≡ None
-      → filter_map taken_call seats ≡ filter_map (call_at calls) (range_with_len a (length seats))
-  listed_is a [] are none = refl
-  listed_is a (seat ∷ seats) are none = at (nat_eq (count_at calls a) 1) refl (listed_is (a + 1) seats rest)
-    where
-      rest : (k : ℕ) → k < length seats → IsSeatOf calls (a + 1 + k) (slice_index_or seats k Empty)
-      rest k lt = subst (λ (j : ℕ). IsSeatOf calls j (get_or seats k Empty)) (omega arith) (are (suc k) (omega (arith, lt)))
+found_first : (p : Captured → Bool) (xs : List Captured) → find p xs ≡ slice_get (filter p xs) 0
+found_first p [] = refl
+found_first p (x ∷ xs) = elim (p x) as (λ b. cond b (Some x) (find p xs) ≡ slice_get (cond b (x ∷ filter p xs) (filter p xs)) 0) [
+  | true ↦ refl
+  | false ↦ found_first p xs
+]
 
-      first : IsSeatOf calls a seat
-      first = subst (λ (j : ℕ). IsSeatOf calls j seat) (omega arith) (are 0 (omega arith))
+call_is : (mine : List Captured) (seat : Seat) → IsSeat mine seat → length mine ≡ 1 → taken_call seat ≡ slice_get mine 0
+call_is mine Empty is one = sym (ap (λ (cs : List Captured). slice_get cs 0) is)
+call_is mine (Taken call) is one = sym (ap (λ (cs : List Captured). slice_get cs 0) is)
+call_is mine Crowded is one = absurd (omega (arith, is, one))
 
-      at : (b : Bool) → nat_eq (count_at calls a) 1 ≡ b → (find (λ k. not (nat_eq (count_at calls k) 1)) (range_with_len (a + 1) (length seats)) ≡ None → filter_map taken_call seats ≡ filter_map (call_at calls) (range_with_len (a + 1) (length seats)))
-          → filter_map taken_call (seat ∷ seats) ≡ filter_map (call_at calls) (a ∷ range_with_len (a + 1) (length seats))
-      at true one others =
-          let later : find (λ k. not (nat_eq (count_at calls k) 1)) (range_with_len (a + 1) (length seats)) ≡ None = sym (rw one refl) ∙ none in
-          rw (call_is a seat first (eqb-true (count_at calls a) 1 one), others later) refl
-      at false several others = absurd (nothing (sym (rw several refl) ∙ none))
-        where
-          nothing : ◌≡◌ {A = Option ℕ} (Some a) None → ⊥
-          nothing e = cc
+listed_is : (calls : List Captured) (seats : List Seat) → AreSeatsOf calls (length seats) seats → length seats ≡ length calls → HasEach calls → filter_map taken_call seats ≡ filter_map (call_at calls) (range_with_len 0 (length seats))
+listed_is calls seats are len has = picked_same taken_call (call_at calls) Empty 0 seats (λ k lt. call_is (calls_at calls k) _ (are.1 k lt) (length-filter (has_stamp k) calls ∙ has.each k (omega (arith, lt, len))) ∙ sym (found_first (has_stamp k) calls) ∙ ap (call_at calls) (omega arith))
 
 module _ (looked : List (Bor Captured)) (seats : List Seat) (are : AreSeatsOf (shown looked) (length looked) seats) (o : Option ℕ) (found : o ≡ find (λ k. not (is_taken (slice_index_or seats k Empty))) (range_with_len 0 (length seats))) where
   same_length : length seats ≡ length (shown looked)
@@ -155,6 +117,5 @@ module _ (looked : List (Bor Captured)) (seats : List Seat) (are : AreSeatsOf (s
   pub order_holds : (items : List Captured) → o ≡ None → items ≡ filter_map taken_call seats → ordered (shown looked) ≡ Ok items
   unfolding by_stamp
   order_holds items is listed =
-      let none : find (λ k. not (nat_eq (count_at (shown looked) k) 1)) (range_with_len 0 (length seats)) ≡ None = ap (λ (n : ℕ). find (λ k. not (nat_eq (count_at (shown looked) k) 1)) (range_with_len 0 n)) same_length ∙ free ∙ is in
       ap (λ (f : Option ℕ). ordered_or (option_map Stamp f) (shown looked)) (free ∙ is)
-      ∙ ap (λ (l : List Captured). Ok l) (sym (listed ∙ listed_is (shown looked) 0 seats (λ k lt. subst (λ (j : ℕ). IsSeatOf (shown looked) j (get_or seats k Empty)) (omega arith) (own.1 k lt)) none ∙ ap (λ (n : ℕ). filter_map (call_at (shown looked)) (range_with_len 0 n)) same_length))
+      ∙ ap (λ (l : List Captured). Ok l) (sym (listed ∙ listed_is (shown looked) seats own same_length (has_each (shown looked) (free ∙ is)) ∙ ap (λ (n : ℕ). filter_map (call_at (shown looked)) (range_with_len 0 n)) same_length))

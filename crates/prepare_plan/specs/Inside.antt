@@ -1,14 +1,15 @@
 -- Words for the steps of the work.
-use Rattle.std.specs.Prelude.{◌≡◌, ℕ, ◌<◌, ◌≤◌, Bool, true, false, List, length, map, Option, None, Some, Result, Ok, Err, slice_index_or}
+use Rattle.std.specs.Prelude.{◌≡◌, ℕ, ◌<◌, ◌≤◌, Bool, true, false, List, [], ◌∷◌, length, map, Option, None, Some, Result, Ok, Err, slice_index_or}
 use Rattle.std.specs.BTreeSet.{contains}
 use Rattle.std.specs.declared.cmp.Ordering.{Ordering}
 use Rattle.std.specs.Ordering.{nat_cmp, ordering_then}
-use Rattle.std.specs.List.{list_any}
+use Rattle.std.specs.List.{filter, list_any}
 use denote.Ref.{Bor}
 use Rattle.desk_values.specs.Room.{Room}
 use Rattle.desk_values.specs.Good.{IsGoodReply}
 use Rattle.desk_values.specs.Ids.{is_id}
-use Rattle.prepare_plan.specs.Same.{same_value}
+use Rattle.capture_laws.specs.Same.{same_value}
+use Rattle.capture_laws.specs.Stamps.{has_stamp, by_stamp}
 use Rattle.desk_values.specs.declared.value.Value.{Value}
 use Rattle.desk_values.specs.declared.value.Value.TheVariants.{Row, Draw}
 use Rattle.desk_values.specs.declared.capture.Captured.{Captured}
@@ -17,7 +18,6 @@ use Rattle.prepare_plan.specs.declared.refusal.Refusal.TheVariants.{Memory}
 use Rattle.prepare_plan.specs.declared.seats.Seat.{Seat}
 use Rattle.prepare_plan.specs.declared.seats.Seat.TheVariants.{Empty, Taken, Crowded}
 use Rattle.prepare_plan.specs.declared.known.KnownIds.{KnownIds}
-use Rattle.prepare_plan.specs.Lists.{count_at, call_at, by_stamp}
 use Rattle.prepare_plan.specs.Tests.{bad_stamp}
 
 -- the calls that are looked at
@@ -33,14 +33,17 @@ told refusal = Some (Some refusal)
 abbrev pub passed : Unit {0} → Option Refusal
 passed tt = None
 
--- the seat of a stamp tells how many calls have it, and which it is where it is one
-abbrev pub IsSeatOf : List Captured → ℕ → Seat → Type 0
-IsSeatOf calls k Empty = (count_at calls k ≡ 0) × (call_at calls k ≡ None)
-IsSeatOf calls k (Taken call) = (count_at calls k ≡ 1) × (call_at calls k ≡ Some call.now)
-IsSeatOf calls k Crowded = 2 ≤ count_at calls k
+-- the seat of a stamp tells which calls have it, where it is at most one
+abbrev pub IsSeat : List Captured → Seat → Type 0
+IsSeat mine Empty = mine ≡ []
+IsSeat mine (Taken call) = mine ≡ call.now ∷ []
+IsSeat mine Crowded = 2 ≤ length mine
+
+abbrev pub calls_at : List Captured → ℕ → List Captured
+calls_at calls k = filter (has_stamp k) calls
 
 abbrev pub AreSeatsOf : List Captured → ℕ → List Seat → Type 0
-AreSeatsOf calls n seats = (length seats ≡ n) × ((k : ℕ) → k < n → IsSeatOf calls k (slice_index_or seats k Empty))
+AreSeatsOf calls n seats = (length seats ≡ n) × ((k : ℕ) → k < n → IsSeat (calls_at calls k) (slice_index_or seats k Empty))
 
 abbrev pub is_taken : Seat → Bool
 is_taken (Taken call) = true

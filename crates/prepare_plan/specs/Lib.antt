@@ -1,5 +1,4 @@
 pub mod Lists
-pub mod Same
 pub mod Facts
 pub mod Tests
 pub mod Verdict

@@ -1,38 +1,9 @@
--- The calls of all sessions, and the same by stamp.
-use Rattle.std.specs.Prelude.{ℕ, ◌+◌, Bool, nat_eq, List, [], ◌∷◌, length, map, Option, count_by}
-use Rattle.std.specs.List.{filter_map, find, flat_map, range_with_len}
+-- The lists of sessions as contracts see them, and the words for their calls.
+use Rattle.std.specs.Prelude.{List, map}
 use Rattle.desk_values.specs.Room.{Room}
 use Rattle.desk_values.specs.declared.capture.Captured.{Captured}
-use Rattle.capture_format.specs.SessionFile.{AreCallsOf}
-
--- each list is that of a session, by the sessions' numbers from this one on
-abbrev pub AreListsFrom : ℕ → List (List Captured) → Type 0
-AreListsFrom session [] = Unit {0}
-AreListsFrom session (calls ∷ lists) = AreCallsOf session calls × AreListsFrom (session + 1) lists
+pub use Rattle.capture_laws.specs.Stamps.{all_calls, by_stamp}
 
 -- the calls of each session
 abbrev pub lists_of : List (Room Captured) → List (List Captured)
 lists_of sessions = map (λ session. session.items) sessions
-
--- the calls of all sessions, one session after the other
-abbrev pub all_calls : List (List Captured) → List Captured
-all_calls lists = flat_map (λ calls. calls) lists
-
-abbrev pub has_stamp : ℕ → Captured → Bool
-has_stamp k call = nat_eq call.stamp k
-
--- how many of the calls have this stamp
-abbrev pub count_at : List Captured → ℕ → ℕ
-count_at calls k = count_by (has_stamp k) calls
-
--- the first of the calls that has this stamp
-abbrev pub call_at : List Captured → ℕ → Option Captured
-call_at calls k = find (has_stamp k) calls
-
--- the numbers that are to be stamps: as many as there are calls
-abbrev pub stamps_for : List Captured → List ℕ
-stamps_for calls = range_with_len 0 (length calls)
-
--- the calls by stamp
-unfoldable pub by_stamp : List Captured → List Captured
-by_stamp calls = filter_map (call_at calls) (stamps_for calls)

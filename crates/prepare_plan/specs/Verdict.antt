@@ -12,7 +12,7 @@ use Rattle.prepare_plan.specs.declared.refusal.Refusal.{Refusal}
 use Rattle.prepare_plan.specs.declared.refusal.Refusal.TheVariants.{Memory}
 use Rattle.prepare_plan.specs.declared.prepared.Prepared.{Prepared}
 use Rattle.prepare_plan.specs.Facts.{facts_of}
-use Rattle.prepare_plan.specs.Lists.{all_calls, by_stamp}
+use Rattle.capture_laws.specs.Stamps.{all_calls, by_stamp}
 use Rattle.prepare_plan.specs.Tests.{first_refused, too_many, bad_stamp, bad_number, bad_seen, bad_times, bad_ids, bad_reply}
 
 -- the calls by stamp, and what is known of each
@@ -38,7 +38,7 @@ abbrev pub verdict_of : StartView → List Captured → Result Plan Refusal
 verdict_of start calls = or_else (fault_of start calls) (Ok (record { calls = calls; facts = facts_of start.schema calls }))
 
 -- the seven tests, each over the whole capture before the next
-abbrev pub verdict : StartView → List (List Captured) → Result Plan Refusal
+unfoldable pub verdict : StartView → List (List Captured) → Result Plan Refusal
 verdict start lists = or_else (too_many (all_calls lists)) (or_else (bad_stamp (all_calls lists)) (verdict_of start (by_stamp (all_calls lists))))
 
 -- what is seen of an answer

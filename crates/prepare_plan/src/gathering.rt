@@ -1,7 +1,8 @@
 //! The calls of all sessions as one list; no call is copied.
 
 ghost use Rattle.std.specs.Prelude.{◌≡◌, ◌++◌, IfOk, OnOk};
-ghost use Rattle.prepare_plan.specs.Lists.{all_calls, lists_of};
+ghost use Rattle.capture_laws.specs.Stamps.{all_calls};
+ghost use Rattle.prepare_plan.specs.Lists.{lists_of};
 ghost use Rattle.prepare_plan.specs.Inside.{shown};
 
 use desk_values::{CallList, Captured, Memory};

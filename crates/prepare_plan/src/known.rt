@@ -6,9 +6,10 @@ ghost use Rattle.desk_values.specs.Answers.{Answers};
 ghost use Rattle.desk_values.specs.Ids.{ids_of_image, is_id};
 ghost use Rattle.desk_values.specs.declared.value.Value.{Value as AnyValue};
 ghost use Rattle.desk_values.specs.declared.value.Value.TheVariants.{Row as RowId, Draw as DrawId};
-ghost use Rattle.prepare_plan.specs.Same.{same_value};
+ghost use Rattle.capture_laws.specs.Same.{same_value};
 ghost use Rattle.replay_history.specs.Capture.{binds_of};
-ghost use Rattle.prepare_plan.specs.Tests.{bad_ids, first_refused, given_by, is_stranger};
+ghost use Rattle.capture_laws.specs.Known.{given_by, is_stranger};
+ghost use Rattle.prepare_plan.specs.Tests.{bad_ids, first_refused};
 ghost use Rattle.prepare_plan.specs.Inside.{passed, told, knows, KnowsAll};
 
 use crate::refusal::Refusal;

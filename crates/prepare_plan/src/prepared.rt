@@ -2,7 +2,8 @@ ghost use Rattle.std.specs.Prelude.{◌≡◌, ◌≤◌, length, IfOk};
 ghost use Rattle.std.specs.List.{AllByRecursion};
 ghost use Rattle.desk_values.specs.Answers.{Answers};
 ghost use Rattle.object_depends.specs.Facts.{AreSound};
-ghost use Rattle.prepare_plan.specs.Lists.{AreListsFrom, lists_of};
+ghost use Rattle.capture_laws.specs.Sessions.{AreSessionsFrom};
+ghost use Rattle.prepare_plan.specs.Lists.{lists_of};
 ghost use Rattle.prepare_plan.specs.Verdict.{verdict, verdict_of, fault_of, plan_seen, refusal_told, IsLegal};
 ghost use Rattle.prepare_plan.specs.Inside.{passed, told, IsFit};
 
@@ -32,12 +33,22 @@ pub struct Prepared {
 /// and where.
 pub fn prepare(alloc: Global, start: &Start, sessions: &SessionLists) -> Result<Prepared, Refusal>
     requires sessions { length sessions.now ≤ 64 }
-    requires lists { AreListsFrom 0 (lists_of sessions.now) }
+    requires lists { AreSessionsFrom 0 (lists_of sessions.now) }
     ensures verdict { Answers plan_seen refusal_told result (verdict start.now (lists_of sessions.now)) }
     ensures legal { IfOk result (λ prepared. IsLegal start.now prepared.calls.items) }
     ensures facts { IfOk result (λ prepared. AreSound prepared.facts) }
     ensures each_has_facts { IfOk result (λ prepared. length prepared.facts ≡ length prepared.calls.items) }
     ensures count { IfOk result (λ prepared. length prepared.calls.items ≤ 100000) }
+{
+    judged(alloc, start, sessions)
+}
+
+/// What becomes of the calls.
+#[tactic(auto, unfolding(crate::specs::Verdict::verdict))]
+fn judged(alloc: Global, start: &Start, sessions: &SessionLists) -> Result<Prepared, Refusal>
+    requires sessions { length sessions.now ≤ 64 }
+    requires lists { AreSessionsFrom 0 (lists_of sessions.now) }
+    ensures { Answers plan_seen refusal_told result (verdict start.now (lists_of sessions.now)) }
 {
     let gathered = gathered(alloc, sessions.as_slice())?;
     if gathered.len() > CALL_LIMIT {

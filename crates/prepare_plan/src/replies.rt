@@ -3,7 +3,7 @@
 ghost use Rattle.std.specs.Prelude.{◌≡◌, ◌≤◌, [], length};
 ghost use Rattle.std.specs.List.{AllByRecursion};
 ghost use Rattle.desk_values.specs.Answers.{Answers};
-ghost use Rattle.prepare_plan.specs.Same.{same_reply};
+ghost use Rattle.capture_laws.specs.Same.{same_reply};
 ghost use Rattle.prepare_plan.specs.Tests.{bad_reply, first_refused};
 ghost use Rattle.prepare_plan.specs.Inside.{passed, told, IsFit};
 

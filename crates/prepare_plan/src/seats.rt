@@ -5,7 +5,7 @@ ghost use Rattle.std.specs.List.{filter_map, find, range_with_len};
 ghost use Rattle.desk_values.specs.Answers.{Answers};
 ghost use Rattle.desk_values.specs.declared.capture.Captured.{Captured as Call};
 ghost use Rattle.prepare_plan.specs.declared.seats.Seat.TheVariants.{Empty as NoCall};
-ghost use Rattle.prepare_plan.specs.Inside.{shown, IsSeatOf, AreSeatsOf, is_taken, taken_call, ordered, ordered_seen, order_told};
+ghost use Rattle.prepare_plan.specs.Inside.{shown, IsSeat, AreSeatsOf, is_taken, taken_call, ordered, ordered_seen, order_told};
 
 use crate::refusal::Refusal;
 use desk_values::{CallList, Captured, Copied, Memory, Reserved};
@@ -25,7 +25,7 @@ pub(crate) enum Seat<'a> {
 impl<'a> Seat<'a> {
     /// The seat when one more call has its stamp.
     fn with(self, call: &'a Captured) -> Seat<'a>
-        ensures { (calls : List Call) → IsSeatOf calls call.now.stamp self.entry → IsSeatOf (calls ++ call.now ∷ []) call.now.stamp result }
+        ensures { (mine : List Call) → IsSeat mine self.entry → IsSeat (mine ++ call.now ∷ []) result }
     {
         match self {
             Seat::Empty => Seat::Taken(call),

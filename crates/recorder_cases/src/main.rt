@@ -12,7 +12,6 @@
 //! lines were worked out by hand and by a program of its own, from the rules of the recorder and not by it.
 #![tactic(auto)]
 
-mod calls;
 mod shown;
 
 ghost use Rattle.std.specs.Prelude.{◌<◌};
@@ -20,6 +19,7 @@ ghost use Rattle.std.specs.Prelude.{◌<◌};
 use anyhow::anyhow;
 use capture_format::read_start;
 use capture_recorder::{CallErr, Recorder, Twice, generate, sessions_of};
+use case_text::call_of;
 use desk_values::{Binds, Bytes, Call, List, Txt};
 use std::alloc::Global;
 
@@ -114,7 +114,7 @@ fn called(
 ) -> Result<String, anyhow::Error> {
     let (began, text) = text.split_once(' ').ok_or(anyhow!("no moment"))?;
     let (ended, text) = text.split_once(' ').ok_or(anyhow!("no moment"))?;
-    let call = calls::call_of(alloc, text)?;
+    let call = call_of(alloc, text)?;
     if session >= 64 {
         return Err(anyhow!("no such session"));
     }

@@ -1,7 +1,7 @@
 //! Remap files.
 
-use crate::escape::unescaped;
 use anyhow::anyhow;
+use case_text::bytes_of_line;
 use desk_values::{Bytes, List, Memory};
 use remap_ids::{Remap, RemapErr};
 use std::alloc::Global;
@@ -20,11 +20,11 @@ pub fn verdict(alloc: Global, word: &str, rest: &str) -> Result<String, anyhow::
 // The bytes of the file that a case tells.
 fn file(alloc: Global, word: &str, rest: &str) -> Result<Bytes, anyhow::Error> {
     if word == "read" {
-        return Ok(unescaped(alloc, rest)?);
+        return Ok(bytes_of_line(alloc, rest)?);
     }
     let (times, text) = rest.split_once(' ').ok_or(anyhow!("no number"))?;
     let times: u32 = times.parse()?;
-    let text = unescaped(alloc, text)?;
+    let text = bytes_of_line(alloc, text)?;
     if word == "fill" {
         filled(alloc, times, text.as_slice())
     } else {

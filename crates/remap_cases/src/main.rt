@@ -14,12 +14,10 @@
 #![tactic(auto)]
 
 mod bench;
-mod escape;
 mod files;
 mod maps;
 
 use anyhow::anyhow;
-use desk_values::{Bytes, List};
 use maps::Replay;
 use remap_ids::Remap;
 use std::alloc::Global;
@@ -57,13 +55,4 @@ fn answered(
         "bench" => bench::learnt(alloc, rest),
         _ => Err(anyhow!("no such case")),
     }
-}
-
-/// The text of bytes, with `|` for each line feed.
-pub(crate) fn shown(alloc: Global, bytes: &[u8]) -> Result<String, anyhow::Error> {
-    let mut line: Bytes = List::new(alloc);
-    for byte in bytes {
-        line.push(if *byte == b'\n' { b'|' } else { *byte })?;
-    }
-    Ok(String::from_str(alloc, str::from_utf8(line.as_slice())?)?)
 }

@@ -1,9 +1,8 @@
 //! Maps of ids, and what is sent by them.
 
-use crate::escape::unescaped;
-use crate::shown;
 use anyhow::anyhow;
 use capture_format::{FormErr, read_call, read_reply, read_start, write_call};
+use case_text::{bytes_of_line, line_of_bytes};
 use desk_schema::Start;
 use desk_values::{Bytes, List, Memory, read_value, write_value};
 use id_pairs::Id;
@@ -23,9 +22,9 @@ impl Replay {
     /// Takes a remap file, a start file, or two replies.
     pub fn told(&mut self, alloc: Global, word: &str, text: &str) -> Result<(), anyhow::Error> {
         match word {
-            "remap" => self.remap = Remap::read(alloc, unescaped(alloc, text)?.as_slice())?,
+            "remap" => self.remap = Remap::read(alloc, bytes_of_line(alloc, text)?.as_slice())?,
             "start" => {
-                let start = start_of(alloc, unescaped(alloc, text)?.as_slice())?;
+                let start = start_of(alloc, bytes_of_line(alloc, text)?.as_slice())?;
                 self.ids = Some(IdMap::from_start(alloc, &start)?);
             }
             _ => self.learn(alloc, text)?,
@@ -59,7 +58,7 @@ impl Replay {
             return Err(anyhow!("an id that no server gives out"));
         }
         let sent = self.ids()?.send(&self.remap, &call)?;
-        shown(alloc, write_call(alloc, &sent)?.as_slice())
+        Ok(line_of_bytes(alloc, write_call(alloc, &sent)?.as_slice())?)
     }
 
     /// The id that stands for a captured one.
@@ -71,12 +70,12 @@ impl Replay {
         };
         let mut bytes: Bytes = List::new(alloc);
         write_value(&image.to_value(), &mut bytes)?;
-        shown(alloc, bytes.as_slice())
+        Ok(line_of_bytes(alloc, bytes.as_slice())?)
     }
 
     /// The text of the learnt pairs.
     pub fn maps(&self, alloc: Global) -> Result<String, anyhow::Error> {
-        shown(alloc, self.ids()?.maps_csv()?.as_slice())
+        Ok(line_of_bytes(alloc, self.ids()?.maps_csv()?.as_slice())?)
     }
 }
 

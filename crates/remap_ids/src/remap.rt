@@ -1,4 +1,4 @@
-ghost use Rattle.std.specs.Prelude.{◌≡◌, [], IfOk, OnErr};
+ghost use Rattle.std.specs.Prelude.{◌≡◌, ◌<◌, ◌++◌, ◌∷◌, [], None, Some, length, slice_get, take, IfOk, OnErr, OnOk};
 ghost use Rattle.std.specs.Option.{option_copied, option_map};
 ghost use Rattle.std.specs.String.{string_bytes};
 ghost use Rattle.desk_values.specs.Reading.{txt_in};
@@ -8,7 +8,7 @@ ghost use Rattle.remap_ids.specs.Services.{Tells, sent_for, service_pair, servic
 ghost use Rattle.remap_ids.specs.declared.remap.RemapErr.TheVariants.{Memory as OutOfMemory};
 
 use csv::{ByteRecord, ReaderBuilder};
-use desk_values::{Copied, Memory, Txt, TxtErr};
+use desk_values::{Copied, Memory, Same, Txt, TxtErr};
 use indexmap::IndexMap;
 use std::alloc::{AllocError, AllocFailed, Global};
 use std::marker::Model;
@@ -102,6 +102,37 @@ impl Remap {
         self.services.get(service.as_str())
     }
 
+    fn allocator(&self) -> Global {
+        *self.services.allocator()
+    }
+
+    // How many services it has.
+    fn len(&self) -> usize
+        ensures { result ≡ length self.now }
+    {
+        self.services.len()
+    }
+
+    // The service at a place, which has no other pair, and what is sent as it.
+    fn pair_at(&self, place: usize) -> (&str, &Txt)
+        requires { place < length self.now }
+        ensures pair { slice_get self.now place ≡ Some (result.0.now, result.1.now) }
+        ensures alone { sent_for (take place self.now) result.0.now ≡ None }
+    {
+        let (captured, sent) = self.services.as_slice().get_index(place).unwrap();
+        (captured.as_str(), sent)
+    }
+
+    // Adds a service that has no pair yet.
+    fn push(&mut self, captured: &str, sent: &Txt) -> Result<(), Memory>
+        requires { sent_for self.old captured.now ≡ None }
+        ensures { OnOk result (self.new ≡ self.old ++ (captured.now, sent.now) ∷ []) }
+    {
+        let name = String::from_str(*self.services.allocator(), captured)?;
+        self.services.insert(name, sent.copy()?)?;
+        Ok(())
+    }
+
     // Adds what a record says. An `Err` tells of the record.
     fn add(&mut self, alloc: Global, row: &ByteRecord) -> Result<(), RemapErr>
         ensures { Tells result (λ _. self.new) (with_pair self.old (service_pair (fields_of row.now))) }
@@ -117,6 +148,33 @@ impl Remap {
             Ok(_) => Ok(()),
             Err(_) => Err(RemapErr::Memory),
         }
+    }
+}
+
+impl Copied for Remap {
+    fn copy(&self) -> Result<Remap, Memory> {
+        let mut copy = Remap::none(self.allocator());
+        for place in 0..self.len() {
+            let (captured, sent) = self.pair_at(place);
+            copy.push(captured, sent)?;
+        }
+        Ok(copy)
+    }
+}
+
+impl Same for Remap {
+    fn same(&self, other: &Remap) -> bool {
+        if self.len() != other.len() {
+            return false;
+        }
+        for place in 0..self.len() {
+            let (captured, sent) = self.pair_at(place);
+            let (captured_there, sent_there) = other.pair_at(place);
+            if captured != captured_there || !sent.same(sent_there) {
+                return false;
+            }
+        }
+        true
     }
 }
 

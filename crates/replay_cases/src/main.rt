@@ -9,7 +9,7 @@
 //! - `word BYTES`, `arguments WORDS`: it prints the word, or the words after the first
 //!
 //! Enters: lines of the standard input. Leaves: lines. It touches the standard input and output alone. The expected
-//! texts are worked out by hand from the formats.
+//! texts are worked out by hand from the formats, and by a program of its own from the rules.
 #![tactic(auto)]
 
 mod kept;

@@ -1,5 +1,5 @@
 -- How a command ends, from what its work came to and what was printed.
-use Rattle.std.proofs.Common.{◌≡◌, ◌≢◌, ℕ, ◌≤◌, ◌⊎◌, inl, inr, List, length, arith, Option, Some, None, Result, Ok, Err, refl, sym, ap, subst, ◌∙◌}
+use Rattle.std.proofs.Common.{◌≡◌, ◌≢◌, ℕ, ◌≤◌, ◌⊎◌, inl, inr, Bool, true, false, List, length, arith, Option, Some, None, Result, Ok, Err, refl, sym, ap, subst, ◌∙◌}
 use Rattle.std.specs.Prelude.{IsSomeAnd, IsErrOf, IsNone}
 use Rattle.std.proofs.Math.Seq.{take-length}
 use Rattle.desk_files.specs.declared.fault.WriteErr.{WriteErr}
@@ -9,12 +9,12 @@ use Rattle.desk_files.specs.Answers.{write_ending}
 use Rattle.desk_files.specs.Outside.{Appends, Counts, FileMap, Told, HasRisen}
 use Rattle.desk_files.specs.Writes.{LeavesOfWrites, with_all}
 use Rattle.replay_cli.specs.declared.failure.Refusal.{Refusal}
-use Rattle.replay_cli.specs.declared.failure.Refusal.TheVariants.{Missing, TooLong, BadLine, NotLegal}
+use Rattle.replay_cli.specs.declared.failure.Refusal.TheVariants.{Missing, TooLong, BadLine, BadRemap, NotLegal}
 use Rattle.replay_cli.specs.declared.failure.Failure.{Failure}
 use Rattle.replay_cli.specs.declared.failure.Failure.TheVariants.{BadCommand, Refused, DeviceFault, OutOfMemory}
 use Rattle.replay_cli.specs.declared.plan.Plan.{Plan}
 use Rattle.replay_cli.specs.declared.words.Command.{Command}
-use Rattle.replay_cli.specs.Lines.{refusal_status}
+use Rattle.replay_cli.specs.Lines.{done_status, refusal_status}
 use Rattle.replay_cli.specs.Command.{command_of}
 use Rattle.replay_cli.specs.Decision.{Decides, Task, Verdict, VerdictOf}
 use Rattle.replay_cli.specs.Done.{IsDone}
@@ -116,17 +116,22 @@ refused_own : (refusal : Refusal) → IsOwn (refusal_status refusal)
 refused_own (Missing name) = record { no_command = λ e. omega (arith, e); no_fault = λ e. omega (arith, e); no_memory = λ e. omega (arith, e) }
 refused_own (TooLong name) = record { no_command = λ e. omega (arith, e); no_fault = λ e. omega (arith, e); no_memory = λ e. omega (arith, e) }
 refused_own (BadLine name line) = record { no_command = λ e. omega (arith, e); no_fault = λ e. omega (arith, e); no_memory = λ e. omega (arith, e) }
+refused_own (BadRemap n) = record { no_command = λ e. omega (arith, e); no_fault = λ e. omega (arith, e); no_memory = λ e. omega (arith, e) }
 refused_own (NotLegal cause) = record { no_command = λ e. omega (arith, e); no_fault = λ e. omega (arith, e); no_memory = λ e. omega (arith, e) }
 
+done_own : (differs : Bool) → IsOwn (done_status differs)
+done_own true = record { no_command = λ e. omega (arith, e); no_fault = λ e. omega (arith, e); no_memory = λ e. omega (arith, e) }
+done_own false = record { no_command = λ e. omega (arith, e); no_fault = λ e. omega (arith, e); no_memory = λ e. omega (arith, e) }
+
 two_means : (done : Result Plan Failure) → status_of done ≡ 2 → IsErrOf done BadCommand
-two_means (Ok plan) two = absurd (omega (arith, two))
+two_means (Ok plan) two = absurd ((done_own plan.differs).no_command two)
 two_means (Err BadCommand) two = refl
 two_means (Err (Refused refusal)) two = absurd ((refused_own refusal).no_command two)
 two_means (Err DeviceFault) two = absurd (omega (arith, two))
 two_means (Err OutOfMemory) two = absurd (omega (arith, two))
 
 five_means : (done : Result Plan Failure) (f0 f1 : ℕ) → RunFaults done f0 f1 → status_of done ≡ 5 → HasRisen f0 f1
-five_means (Ok plan) f0 f1 faults five = absurd (omega (arith, five))
+five_means (Ok plan) f0 f1 faults five = absurd ((done_own plan.differs).no_fault five)
 five_means (Err BadCommand) f0 f1 faults five = absurd (omega (arith, five))
 five_means (Err (Refused refusal)) f0 f1 faults five = absurd ((refused_own refusal).no_fault five)
 five_means (Err DeviceFault) f0 f1 faults five = faults.0

@@ -3,8 +3,8 @@ pub mod Sessions
 pub mod Made
 pub mod Unique
 pub mod Endings
-pub mod Runs
-pub mod Tested
-pub mod Ordered
-pub mod Places
-pub mod Order
+pub mod Pairing
+pub mod Jobs
+pub mod Replaying
+pub mod Steps
+pub mod Written

@@ -1,22 +1,22 @@
 -- The generated capture, by its names.
-use Rattle.std.proofs.Common.{◌≡◌, ◌∙◌, ◌≤◌, ℕ, List, [], ◌∷◌, ◌++◌, length, Result, Ok, Err, sym, ap, subst, arith}
-use Rattle.std.specs.Prelude.{IfOk}
+use Rattle.std.proofs.Common.{◌≡◌, ◌∙◌, ◌≤◌, ℕ, List, [], ◌∷◌, ◌++◌, length, Some, Result, Ok, Err, sym, ap, subst, arith}
+use Rattle.std.specs.Prelude.{IfOk, slice_get}
 use Rattle.desk_values.specs.Room.{Room}
-use Rattle.desk_values.specs.declared.value.Image.{Image}
 use Rattle.desk_values.specs.declared.capture.Captured.{Captured}
-use Rattle.desk_values.specs.declared.capture.Event.{Event}
 use Rattle.desk_schema.specs.Start.{StartView}
 use Rattle.capture_format.specs.StartFile.{start_text}
 use Rattle.capture_recorder.specs.Generated.{generated}
 use Rattle.capture_recorder.specs.Recording.{IsRecording, Recording}
-use Rattle.capture_recorder.specs.Sessions.{AreSessions, session_lists}
+use Rattle.capture_laws.specs.Sessions.{AreSessionsFrom, session_lists}
+use Rattle.capture_laws.specs.Stamped.{HasText}
 use Rattle.prepare_plan.specs.Lists.{lists_of}
 use Rattle.replay_cli.specs.declared.plan.Plan.{Plan}
 use Rattle.replay_cli.specs.Decision.{ToMake, ToTry}
-use Rattle.replay_cli.specs.Done.{IsDone, all_commits, made_calls, made_lists, made_start, session_files}
+use Rattle.replay_cli.specs.Done.{IsDone, IsQuiet, IsTried, all_commits, made_calls, made_lists, made_start, session_files}
 use Rattle.replay_cli.specs.Lines.{generated_line, trial_line}
-use Rattle.replay_cli.specs.Replay.{IsLegalFrom, IsReplay}
+use Rattle.replay_cli.specs.Replay.{HasMoments, IsLegalFrom}
 use Rattle.replay_cli.specs.Words.{start_name}
+use Rattle.replay_cli.proofs.Jobs.{at_each}
 use Rattle.replay_cli.proofs.Sessions.{count_lists}
 
 start_is : (r : Recording) (n : ℕ) → r ≡ generated n → r.start ≡ made_start n
@@ -45,7 +45,7 @@ pub lists_made : {E : Type 0} (result : Result (List (Room Captured)) E) (items 
 lists_made (Ok lists) items n e same = lists_are lists items n e same
 lists_made (Err error) items n e same = e
 
-pub files_made : {E : Type 0} (result : Result (List (Room Captured)) E) (recording : Recording) (items : List Captured) → IfOk result (λ lists. (r : Recording) → IsRecording r → r.calls ≡ items → AreSessions 0 (lists_of lists)) → IsRecording recording → recording.calls ≡ items → IfOk result (λ lists. AreSessions 0 (lists_of lists))
+pub files_made : {E : Type 0} (result : Result (List (Room Captured)) E) (recording : Recording) (items : List Captured) → IfOk result (λ lists. (r : Recording) → IsRecording r → r.calls ≡ items → AreSessionsFrom 0 (lists_of lists)) → IsRecording recording → recording.calls ≡ items → IfOk result (λ lists. AreSessionsFrom 0 (lists_of lists))
 files_made (Ok lists) recording items are is same = are recording is same
 files_made (Err error) recording items are is same = are
 
@@ -55,21 +55,25 @@ four_lists (Err error) items e = e
 
 -- ---- plans
 
-pub plan_made : {E : Type 0} (result : Result Plan E) (n : ℕ) (out : List ℕ) (start : StartView) (lists : List (List Captured)) → start ≡ made_start n → lists ≡ made_lists n → IfOk result (λ plan. plan.line ≡ generated_line n)
+pub plan_made : {E : Type 0} (result : Result Plan E) (n : ℕ) (out : List ℕ) (start : StartView) (lists : List (List Captured)) → start ≡ made_start n → lists ≡ made_lists n → IfOk result (λ plan. plan.line ≡ generated_line n) → IfOk result IsQuiet
     → IfOk result (λ plan. plan.writes ≡ session_files out 0 lists ++ record { name = start_name out; bytes = start_text start 4 } ∷ []) → IfOk result (λ plan. IsDone (ToMake n out) plan)
-plan_made (Ok plan) n out start lists start_is lists_is line writes =
-    (line, writes ∙ ap (λ (ls : List (List Captured)). session_files out 0 ls ++ record { name = start_name out; bytes = start_text start 4 } ∷ []) lists_is ∙ ap (λ (s : StartView). session_files out 0 (made_lists n) ++ record { name = start_name out; bytes = start_text s 4 } ∷ []) start_is)
-plan_made (Err error) n out start lists start_is lists_is line writes = line
+plan_made (Ok plan) n out start lists start_is lists_is line quiet writes =
+    (line, quiet, writes ∙ ap (λ (ls : List (List Captured)). session_files out 0 ls ++ record { name = start_name out; bytes = start_text start 4 } ∷ []) lists_is ∙ ap (λ (s : StartView). session_files out 0 (made_lists n) ++ record { name = start_name out; bytes = start_text s 4 } ∷ []) start_is)
+plan_made (Err error) n out start lists start_is lists_is line quiet writes = line
 
 pub legal_made : (recording : Recording) (start : StartView) (calls : List Captured) → IsRecording recording → start ≡ recording.start → calls ≡ recording.calls → IsLegalFrom start calls
 legal_made recording start calls is start_is calls_is =
     subst (λ (s : StartView). IsLegalFrom s calls) (sym start_is) (subst (λ (cs : List Captured). IsLegalFrom recording.start cs) (sym calls_is) is.legal)
 
+pub moments_made : (recording : Recording) (calls : List Captured) → IsRecording recording → calls ≡ recording.calls → HasMoments calls
+moments_made recording calls is calls_is k call at = (at_each HasText recording.calls k call is.texts (subst (λ (cs : List Captured). slice_get cs k ≡ Some call) calls_is at)).began
+
 pub plan_tried : {E : Type 0} (result : Result Plan E) (n : ℕ) (start : StartView) (calls : List Captured) → start ≡ made_start n → calls ≡ made_calls n → IfOk result (λ plan. plan.line ≡ trial_line n (length calls) (all_commits calls))
-    → IfOk result (λ plan. (history : List Event) × (tables : List Image) × IsReplay start calls 0 history tables) → IfOk result (λ plan. plan.writes ≡ []) → IfOk result (λ plan. IsDone (ToTry n) plan)
-plan_tried (Ok plan) n start calls start_is calls_is line replay writes = (
+    → IfOk result (λ plan. IsTried start calls) → IfOk result IsQuiet → IfOk result (λ plan. plan.writes ≡ []) → IfOk result (λ plan. IsDone (ToTry n) plan)
+plan_tried (Ok plan) n start calls start_is calls_is line replay quiet writes = (
   line ∙ ap (λ (cs : List Captured). trial_line n (length cs) (all_commits cs)) calls_is,
-  (replay.0, replay.1, subst (λ (s : StartView). IsReplay s (made_calls n) 0 replay.0 replay.1) start_is (subst (λ (cs : List Captured). IsReplay start cs 0 replay.0 replay.1) calls_is replay.2)),
+  subst (λ (s : StartView). IsTried s (made_calls n)) start_is (subst (λ (cs : List Captured). IsTried start cs) calls_is replay),
+  quiet,
   writes,
 )
-plan_tried (Err error) n start calls start_is calls_is line replay writes = line
+plan_tried (Err error) n start calls start_is calls_is line replay quiet writes = line

@@ -6,13 +6,14 @@ use Rattle.std.proofs.lemmas.Fmt.{length-decimal-le}
 use Rattle.std.proofs.lemmas.List.{drop_all, length-map}
 use Rattle.std.proofs.Math.Seq.{drop-cons}
 use Rattle.desk_files.specs.declared.writes.Write.{Write}
-use Rattle.capture_recorder.specs.Sessions.{AreSessions}
+use Rattle.capture_laws.specs.Sessions.{AreSessionsFrom}
 use Rattle.desk_values.specs.Room.{Room}
 use Rattle.desk_values.specs.declared.capture.Captured.{Captured}
 use Rattle.file_lines.specs.File.{ReadsFile}
 use Rattle.file_lines.specs.declared.reader.FormErr.TheVariants.{Bad}
 use Rattle.capture_format.specs.SessionFile.{AreCallsOf, IsBadSession, IsSessionFile, session_text}
-use Rattle.prepare_plan.specs.Lists.{AreListsFrom, lists_of}
+use Rattle.capture_laws.specs.Sessions.{AreSessionsFrom}
+use Rattle.prepare_plan.specs.Lists.{lists_of}
 use Rattle.replay_cli.specs.declared.failure.Refusal.TheVariants.{BadLine}
 use Rattle.replay_cli.specs.declared.failure.Failure.{Failure}
 use Rattle.replay_cli.specs.declared.failure.Failure.TheVariants.{BadCommand, Refused, DeviceFault, OutOfMemory}
@@ -36,7 +37,7 @@ lists_more [] calls = refl
 lists_more (first ∷ sessions) calls = ap (λ (lists : List (List Captured)). first.items ∷ lists) (lists_more sessions calls)
 
 -- lists of sessions with that of the next one behind them
-pub are_more : (session : ℕ) (lists : List (List Captured)) (n : ℕ) (calls : List Captured) → n ≡ session + length lists → AreListsFrom session lists → AreCallsOf n calls → AreListsFrom session (lists ++ calls ∷ [])
+pub are_more : (session : ℕ) (lists : List (List Captured)) (n : ℕ) (calls : List Captured) → n ≡ session + length lists → AreSessionsFrom session lists → AreCallsOf n calls → AreSessionsFrom session (lists ++ calls ∷ [])
 are_more session [] n calls same are next = (subst (λ (k : ℕ). AreCallsOf k calls) (same ∙ omega arith) next, tt)
 are_more session (first ∷ lists) n calls same are next = (are.0, are_more (session + 1) lists n calls (omega (arith, same)) are.1 next)
 
@@ -76,8 +77,8 @@ session_here lists i calls within is =
     ap lists_of rest
 
 -- the next list is that of the session of this number, and the others are those behind it
-pub next_session : (lists : List (Room Captured)) (i : ℕ) (calls : Room Captured) → i < length lists → calls ≡ get_or lists i calls → AreSessions i (lists_of (drop i lists)) → AreCallsOf i calls.items × AreSessions (i + 1) (lists_of (drop (i + 1) lists))
-next_session lists i calls within is are = subst (AreSessions i) (session_here lists i calls within is) are
+pub next_session : (lists : List (Room Captured)) (i : ℕ) (calls : Room Captured) → i < length lists → calls ≡ get_or lists i calls → AreSessionsFrom i (lists_of (drop i lists)) → AreCallsOf i calls.items × AreSessionsFrom (i + 1) (lists_of (drop (i + 1) lists))
+next_session lists i calls within is are = subst (AreSessionsFrom i) (session_here lists i calls within is) are
 
 pub one_more_file : (out : List ℕ) (lists : List (Room Captured)) (writes whole : List Write) (i session : ℕ) (calls : Room Captured) (write : Write) → i < length lists → calls ≡ get_or lists i calls → session ≡ i
     → write ≡ record { name = session_name out session; bytes = session_text session calls.items } → writes ++ session_files out i (lists_of (drop i lists)) ≡ whole

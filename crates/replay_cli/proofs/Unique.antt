@@ -22,7 +22,10 @@ use Rattle.replay_cli.specs.declared.words.Command.TheVariants.{Run, Prepare, Ge
 use Rattle.replay_cli.specs.Command.{command_of}
 use Rattle.replay_cli.specs.Words.{session_names, start_name}
 use Rattle.replay_cli.proofs.Sessions.{count_names}
-use Rattle.replay_cli.specs.Decision.{Decides, Failing, Legal, LegalIn, LegalOf, OpenedIn, Reads, SessionOf, StartOf, Task, ToMake, ToReplay, ToTell, ToTry, Verdict, VerdictOf}
+use Rattle.desk_files.specs.declared.files.TheConstants.{FILE_LIMIT}
+use Rattle.remap_ids.specs.Services.{ServicePair, services_of}
+use Rattle.replay_cli.specs.declared.options.Ways.{Ways}
+use Rattle.replay_cli.specs.Decision.{Decides, Failing, Legal, LegalOf, OpenedIn, PrepareIn, Read, ReadIn, Reads, RemapIn, RunIn, SessionOf, StartOf, Task, ToMake, ToReplay, ToTell, ToTry, Verdict, VerdictOf, job_of, remap_of}
 use Rattle.replay_cli.specs.Steps.{Is, Reading, Then, file_in}
 
 abbrev pub IsOne : {X : Type 0} → (Result X Refusal → Type 0) → Type 0
@@ -124,24 +127,52 @@ legal_one start sessions (Ok a) (Err s) h k = not_both (record { calls = a.calls
 legal_one start sessions (Err r) (Ok b) h k = not_both (record { calls = b.calls; facts = b.facts }) h.0 (sym k.1 ∙ h.1)
 legal_one start sessions (Err r) (Err s) h k = ap (λ e. Err e) (h.2 ∙ ap (λ (c : Illegal). NotLegal c) (causes_same h.0 k.0 (sym h.1 ∙ k.1)) ∙ sym k.2)
 
-abbrev tested_of : Opened → List (List Captured) → Result Legal Refusal → Type 0
-tested_of opened = LegalOf opened.file.start
+abbrev all_read : Opened → List (List Captured) → Result Read Refusal → Type 0
+all_read opened sessions = Is (Ok (record { start = opened.file.start; sessions = sessions }))
 
-abbrev read_of : FileMap → List ℕ → Opened → Result Legal Refusal → Type 0
-read_of files capture opened = Then (Reading SessionOf files opened.left 0 (session_names capture opened.file.sessions)) (tested_of opened)
+abbrev sessions_in : FileMap → List ℕ → Opened → Result Read Refusal → Type 0
+sessions_in files capture opened = Then (Reading SessionOf files opened.left 0 (session_names capture opened.file.sessions)) (all_read opened)
 
-capture_one : (files : FileMap) (capture : List ℕ) → IsOne (LegalIn files capture)
-capture_one files capture = then_one (OpenedIn files capture) (read_of files capture) (opened_one files capture) (λ opened is.
+read_one : (files : FileMap) (capture : List ℕ) → IsOne (ReadIn files capture)
+read_one files capture = then_one (OpenedIn files capture) (sessions_in files capture) (opened_one files capture) (λ opened is.
     let few = few_sessions files capture opened is in
     let names = count_names capture opened.file.sessions in
     let small : 0 + length (session_names capture opened.file.sessions) ≤ 2 ^ 32 = omega (arith, few, names) in
-    then_one (Reading SessionOf files opened.left 0 (session_names capture opened.file.sessions)) (tested_of opened) (reading_one files opened.left 0 (session_names capture opened.file.sessions) small) (λ sessions read. legal_one opened.file.start sessions))
+    then_one (Reading SessionOf files opened.left 0 (session_names capture opened.file.sessions)) (all_read opened) (reading_one files opened.left 0 (session_names capture opened.file.sessions) small) (λ sessions read. is_one (Ok (record { start = opened.file.start; sessions = sessions }))))
+
+remap_one : (files : FileMap) (name : Option (List ℕ)) → IsOne (RemapIn files name)
+remap_one files None = is_one (Ok [])
+remap_one files (Some name) =
+    then_one (Is (file_in files FILE_LIMIT name)) (λ bytes. Is (remap_of (services_of bytes))) (is_one (file_in files FILE_LIMIT name)) (λ bytes held. is_one (remap_of (services_of bytes)))
 
 -- ---- a command
 
+module _ (files : FileMap) (capture out : List ℕ) where
+  module _ (ways : Ways) where
+    abbrev replayed_of : List ServicePair → Legal → Result Task Refusal → Type 0
+    replayed_of remap legal = Is (Ok (ToReplay out (job_of legal remap ways)))
+
+    abbrev remapped_of : Read → List ServicePair → Result Task Refusal → Type 0
+    remapped_of read remap = Then (LegalOf read.start read.sessions) (replayed_of remap)
+
+    abbrev run_of : Read → Result Task Refusal → Type 0
+    run_of read = Then (RemapIn files ways.remap) (remapped_of read)
+
+    run_one : IsOne (RunIn files capture out ways)
+    run_one = then_one (ReadIn files capture) run_of (read_one files capture) (λ read is.
+        then_one (RemapIn files ways.remap) (remapped_of read) (remap_one files ways.remap) (λ remap named.
+        then_one (LegalOf read.start read.sessions) (replayed_of remap) (legal_one read.start read.sessions) (λ legal tested. is_one (Ok (ToReplay out (job_of legal remap ways))))))
+
+  abbrev told_of : Legal → Result Task Refusal → Type 0
+  told_of legal = Is (Ok (ToTell out legal.facts))
+
+  prepare_one : IsOne (PrepareIn files capture out)
+  prepare_one = then_one (ReadIn files capture) (λ read. Then (LegalOf read.start read.sessions) told_of) (read_one files capture) (λ read is.
+      then_one (LegalOf read.start read.sessions) told_of (legal_one read.start read.sessions) (λ legal tested. is_one (Ok (ToTell out legal.facts))))
+
 decides_one : (command : Command) (files : FileMap) → IsOne (Decides command files)
-decides_one (Run capture out) files = then_one (LegalIn files capture) (λ legal. Is (Ok (ToReplay out legal.start legal.calls))) (capture_one files capture) (λ legal is. is_one (Ok (ToReplay out legal.start legal.calls)))
-decides_one (Prepare capture out) files = then_one (LegalIn files capture) (λ legal. Is (Ok (ToTell out legal.facts))) (capture_one files capture) (λ legal is. is_one (Ok (ToTell out legal.facts)))
+decides_one (Run capture out ways) files = run_one files capture out ways
+decides_one (Prepare capture out) files = prepare_one files capture out
 decides_one (Generate n out) files = is_one (Ok (ToMake n out))
 decides_one (Trial n) files = is_one (Ok (ToTry n))
 

@@ -1,15 +1,12 @@
 -- Which words are a command.
-use Rattle.std.specs.Prelude.{ℕ, ◌≤◌, ◌==◌, ◌&&◌, Bool, false, not, nat_le, if◌then◌else◌, List, [], ◌∷◌, length, codes, Option, None, Some}
+use Rattle.std.specs.Prelude.{ℕ, ◌≤◌, ◌&&◌, nat_le, if◌then◌else◌, List, [], ◌∷◌, length, codes, Option, None, Some}
 use Rattle.std.specs.Option.{option_map}
 use Rattle.std.specs.Str.{bytes_eq}
 use Rattle.desk_values.specs.Reading.{number_of}
 use Rattle.replay_cli.specs.declared.words.Command.{Command}
 use Rattle.replay_cli.specs.declared.words.Command.TheVariants.{Run, Prepare, Generate, Trial}
-
--- 1 to 900 bytes, of which the first is no `-`
-abbrev pub is_path : List ℕ → Bool
-is_path [] = false
-is_path (first ∷ others) = not (first == 45) && nat_le (length (first ∷ others)) 900
+use Rattle.replay_cli.specs.Options.{HasWays, ways_of}
+use Rattle.replay_cli.specs.Path.{is_path}
 
 abbrev pub within_limits : Option ℕ → Option ℕ
 within_limits None = None
@@ -20,7 +17,7 @@ abbrev pub calls_of : List ℕ → Option ℕ
 calls_of word = within_limits (number_of word)
 
 abbrev pub run_of : List (List ℕ) → Option Command
-run_of (capture ∷ out ∷ []) = if is_path capture && is_path out then Some (Run capture out) else None
+run_of (capture ∷ out ∷ options) = if is_path capture && is_path out then option_map (λ ways. Run capture out ways) (ways_of options) else None
 run_of other = None
 
 abbrev pub prepare_of : List (List ℕ) → Option Command
@@ -54,7 +51,7 @@ IsCallCount n = (1 ≤ n) × (n ≤ 10000)
 
 -- the folders that a command names are short, and its numbers within their limits
 abbrev pub IsWithinLimits : Command → Type 0
-IsWithinLimits (Run capture out) = (length capture ≤ 900) × (length out ≤ 900)
+IsWithinLimits (Run capture out ways) = (length capture ≤ 900) × (length out ≤ 900) × HasWays ways
 IsWithinLimits (Prepare capture out) = (length capture ≤ 900) × (length out ≤ 900)
 IsWithinLimits (Generate n out) = IsCallCount n × (length out ≤ 900)
 IsWithinLimits (Trial n) = IsCallCount n

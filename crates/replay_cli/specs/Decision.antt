@@ -1,7 +1,8 @@
 -- What the words and the files come to: a list of steps, of which the first that refuses decides.
-use Rattle.std.specs.Prelude.{◌≡◌, ℕ, ◌-◌, List, length, Option, None, Some, Result, Ok, Err}
+use Rattle.std.specs.Prelude.{◌≡◌, ℕ, ◌-◌, List, [], length, Option, None, Some, IsSome, Result, Ok, Err}
 use Rattle.desk_values.specs.declared.capture.Captured.{Captured}
 use Rattle.desk_files.specs.Outside.{FileMap}
+use Rattle.desk_files.specs.declared.files.TheConstants.{FILE_LIMIT}
 use Rattle.desk_schema.specs.Start.{StartView}
 use Rattle.file_lines.specs.File.{ReadsFile}
 use Rattle.file_lines.specs.declared.reader.FormErr.TheVariants.{Bad}
@@ -14,11 +15,16 @@ use Rattle.prepare_plan.specs.Verdict as plan
 use Rattle.replay_cli.specs.declared.capture.Opened.{Opened}
 use Rattle.replay_cli.specs.declared.capture.TheConstants.{ROOM}
 use Rattle.replay_cli.specs.declared.failure.Refusal.{Refusal}
-use Rattle.replay_cli.specs.declared.failure.Refusal.TheVariants.{BadLine, NotLegal}
+use Rattle.replay_cli.specs.declared.failure.Refusal.TheVariants.{BadLine, BadRemap, NotLegal}
 use Rattle.replay_cli.specs.declared.failure.Failure.{Failure}
 use Rattle.replay_cli.specs.declared.failure.Failure.TheVariants.{BadCommand, Refused, DeviceFault, OutOfMemory}
 use Rattle.replay_cli.specs.declared.words.Command.{Command}
 use Rattle.replay_cli.specs.declared.words.Command.TheVariants.{Run, Prepare, Generate, Trial}
+use Rattle.remap_ids.specs.Services.{ServicePair, services_of}
+use Rattle.remap_ids.specs.declared.remap.RemapErr.{RemapErr}
+use Rattle.remap_ids.specs.declared.remap.RemapErr.TheVariants.{BadRow, TwiceFrom, Memory}
+use Rattle.replay_job.specs.Job.{JobView}
+use Rattle.replay_cli.specs.declared.options.Ways.{Ways}
 use Rattle.replay_cli.specs.Command.{command_of}
 use Rattle.replay_cli.specs.Words.{session_names, start_name}
 use Rattle.replay_cli.specs.Steps.{Is, Reading, Then, file_in}
@@ -54,41 +60,97 @@ abbrev pub LegalOf : StartView → List (List Captured) → Result Legal Refusal
 LegalOf start sessions (Ok legal) = (legal.start ≡ start) × (plan.verdict start sessions ≡ Ok (record { calls = legal.calls; facts = legal.facts }))
 LegalOf start sessions (Err refusal) = (cause : Illegal) × (plan.verdict start sessions ≡ Err cause) × (refusal ≡ NotLegal cause)
 
--- the capture in a folder: its start file, as many session files as that says, and the test
-abbrev pub LegalIn : FileMap → List ℕ → Result Legal Refusal → Type 0
-LegalIn files capture =
+-- what the files of a capture say
+pub record Read : Type 0 where
+  pub start : StartView
+  pub sessions : List (List Captured)
+
+-- the files of the capture in a folder: its start file, and as many session files as that says
+abbrev pub ReadIn : FileMap → List ℕ → Result Read Refusal → Type 0
+ReadIn files capture =
     Then (OpenedIn files capture) (λ opened.
     Then (Reading SessionOf files opened.left 0 (session_names capture opened.file.sessions)) (λ sessions.
-    LegalOf opened.file.start sessions))
+    Is (Ok (record { start = opened.file.start; sessions = sessions }))))
+
+-- ---- the services that are sent in the place of others
+
+-- a refused record by its number; want of memory is no answer of the file
+abbrev pub record_of : RemapErr → ℕ
+record_of (BadRow n) = n
+record_of (TwiceFrom n) = n
+record_of Memory = 0
+
+abbrev pub remap_of : Result (List ServicePair) RemapErr → Result (List ServicePair) Refusal
+remap_of (Ok services) = Ok services
+remap_of (Err error) = Err (BadRemap (record_of error))
+
+-- what the file of this name says, if one is named
+abbrev pub RemapIn : FileMap → Option (List ℕ) → Result (List ServicePair) Refusal → Type 0
+RemapIn files None = Is (Ok [])
+RemapIn files (Some name) = Then (Is (file_in files FILE_LIMIT name)) (λ bytes. Is (remap_of (services_of bytes)))
 
 -- ---- a command
 
 -- what is to be done, and what it takes
 pub data Task : Type 0 where
-  ToReplay : List ℕ → StartView → List Captured → Task
+  ToReplay : List ℕ → JobView → Task
   ToTell : List ℕ → List Fact → Task
   ToMake : ℕ → List ℕ → Task
   ToTry : ℕ → Task
 
+-- a legal capture that is replayed so, on its own start
+abbrev pub job_of : Legal → List ServicePair → Ways → JobView
+job_of legal remap ways = record { start = legal.start; target = legal.start; calls = legal.calls; facts = legal.facts; remap = remap; mode = ways.mode; think = ways.think; connect = ways.connect }
+
+-- the steps of a run: the files of the capture, the remap file, the test of the capture
+abbrev pub RunIn : FileMap → List ℕ → List ℕ → Ways → Result Task Refusal → Type 0
+RunIn files capture out ways =
+    Then (ReadIn files capture) (λ read.
+    Then (RemapIn files ways.remap) (λ remap.
+    Then (LegalOf read.start read.sessions) (λ legal.
+    Is (Ok (ToReplay out (job_of legal remap ways))))))
+
+abbrev pub PrepareIn : FileMap → List ℕ → List ℕ → Result Task Refusal → Type 0
+PrepareIn files capture out =
+    Then (ReadIn files capture) (λ read.
+    Then (LegalOf read.start read.sessions) (λ legal.
+    Is (Ok (ToTell out legal.facts))))
+
 abbrev pub Decides : Command → FileMap → Result Task Refusal → Type 0
-Decides (Run capture out) files = Then (LegalIn files capture) (λ legal. Is (Ok (ToReplay out legal.start legal.calls)))
-Decides (Prepare capture out) files = Then (LegalIn files capture) (λ legal. Is (Ok (ToTell out legal.facts)))
+Decides (Run capture out ways) files = RunIn files capture out ways
+Decides (Prepare capture out) files = PrepareIn files capture out
 Decides (Generate n out) files = Is (Ok (ToMake n out))
 Decides (Trial n) files = Is (Ok (ToTry n))
 
 -- the command reads files, which may be refused
 abbrev pub ReadsFiles : Command → Type 0
-ReadsFiles (Run capture out) = Unit {0}
+ReadsFiles (Run capture out ways) = Unit {0}
 ReadsFiles (Prepare capture out) = Unit {0}
 ReadsFiles (Generate n out) = ⊥
 ReadsFiles (Trial n) = ⊥
 
--- only such a command is refused
+-- the command names a remap file
+abbrev pub NamesRemap : Command → Type 0
+NamesRemap (Run capture out ways) = IsSome ways.remap
+NamesRemap (Prepare capture out) = ⊥
+NamesRemap (Generate n out) = ⊥
+NamesRemap (Trial n) = ⊥
+
+-- only such commands are refused so
+abbrev pub MayBeRefused : Command → Refusal → Type 0
+MayBeRefused command (BadRemap n) = NamesRemap command
+MayBeRefused command other = ReadsFiles command
+
 abbrev pub MayRefuse : Command → Failure → Type 0
 MayRefuse command BadCommand = Unit {0}
-MayRefuse command (Refused refusal) = ReadsFiles command
+MayRefuse command (Refused refusal) = MayBeRefused command refusal
 MayRefuse command DeviceFault = Unit {0}
 MayRefuse command OutOfMemory = Unit {0}
+
+-- the failure tells of no remap file
+abbrev pub IsOfCapture : Failure → Type 0
+IsOfCapture (Refused (BadRemap n)) = ⊥
+IsOfCapture other = Unit {0}
 
 -- a refusal as the failure that it is
 abbrev pub Failing : {X : Type 0} → (Result X Refusal → Type 0) → Result X Failure → Type 0

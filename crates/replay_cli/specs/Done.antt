@@ -1,39 +1,48 @@
 -- What each task comes to: its files and its line.
-use Rattle.std.specs.Prelude.{◌≡◌, ℕ, ◌≤◌, ◌+◌, List, [], ◌∷◌, ◌++◌, length}
-use Rattle.desk_values.specs.declared.value.Image.{Image}
+use Rattle.std.specs.Prelude.{◌≡◌, ℕ, ◌≤◌, ◌+◌, false, nat_lt, List, [], ◌∷◌, ◌++◌, length}
 use Rattle.desk_values.specs.declared.capture.Captured.{Captured}
 use Rattle.desk_values.specs.declared.capture.Event.{Event}
 use Rattle.desk_files.specs.declared.writes.Write.{Write}
 use Rattle.desk_schema.specs.Start.{StartView}
 use Rattle.capture_format.specs.StartFile.{start_text}
 use Rattle.capture_format.specs.SessionFile.{session_text}
-use Rattle.replay_history.specs.declared.mode.Mode.TheVariants.{Order}
 use Rattle.replay_history.specs.Capture.{commits_before}
-use Rattle.replay_history.specs.Report.{clean_report}
 use Rattle.replay_history.specs.Texts.{journal_text, report_text, tables_text}
 use Rattle.object_depends.specs.Csv.{requires_text}
+use Rattle.remap_ids.specs.MapsText.{maps_text}
+use Rattle.replay_job.specs.Job.{JobView, seen}
+use Rattle.replay_job.specs.Runs.{Stage, learnt_in}
+use Rattle.replay_job.specs.Replays.{IsReplay, IsSoundJob}
+use Rattle.replay_report.specs.Report.{report_in}
+use Rattle.replay_report.specs.Differences.{csv_text}
 use Rattle.capture_recorder.specs.Generated.{generated}
-use Rattle.capture_recorder.specs.Sessions.{session_lists}
+use Rattle.capture_laws.specs.Sessions.{session_lists}
+use Rattle.prepare_plan.specs.Lists.{lists_of}
 use Rattle.replay_cli.specs.declared.capture.Legal.{Legal as Loaded}
-use Rattle.replay_cli.specs.declared.job.Job.{Job}
-use Rattle.replay_cli.specs.declared.job.Job.TheVariants.{Replaying, Telling, Making, Trying}
+use Rattle.replay_cli.specs.declared.capture.Read.{Read as ReadFiles}
+use Rattle.replay_cli.specs.declared.work.Work.{Work}
+use Rattle.replay_cli.specs.declared.work.Work.TheVariants.{Replaying, Telling, Making, Trying}
 use Rattle.replay_cli.specs.declared.plan.Plan.{Plan}
 use Rattle.replay_cli.specs.declared.words.Command.{Command}
 use Rattle.replay_cli.specs.declared.words.Command.TheVariants.{Run, Prepare, Generate, Trial}
 use Rattle.replay_cli.specs.Command.{IsCallCount}
-use Rattle.replay_cli.specs.Decision.{Legal, Task, ToReplay, ToTell, ToMake, ToTry}
+use Rattle.replay_cli.specs.Decision.{Legal, Read, Task, ToReplay, ToTell, ToMake, ToTry}
 use Rattle.replay_cli.specs.Lines.{generated_line, prepared_line, replayed_line, trial_line}
-use Rattle.replay_cli.specs.Replay.{IsLegalFrom, IsReplay}
-use Rattle.replay_cli.specs.Words.{journal_name, report_name, requires_name, session_name, start_name, tables_name}
+use Rattle.replay_cli.specs.Replay.{IsTrial, end_tables}
+use Rattle.replay_cli.specs.Words.{journal_name, maps_name, report_name, requires_name, session_name, start_name, table_of_report_name, tables_name}
 
 abbrev pub all_commits : List Captured → ℕ
 all_commits calls = commits_before calls (length calls)
 
 -- ---- what is written, one file after the other
 
-abbrev pub replayed_files : List ℕ → ℕ → List Event → List Image → List Write
-replayed_files out calls history tables =
-    record { name = journal_name out; bytes = journal_text Order history } ∷ record { name = report_name out; bytes = report_text (clean_report calls) } ∷ record { name = tables_name out; bytes = tables_text tables } ∷ []
+abbrev pub replayed_files : List ℕ → JobView → List Event → Stage → List Write
+replayed_files out job history last =
+    record { name = journal_name out; bytes = journal_text job.mode history }
+    ∷ record { name = report_name out; bytes = report_text (report_in job history) }
+    ∷ record { name = table_of_report_name out; bytes = csv_text job.calls history (report_in job history).lines }
+    ∷ record { name = tables_name out; bytes = tables_text (end_tables last) }
+    ∷ record { name = maps_name out; bytes = maps_text (learnt_in job.calls history) } ∷ []
 
 -- the files of sessions from this number on
 abbrev pub session_files : List ℕ → ℕ → List (List Captured) → List Write
@@ -55,49 +64,65 @@ made_files out n = session_files out 0 (made_lists n) ++ record { name = start_n
 
 -- ---- each task
 
+-- the report decides the line, and whether calls differ
+pub record IsReported (job : JobView) (history : List Event) (plan : Plan) : Type 0 where
+  pub line : plan.line ≡ replayed_line (length job.calls) (length (report_in job history).lines)
+  pub differs : plan.differs ≡ nat_lt 0 (length (report_in job history).lines)
+
+-- a capture was replayed as it is
+abbrev pub IsTried : StartView → List Captured → Type 0
+IsTried start calls = (job : JobView) × (history : List Event) × (last : Stage) × IsTrial start calls job × IsReplay job history last
+
+-- nothing differs
+abbrev pub IsQuiet : Plan → Type 0
+IsQuiet plan = plan.differs ≡ false
+
 -- the files and the line that it may end with
 abbrev pub IsDone : Task → Plan → Type 0
-IsDone (ToReplay out start calls) plan =
-    (plan.line ≡ replayed_line (length calls))
-    × ((history : List Event) × (tables : List Image) × IsReplay start calls 100 history tables × (plan.writes ≡ replayed_files out (length calls) history tables))
+IsDone (ToReplay out job) plan =
+    (history : List Event) × (last : Stage) × IsReplay job history last × IsReported job history plan × (plan.writes ≡ replayed_files out job history last)
 IsDone (ToTell out facts) plan =
-    (plan.line ≡ prepared_line (length facts)) × (plan.writes ≡ record { name = requires_name out; bytes = requires_text facts } ∷ [])
-IsDone (ToMake n out) plan = (plan.line ≡ generated_line n) × (plan.writes ≡ made_files out n)
+    (plan.line ≡ prepared_line (length facts)) × IsQuiet plan × (plan.writes ≡ record { name = requires_name out; bytes = requires_text facts } ∷ [])
+IsDone (ToMake n out) plan = (plan.line ≡ generated_line n) × IsQuiet plan × (plan.writes ≡ made_files out n)
 IsDone (ToTry n) plan =
     (plan.line ≡ trial_line n (length (made_calls n)) (all_commits (made_calls n)))
-    × ((history : List Event) × (tables : List Image) × IsReplay (made_start n) (made_calls n) 0 history tables) × (plan.writes ≡ [])
+    × IsTried (made_start n) (made_calls n) × IsQuiet plan × (plan.writes ≡ [])
+
+-- the files of a capture as contracts see them
+abbrev pub read_of : ReadFiles → Read
+read_of read = record { start = read.start; sessions = lists_of read.sessions }
 
 -- a legal capture as contracts see it
 abbrev pub legal_of : Loaded → Legal
 legal_of loaded = record { start = loaded.start; calls = loaded.calls.items; facts = loaded.facts }
 
 -- what the work is of which the code holds this
-abbrev pub task_of : Job → Task
-task_of (Replaying out start calls) = ToReplay out start calls.items
+abbrev pub task_of : Work → Task
+task_of (Replaying out job) = ToReplay out (seen job)
 task_of (Telling out facts) = ToTell out facts
 task_of (Making n out) = ToMake n out
 task_of (Trying n) = ToTry n
 
--- what the code holds is within the limits, and a capture is legal
-abbrev pub IsJob : Job → Type 0
-IsJob (Replaying out start calls) = (length out ≤ 900) × IsLegalFrom start calls.items
-IsJob (Telling out facts) = (length out ≤ 900) × (length facts ≤ 100000)
-IsJob (Making n out) = IsCallCount n × (length out ≤ 900)
-IsJob (Trying n) = IsCallCount n
+-- what the code holds is within the limits, and a job can be replayed
+abbrev pub IsWork : Work → Type 0
+IsWork (Replaying out job) = (length out ≤ 900) × IsSoundJob (seen job)
+IsWork (Telling out facts) = (length out ≤ 900) × (length facts ≤ 100000)
+IsWork (Making n out) = IsCallCount n × (length out ≤ 900)
+IsWork (Trying n) = IsCallCount n
 
 -- ---- by the words alone
 
 -- the task is one of this command, with its number
 abbrev pub IsTaskOf : Command → Task → Type 0
-IsTaskOf (Run capture out) (ToReplay folder start calls) = Unit {0}
+IsTaskOf (Run capture out ways) (ToReplay folder job) = Unit {0}
 IsTaskOf (Prepare capture out) (ToTell folder facts) = Unit {0}
 IsTaskOf (Generate n out) (ToMake calls folder) = calls ≡ n
 IsTaskOf (Trial n) (ToTry calls) = calls ≡ n
 IsTaskOf command other = ⊥
 
--- a line that the command prints where its work is done
-abbrev pub IsLineOf : Command → List ℕ → Type 0
-IsLineOf (Run capture out) line = (calls : ℕ) × (line ≡ replayed_line calls)
-IsLineOf (Prepare capture out) line = (calls : ℕ) × (line ≡ prepared_line calls)
-IsLineOf (Generate n out) line = line ≡ generated_line n
-IsLineOf (Trial n) line = line ≡ trial_line n (length (made_calls n)) (all_commits (made_calls n))
+-- a line that the command prints where its work is done; a run may find calls that differ
+abbrev pub IsLineOf : Command → Plan → Type 0
+IsLineOf (Run capture out ways) plan = (calls divergent : ℕ) × (plan.line ≡ replayed_line calls divergent) × (plan.differs ≡ nat_lt 0 divergent)
+IsLineOf (Prepare capture out) plan = (calls : ℕ) × (plan.line ≡ prepared_line calls) × IsQuiet plan
+IsLineOf (Generate n out) plan = (plan.line ≡ generated_line n) × IsQuiet plan
+IsLineOf (Trial n) plan = (plan.line ≡ trial_line n (length (made_calls n)) (all_commits (made_calls n))) × IsQuiet plan

@@ -1,6 +1,5 @@
 -- How a command ends: its status, its line and its files.
 use Rattle.std.specs.Prelude.{◌≡◌, ℕ, ◌≤◌, ◌⊎◌, List, Option, IfSome, IsErrOf, IsNone, Result, Ok, Err}
-use Rattle.desk_files.specs.declared.fault.WriteErr.TheVariants.{Failed, Memory}
 use Rattle.desk_files.specs.Outside.{Appends, AppendsPart, FileMap, HasRisen}
 use Rattle.desk_files.specs.Writes.{CutShort, WrittenSoFar, with_all}
 use Rattle.replay_cli.specs.declared.failure.Failure.{Failure}
@@ -10,7 +9,7 @@ use Rattle.replay_cli.specs.Command.{command_of}
 use Rattle.replay_cli.specs.declared.words.Command.{Command}
 use Rattle.replay_cli.specs.Decision.{MayRefuse, Task}
 use Rattle.replay_cli.specs.Done.{IsDone, IsLineOf}
-use Rattle.replay_cli.specs.Lines.{failure_line, failure_status}
+use Rattle.replay_cli.specs.Lines.{done_status, failure_line, failure_status}
 
 -- ---- doing the work
 
@@ -46,7 +45,7 @@ RunFaults (Err OutOfMemory) before after = after ≡ before
 -- ---- the line and the status
 
 abbrev pub status_of : Result Plan Failure → ℕ
-status_of (Ok plan) = 0
+status_of (Ok plan) = done_status plan.differs
 status_of (Err failure) = failure_status failure
 
 abbrev pub line_of : Result Plan Failure → List ℕ
@@ -66,13 +65,13 @@ Reports done result before after faults_before faults_after =
 abbrev pub IsOutside : ℕ → Type 0
 IsOutside result = (result ≡ 5) ⊎ (result ≡ 6)
 
--- The end that a verdict has: a failure has its status and its line and changes no file; a task that is done has status 0,
--- its line and its files. Or else a device failed or memory was short, and the task is done in part.
+-- The end that a verdict has: a failure has its status and its line and changes no file; a task that is done has status 0, or 1
+-- where calls differ, its line and its files. Or else a device failed or memory was short, and the task is done in part.
 abbrev pub Ends : Result Task Failure → FileMap → FileMap → ℕ → ℕ → ℕ → Option (List ℕ) → Option (List ℕ) → Type 0
 Ends (Err failure) files files_after fb fa result before after =
     (files_after ≡ files) × (((result ≡ failure_status failure) × Appends (failure_line failure) before after) ⊎ IsOutside result)
 Ends (Ok task) files files_after fb fa result before after =
-    ((plan : Plan) × IsDone task plan × (files_after ≡ with_all plan.writes files) × (result ≡ 0) × Appends plan.line before after)
+    ((plan : Plan) × IsDone task plan × (files_after ≡ with_all plan.writes files) × (result ≡ done_status plan.differs) × Appends plan.line before after)
     ⊎ (IsOutside result × LeftOf task files files_after fb fa)
 
 -- the end that some verdict has; or a device failed or memory was short before there was one
@@ -83,7 +82,7 @@ EndsSo wanted files files_after fb fa result before after =
 
 -- what a command may come to, whatever its files are: its own line, or a failure, and a refusal only where it reads files
 abbrev pub MayComeTo : Command → Result Plan Failure → Type 0
-MayComeTo command (Ok plan) = IsLineOf command plan.line
+MayComeTo command (Ok plan) = IsLineOf command plan
 MayComeTo command (Err failure) = MayRefuse command failure
 
 -- what is printed, also where the files are not told: the line of what the command may come to; or that of no command, just where the words are none

@@ -1,3 +1,5 @@
+pub mod Path
+pub mod Options
 pub mod Words
 pub mod Command
 pub mod Steps

@@ -1,12 +1,12 @@
 -- The status and the line of each way in which a command ends.
-use Rattle.std.specs.Prelude.{ℕ, List, [], ◌∷◌, ◌++◌, codes}
+use Rattle.std.specs.Prelude.{ℕ, Bool, true, false, List, [], ◌∷◌, ◌++◌, codes}
 use Rattle.std.specs.Fmt.{decimal}
 use Rattle.desk_values.specs.Text.{reply_text}
 use Rattle.capture_format.specs.SessionFile.{number_text}
 use Rattle.prepare_plan.specs.declared.refusal.Refusal.{Refusal as Illegal}
 use Rattle.prepare_plan.specs.declared.refusal.Refusal.TheVariants.{TooMany, Stamp, Number, Seen, Times, Stranger, Reply, Memory}
 use Rattle.replay_cli.specs.declared.failure.Refusal.{Refusal}
-use Rattle.replay_cli.specs.declared.failure.Refusal.TheVariants.{Missing, TooLong, BadLine, NotLegal}
+use Rattle.replay_cli.specs.declared.failure.Refusal.TheVariants.{Missing, TooLong, BadLine, BadRemap, NotLegal}
 use Rattle.replay_cli.specs.declared.failure.Failure.{Failure}
 use Rattle.replay_cli.specs.declared.failure.Failure.TheVariants.{BadCommand, Refused, DeviceFault, OutOfMemory}
 
@@ -14,6 +14,7 @@ abbrev pub refusal_status : Refusal → ℕ
 refusal_status (Missing name) = 4
 refusal_status (TooLong name) = 8
 refusal_status (BadLine name line) = 3
+refusal_status (BadRemap n) = 7
 refusal_status (NotLegal cause) = 3
 
 abbrev pub failure_status : Failure → ℕ
@@ -38,6 +39,7 @@ abbrev pub refusal_line : Refusal → List ℕ
 refusal_line (Missing name) = codes "missing: " ++ (name ++ 10 ∷ [])
 refusal_line (TooLong name) = codes "too long: " ++ (name ++ 10 ∷ [])
 refusal_line (BadLine name line) = codes "bad capture: " ++ (name ++ (codes " line " ++ (decimal line ++ 10 ∷ [])))
+refusal_line (BadRemap n) = codes "bad remap: row " ++ (decimal n ++ 10 ∷ [])
 refusal_line (NotLegal cause) = codes "bad capture: " ++ (cause_text cause ++ 10 ∷ [])
 
 abbrev pub failure_line : Failure → List ℕ
@@ -48,6 +50,11 @@ failure_line OutOfMemory = codes "out of memory" ++ 10 ∷ []
 
 -- ---- what is printed of a command that was done
 
+-- 1 where calls differ
+abbrev pub done_status : Bool → ℕ
+done_status true = 1
+done_status false = 0
+
 -- how many, and of what
 abbrev pub counted : ℕ → List ℕ → List ℕ
 counted n words = decimal n ++ words
@@ -56,8 +63,9 @@ counted n words = decimal n ++ words
 abbrev pub counted_line : List ℕ → ℕ → List ℕ → List ℕ
 counted_line word calls rest = word ++ counted calls rest
 
-abbrev pub replayed_line : ℕ → List ℕ
-replayed_line calls = counted_line (codes "replayed ") calls (codes " calls, 0 divergent\n")
+-- how many calls were replayed, and how many of them differ
+abbrev pub replayed_line : ℕ → ℕ → List ℕ
+replayed_line calls divergent = codes "replayed " ++ (counted calls (codes " calls, ") ++ counted divergent (codes " divergent\n"))
 
 abbrev pub prepared_line : ℕ → List ℕ
 prepared_line calls = counted_line (codes "prepared ") calls (codes " calls\n")

@@ -1,39 +1,39 @@
--- A replay of a capture in the captured order.
-use Rattle.std.specs.Prelude.{◌≡◌, ℕ, ◌<◌, List, length}
+-- Replays, and what they end in.
+use Rattle.std.specs.Prelude.{◌≡◌, ℕ, ◌≤◌, List, [], length}
 use Rattle.desk_values.specs.declared.capture.Captured.{Captured}
 use Rattle.desk_values.specs.declared.value.Image.{Image}
-use Rattle.desk_values.specs.declared.call.Reply.{Reply}
-use Rattle.desk_values.specs.declared.capture.Event.{Event}
 use Rattle.desk_schema.specs.Start.{StartView}
-use Rattle.replay_history.specs.Gap.{IsCallAt, IsPause}
-use Rattle.replay_history.specs.History.{AnswersAt, IsCompleteRun}
-use Rattle.replay_history.specs.Capture.{IsLegalCapture, IsRun}
-use Rattle.machine_model.specs.State.{State, opening, tables as tables_after}
+use Rattle.replay_history.specs.declared.mode.Mode.TheVariants.{Order}
+use Rattle.replay_history.specs.Capture.{IsLegalCapture}
+use Rattle.replay_history.specs.Gap.{IsCallAt}
+use Rattle.machine_model.specs.State.{opening, tables as tables_after}
 use Rattle.machine_model.specs.Step.{Gives}
+use Rattle.object_depends.specs.declared.fact.Fact.{Fact}
+use Rattle.replay_job.specs.Job.{JobView}
+use Rattle.replay_job.specs.Runs.{Stage}
 
 -- the calls are a legal capture from this start
 abbrev pub IsLegalFrom : StartView → List Captured → Type 0
 IsLegalFrom start calls = IsLegalCapture start.rows Gives (opening start) calls
 
--- in the captured order each call requires every call before it
-abbrev pub in_order : ℕ → ℕ → Type 0
-in_order k j = j < k
+-- the moments at which calls begin are within those of a capture
+abbrev pub HasMoments : List Captured → Type 0
+HasMoments calls = (k : ℕ) (call : Captured) → IsCallAt calls k call → call.began ≤ 1000000000000
 
--- executing the call with this stamp, as it was captured, in the first state gives this reply and leaves the second
-abbrev pub Executes : List Captured → State → ℕ → Reply → State → Type 0
-Executes calls old k reply new = (call : Captured) × IsCallAt calls k call × Gives old call.session call.call reply new
+-- the committed rows at the end of a replay
+abbrev pub end_tables : Stage → List Image
+end_tables last = tables_after last.state (length last.state.commits)
 
--- each answer is the recorded one
-abbrev pub AnswersAsCaptured : List Captured → List Event → Type 0
-AnswersAsCaptured calls history = (i k : ℕ) (reply : Reply) → AnswersAt history i k reply → (call : Captured) → IsCallAt calls k call → reply ≡ call.reply
+-- a trial replays a capture as it is, in its order and without pauses
+pub record IsTrial (captured : StartView) (recorded : List Captured) (job : JobView) : Type 0 where
+  pub start : job.start ≡ captured
+  pub target : job.target ≡ captured
+  pub calls : job.calls ≡ recorded
+  pub remap : job.remap ≡ []
+  pub mode : job.mode ≡ Order
+  pub think : job.think ≡ 0
+  pub connect : job.connect ≡ 0
 
--- A replay of these calls, a legal capture, in the captured order, with so many hundredths of each gap: its history is that of
--- a complete run, in which each reply is the recorded one; it ends where the capture did, and the tables are the committed rows
--- there.
-pub record IsReplay (start : StartView) (calls : List Captured) (percent : ℕ) (history : List Event) (tables : List Image) : Type 0 where
-  pub legal : IsLegalFrom start calls
-  pub end : State
-  pub at_end : IsRun Gives (opening start) calls end
-  pub complete : IsCompleteRun calls in_order (IsPause calls percent percent) (Executes calls) (opening start) history end
-  pub tables_are : tables ≡ tables_after end (length end.commits)
-  pub as_captured : AnswersAsCaptured calls history
+-- what a replay in the captured order has to know of a call
+abbrev pub plain_fact : Captured → Fact
+plain_fact call = record { session = call.session; seen = call.seen; number = call.number; refs = 0; writes = 0 }

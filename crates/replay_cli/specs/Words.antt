@@ -30,8 +30,14 @@ journal_name folder = folder ++ codes "/journal.txt"
 abbrev pub report_name : List ℕ → List ℕ
 report_name folder = folder ++ codes "/report.txt"
 
+abbrev pub table_of_report_name : List ℕ → List ℕ
+table_of_report_name folder = folder ++ codes "/report.csv"
+
 abbrev pub tables_name : List ℕ → List ℕ
 tables_name folder = folder ++ codes "/tables.txt"
+
+abbrev pub maps_name : List ℕ → List ℕ
+maps_name folder = folder ++ codes "/maps.csv"
 
 abbrev pub requires_name : List ℕ → List ℕ
 requires_name folder = folder ++ codes "/requires.csv"

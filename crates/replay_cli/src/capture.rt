@@ -1,13 +1,15 @@
 //! A capture in a folder: its files, read and tested.
 
-ghost use Rattle.std.specs.Prelude.{◌≡◌, ◌≤◌, length, IfOk};
+ghost use Rattle.std.specs.Prelude.{◌≡◌, ◌≤◌, length, IfErr, IfOk};
 ghost use Rattle.desk_files.specs.Outside.{Told};
-ghost use Rattle.replay_cli.specs.Decision.{LegalIn, LegalOf, OpenedIn, SessionOf};
-ghost use Rattle.replay_cli.specs.Done.{legal_of};
-ghost use Rattle.replay_cli.specs.Replay.{IsLegalFrom};
+ghost use Rattle.replay_job.specs.Job.{AreKnownOf};
+ghost use Rattle.replay_cli.specs.Decision.{IsOfCapture, LegalOf, OpenedIn, ReadIn, SessionOf};
+ghost use Rattle.replay_cli.specs.Done.{legal_of, read_of};
+ghost use Rattle.replay_cli.specs.Replay.{HasMoments, IsLegalFrom};
 ghost use Rattle.replay_cli.specs.Steps.{Answers, FaultFree, Step, Reading, seen_as};
 ghost use Rattle.replay_cli.specs.Words.{session_names};
-ghost use Rattle.prepare_plan.specs.Lists.{AreListsFrom, lists_of};
+ghost use Rattle.capture_laws.specs.Sessions.{AreSessionsFrom};
+ghost use Rattle.prepare_plan.specs.Lists.{lists_of};
 ghost use Rattle.desk_schema.specs.declared.line.TheConstants.{SESSION_LIMIT};
 
 use crate::failure::{Failure, Refusal};
@@ -42,16 +44,29 @@ pub struct Legal {
     pub facts: FactList,
 }
 
-/// Reads the capture in a folder and tests it: its start file, then the files of as many sessions as that says.
-pub fn load_legal<F: Files>(alloc: Global, capture: &Txt, files: &mut F) -> Result<Legal, Failure>
+/// The files of a capture: its start, and the calls of its sessions.
+#[derive(Drop)]
+pub struct Read {
+    /// The start.
+    pub start: Start,
+    /// The calls of each session.
+    pub sessions: SessionLists,
+}
+
+/// Reads the capture in a folder: its start file, then the files of as many sessions as that says.
+pub fn read_capture<F: Files>(alloc: Global, capture: &Txt, files: &mut F) -> Result<Read, Failure>
     requires { length capture.now ≤ 900 }
-    ensures step { Step (λ map. LegalIn map capture.now) (F.content files.old) (F.content files.new) (F.faults files.old) (F.faults files.new) (seen_as legal_of result) }
-    ensures legal { IfOk result (λ legal. IsLegalFrom legal.start legal.calls.items) }
-    ensures facts { IfOk result (λ legal. length legal.facts ≤ 100000) }
+    ensures step { Step (λ map. ReadIn map capture.now) (F.content files.old) (F.content files.new) (F.faults files.old) (F.faults files.new) (seen_as read_of result) }
+    ensures count { IfOk result (λ read. length read.sessions ≤ 64) }
+    ensures lists { IfOk result (λ read. AreSessionsFrom 0 (lists_of read.sessions)) }
+    ensures kind { IfErr result IsOfCapture }
 {
     let opened = open(alloc, capture, files)?;
     let sessions = load_sessions(alloc, capture, &opened, files)?;
-    test(alloc, opened.file.start, &sessions)
+    Ok(Read {
+        start: opened.file.start,
+        sessions,
+    })
 }
 
 /// The start file of a capture.
@@ -59,6 +74,7 @@ fn open<F: Files>(alloc: Global, capture: &Txt, files: &mut F) -> Result<Opened,
     requires { length capture.now ≤ 900 }
     ensures step { Step (λ map. OpenedIn map capture.now) (F.content files.old) (F.content files.new) (F.faults files.old) (F.faults files.new) result }
     ensures sessions { IfOk result (λ opened. opened.file.sessions ≤ SESSION_LIMIT) }
+    ensures kind { IfErr result IsOfCapture }
 {
     let name = name_in(alloc, capture, "/start.cap")?;
     let bytes = read_file(&name, ROOM, files)?;
@@ -80,24 +96,28 @@ fn load_sessions<F: Files>(
     requires sessions { opened.now.file.sessions ≤ SESSION_LIMIT }
     ensures step { Step (λ map. Reading SessionOf map opened.now.left 0 (session_names capture.now opened.now.file.sessions)) (F.content files.old) (F.content files.new) (F.faults files.old) (F.faults files.new) (seen_as lists_of result) }
     ensures count { IfOk result (λ sessions. length sessions ≤ 64) }
-    ensures lists { IfOk result (λ sessions. AreListsFrom 0 (lists_of sessions)) }
+    ensures lists { IfOk result (λ sessions. AreSessionsFrom 0 (lists_of sessions)) }
+    ensures kind { IfErr result IsOfCapture }
 {
     let names = session_names(alloc, capture, opened.file.sessions)?;
     read_sessions(alloc, names.as_slice(), opened.left, files)
 }
 
 /// Tests whether the start and the calls of the sessions are a legal capture.
-fn test(alloc: Global, start: Start, sessions: &SessionLists) -> Result<Legal, Failure>
-    requires count { length sessions.now ≤ 64 }
-    requires lists { AreListsFrom 0 (lists_of sessions.now) }
-    ensures says { Answers (LegalOf start (lists_of sessions.now)) (seen_as legal_of result) }
+pub fn test(alloc: Global, read: Read) -> Result<Legal, Failure>
+    requires count { length read.sessions ≤ 64 }
+    requires lists { AreSessionsFrom 0 (lists_of read.sessions) }
+    ensures says { Answers (LegalOf read.start (lists_of read.sessions)) (seen_as legal_of result) }
     ensures free { FaultFree result }
     ensures legal { IfOk result (λ legal. IsLegalFrom legal.start legal.calls.items) }
+    ensures known { IfOk result (λ legal. AreKnownOf legal.calls.items legal.facts) }
+    ensures moments { IfOk result (λ legal. HasMoments legal.calls.items) }
     ensures facts { IfOk result (λ legal. length legal.facts ≤ 100000) }
+    ensures kind { IfErr result IsOfCapture }
 {
-    match prepare(alloc, &start, sessions) {
+    match prepare(alloc, &read.start, &read.sessions) {
         Ok(prepared) => Ok(Legal {
-            start,
+            start: read.start,
             calls: prepared.calls,
             facts: prepared.facts,
         }),

@@ -23,6 +23,8 @@ pub enum Refusal {
     TooLong(Txt),
     /// The file of this name has this first line that may not stand there.
     BadLine(Txt, u64),
+    /// The remap file's record of this number, from 1, is refused.
+    BadRemap(u64),
     /// The capture is not legal.
     NotLegal(Illegal),
 }
@@ -57,6 +59,7 @@ impl Refusal {
             Refusal::Missing(_) => 4,
             Refusal::TooLong(_) => 8,
             Refusal::BadLine(_, _) => 3,
+            Refusal::BadRemap(_) => 7,
             Refusal::NotLegal(_) => 3,
         }
     }
@@ -69,6 +72,7 @@ impl Refusal {
             Refusal::Missing(name) => line_of(alloc, "missing: ", name.as_str()),
             Refusal::TooLong(name) => line_of(alloc, "too long: ", name.as_str()),
             Refusal::BadLine(name, line) => bad_line(alloc, name, *line),
+            Refusal::BadRemap(row) => bad_row(alloc, *row),
             Refusal::NotLegal(cause) => illegal_line(alloc, cause),
         }
     }
@@ -119,6 +123,16 @@ fn bad_line(alloc: Global, name: &Txt, number: u64) -> Result<Bytes, Memory>
     line.append(name.as_str().as_bytes())?;
     line.append(b" line ")?;
     append_u64(number, &mut line)?;
+    line.append(b"\n")?;
+    Ok(line)
+}
+
+fn bad_row(alloc: Global, row: u64) -> Result<Bytes, Memory>
+    ensures { IfOk result (λ line. line ≡ refusal_line (Refusal.BadRemap row)) }
+{
+    let mut line = List::new(alloc);
+    line.append(b"bad remap: row ")?;
+    append_u64(row, &mut line)?;
     line.append(b"\n")?;
     Ok(line)
 }

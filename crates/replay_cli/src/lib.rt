@@ -7,21 +7,21 @@
 mod arguments;
 mod capture;
 mod failure;
-mod job;
 pub mod laws;
 mod main_call;
+mod options;
 mod plan;
 mod reading;
 mod replay;
 mod running;
-mod texts;
 mod words;
+mod work;
 
 pub use arguments::{arguments_of, word_of};
-pub use capture::{Legal, Opened};
+pub use capture::{Legal, Opened, Read};
 pub use failure::{Failure, Refusal};
-pub use job::Job;
 pub use main_call::{replay_main, report_want_of_memory};
+pub use options::{Options, Ways};
 pub use plan::Plan;
-pub use texts::{journal_text, report_text, tables_text};
 pub use words::Command;
+pub use work::Work;

@@ -19,20 +19,25 @@ use std::alloc::Global;
 ///
 /// | words | what they do | line |
 /// |---|---|---|
-/// | `run CAPTURE OUT` | replay the capture in the folder CAPTURE in the captured order, and write `journal.txt`, `report.txt` and `tables.txt` into OUT | `replayed N calls, 0 divergent` |
+/// | `run CAPTURE OUT` | replay the capture in the folder CAPTURE, and write `journal.txt`, `report.txt`, `report.csv`, `tables.txt` and `maps.csv` into OUT | `replayed N calls, D divergent` |
 /// | `prepare CAPTURE OUT` | test the capture, and write into OUT as `requires.csv` which calls wait for which | `prepared N calls` |
 /// | `generate N OUT` | write a capture of N calls into OUT | `generated N calls` |
 /// | `trial N` | make that capture and replay it without pauses | `trial N: N calls, 0 divergent, K commits` |
 ///
+/// Behind `run CAPTURE OUT` there may stand `--mode off`, `scn`, `object` or `order`, `--think P`, `--connect P` and `--remap FILE`,
+/// in any order, each at most once.
+///
 /// | status | where | line |
 /// |---|---|---|
-/// | 0 | the work is done | the command's own |
+/// | 0 | the work is done, and no call differs | the command's own |
+/// | 1 | `run` found calls that differ | its own |
 /// | 2 | the words are no command | `bad command` |
 /// | 3 | a file of the capture has a bad line | `bad capture: NAME line L` |
 /// | 3 | the capture is not legal | `bad capture: ` and what is wrong |
 /// | 4 | there is no such file | `missing: NAME` |
 /// | 5 | `files` or `out` failed | `device fault` |
 /// | 6 | want of memory, where no file failed | `out of memory` |
+/// | 7 | the remap file's record N is bad, or repeats a service | `bad remap: row N` |
 /// | 8 | a file is too long, or all of the capture are together | `too long: NAME` |
 ///
 /// What the words and the files come to is their verdict, of which there is at most one: `ends` says that the call ends as some
@@ -59,7 +64,7 @@ fn report<S: Sink>(alloc: Global, done: &Result<Plan, Failure>, out: &mut S) -> 
     ensures count { S.faults out.old ≤ S.faults out.new }
 {
     match done {
-        Ok(plan) => print(plan.line.as_slice(), 0, out),
+        Ok(plan) => print(plan.line.as_slice(), plan.status(), out),
         Err(failure) => report_failure(alloc, failure, out),
     }
 }

@@ -1,23 +1,25 @@
-//! What a job comes to: its files and its line.
+//! What a command's work comes to: its files and its line.
 
 ghost use Rattle.std.specs.Prelude.{◌≡◌, ◌++◌, ◌∷◌, [], ◌≤◌, List as Sequence, length, IfOk, OnOk};
 ghost use Rattle.desk_values.specs.declared.value.Image.{Image};
 ghost use Rattle.desk_values.specs.declared.capture.Event.{Event};
 ghost use Rattle.capture_format.specs.StartFile.{start_text};
 ghost use Rattle.replay_history.specs.Capture.{commits};
-ghost use Rattle.capture_recorder.specs.Sessions.{AreSessions};
+ghost use Rattle.capture_laws.specs.Sessions.{AreSessionsFrom};
 ghost use Rattle.prepare_plan.specs.Lists.{lists_of};
 ghost use Rattle.replay_cli.specs.Command.{IsCallCount};
 ghost use Rattle.replay_cli.specs.Decision.{ToMake, ToReplay, ToTell, ToTry};
-ghost use Rattle.replay_cli.specs.Done.{IsDone, IsJob, all_commits, made_calls, made_lists, made_start, replayed_files, session_files, task_of};
-ghost use Rattle.replay_cli.specs.Lines.{counted, counted_line, generated_line, trial_line};
-ghost use Rattle.replay_cli.specs.Replay.{IsLegalFrom, IsReplay};
+ghost use Rattle.replay_cli.specs.Done.{IsDone, IsQuiet, IsTried, IsWork, all_commits, made_calls, made_lists, made_start, replayed_files, session_files, task_of};
+ghost use Rattle.replay_cli.specs.Lines.{counted, counted_line, done_status, generated_line, replayed_line, trial_line};
+ghost use Rattle.replay_job.specs.Job.{seen};
+ghost use Rattle.replay_job.specs.Replays.{IsReplay, IsSoundJob};
+ghost use Rattle.replay_report.specs.Report.{report_in};
+ghost use Rattle.replay_cli.specs.Replay.{HasMoments, IsLegalFrom};
 ghost use Rattle.replay_cli.specs.Words.{start_name};
 
-use crate::job::Job;
-use crate::replay::{Replayed, replay};
-use crate::texts::{journal_text, report_text, tables_text};
+use crate::replay::{replay, trial_of};
 use crate::words::{name_in, session_name};
+use crate::work::Work;
 use capture_format::{write_session, write_start};
 use capture_recorder::{Recorder, generate, sessions_of};
 use desk_files::Write;
@@ -25,66 +27,114 @@ use desk_schema::Start;
 use desk_values::fields::append_u64;
 use desk_values::{Bytes, CallList, Captured, List, Memory, Outcome, SessionLists, Txt};
 use object_depends::{FactList, requires_csv};
-use replay_history::{Mode, Report};
+use replay_core::Desk;
+use replay_history::Report;
+use replay_job::Job;
+use replay_report::{journal_text, report_csv, report_of, report_text, tables_text};
 use std::alloc::Global;
 
-/// What a job comes to.
+/// What a command's work comes to.
 #[derive(Drop)]
 pub struct Plan {
     /// The line that is printed.
     pub line: Bytes,
+    /// Whether a replay found calls that differ.
+    pub differs: bool,
     /// The files that are written, one after the other.
     pub writes: List<Write>,
+}
+
+impl Plan {
+    /// The status that the program ends with.
+    pub fn status(&self) -> u8
+        ensures { result ≡ done_status self.now.differs }
+    {
+        if self.differs { 1 } else { 0 }
+    }
 }
 
 /// How many sessions the generated capture has.
 const GENERATED_SESSIONS: u32 = 4;
 
-/// What the job comes to.
-pub fn plan_of(alloc: Global, job: &Job) -> Result<Plan, Memory>
-    requires { IsJob job.now }
-    ensures { IfOk result (λ plan. IsDone (task_of job.now) plan) }
+/// What the work comes to.
+pub fn plan_of(alloc: Global, work: Work) -> Result<Plan, Memory>
+    requires { IsWork work }
+    ensures { IfOk result (λ plan. IsDone (task_of work) plan) }
 {
-    match job {
-        Job::Replaying(out, start, calls) => replaying(alloc, out, start, calls),
-        Job::Telling(out, facts) => telling(alloc, out, facts),
-        Job::Making(calls, out) => making(alloc, *calls, out),
-        Job::Trying(calls) => trying(alloc, *calls),
+    match work {
+        Work::Replaying(out, job) => replaying(alloc, &out, job),
+        Work::Telling(out, facts) => telling(alloc, &out, &facts),
+        Work::Making(calls, out) => making(alloc, calls, &out),
+        Work::Trying(calls) => trying(alloc, calls),
     }
 }
 
-/// A replay with whole pauses.
-fn replaying(alloc: Global, out: &Txt, start: &Start, calls: &CallList) -> Result<Plan, Memory>
+/// A replay, with its report.
+fn replaying(alloc: Global, out: &Txt, job: Job) -> Result<Plan, Memory>
     requires out { length out.now ≤ 900 }
-    requires legal { IsLegalFrom start.now calls.now.items }
-    ensures { IfOk result (λ plan. IsDone (ToReplay out.now start.now calls.now.items) plan) }
+    requires job { IsSoundJob (seen job) }
+    ensures { IfOk result (λ plan. IsDone (ToReplay out.now (seen job)) plan) }
 {
-    let count = calls.len() as u64;
-    let replayed = replay(alloc, start, calls.as_slice(), 100)?;
+    let desk = replay(alloc, job)?;
+    reported(alloc, out, &desk)
+}
+
+/// What is told of a replay.
+fn reported(alloc: Global, out: &Txt, desk: &Desk) -> Result<Plan, Memory>
+    requires out { length out.now ≤ 900 }
+    requires replay { IsReplay desk.now.job desk.now.history desk.now.stage }
+    ensures { IfOk result (λ plan. IsDone (ToReplay out.now desk.now.job) plan) }
+{
+    let report = report_on(alloc, desk)?;
+    let divergent = report.lines.len() as u64;
+    let line = replayed_line(alloc, call_count(desk), divergent)?;
+    let writes = replayed_files(alloc, out, desk, &report)?;
     Ok(Plan {
-        line: counted_line(alloc, "replayed ", count, " calls, 0 divergent\n")?,
-        writes: replayed_files(alloc, out, count, &replayed)?,
+        line,
+        differs: divergent > 0,
+        writes,
     })
 }
 
-/// What is written of a replay in which every call was answered as it was captured.
+/// The report on a replay.
+fn report_on(alloc: Global, desk: &Desk) -> Result<Report, Memory>
+    requires replay { IsReplay desk.now.job desk.now.history desk.now.stage }
+    ensures { IfOk result (λ report. report ≡ report_in desk.now.job desk.now.history) }
+{
+    report_of(alloc, desk.job(), desk.history())
+}
+
+/// How many calls were replayed.
+fn call_count(desk: &Desk) -> u64
+    ensures { result ≡ length desk.now.job.calls }
+{
+    desk.job().calls.len() as u64
+}
+
+/// What is written of a replay.
 fn replayed_files(
     alloc: Global,
     out: &Txt,
-    calls: u64,
-    replayed: &Replayed,
+    desk: &Desk,
+    report: &Report,
 ) -> Result<List<Write>, Memory>
-    requires { length out.now ≤ 900 }
-    ensures { IfOk result (λ writes. writes ≡ replayed_files out.now calls replayed.now.history.items replayed.now.tables) }
+    requires out { length out.now ≤ 900 }
+    requires report { report.now ≡ report_in desk.now.job desk.now.history }
+    requires replay { IsReplay desk.now.job desk.now.history desk.now.stage }
+    ensures { IfOk result (λ writes. writes ≡ replayed_files out.now desk.now.job desk.now.history desk.now.stage) }
 {
-    let report = Report::clean(alloc, calls);
-    let journal = journal_text(alloc, Mode::Order, &replayed.history)?;
-    let report = report_text(alloc, &report)?;
-    let tables = tables_text(alloc, &replayed.tables)?;
+    let (job, history) = (desk.job(), desk.history());
+    let journal = journal_text(alloc, job.mode, history)?;
+    let text = report_text(alloc, report)?;
+    let table = report_csv(alloc, job, history, report)?;
+    let tables = tables_text(alloc, &desk.tables()?)?;
+    let maps = desk.map().maps_csv()?;
     let mut writes = List::new(alloc);
     writes.push(write_in(alloc, out, "/journal.txt", journal)?)?;
-    writes.push(write_in(alloc, out, "/report.txt", report)?)?;
+    writes.push(write_in(alloc, out, "/report.txt", text)?)?;
+    writes.push(write_in(alloc, out, "/report.csv", table)?)?;
     writes.push(write_in(alloc, out, "/tables.txt", tables)?)?;
+    writes.push(write_in(alloc, out, "/maps.csv", maps)?)?;
     Ok(writes)
 }
 
@@ -109,6 +159,7 @@ fn telling(alloc: Global, out: &Txt, facts: &FactList) -> Result<Plan, Memory>
     writes.push(write_in(alloc, out, "/requires.csv", text)?)?;
     Ok(Plan {
         line: counted_line(alloc, "prepared ", facts.len() as u64, " calls\n")?,
+        differs: false,
         writes,
     })
 }
@@ -134,8 +185,9 @@ fn written(
 ) -> Result<Plan, Memory>
     requires out { length out.now ≤ 900 }
     requires count { length lists.now ≤ 64 }
-    requires lists { AreSessions 0 (lists_of lists.now) }
+    requires lists { AreSessionsFrom 0 (lists_of lists.now) }
     ensures line { IfOk result (λ plan. plan.line ≡ generated_line n) }
+    ensures quiet { IfOk result IsQuiet }
     ensures writes { IfOk result (λ plan. plan.writes ≡ session_files out.now 0 (lists_of lists.now) ++ record { name = start_name out.now; bytes = start_text start.now 4 } ∷ []) }
 {
     let mut writes = session_writes(alloc, out, lists)?;
@@ -143,6 +195,7 @@ fn written(
     writes.push(write_in(alloc, out, "/start.cap", start)?)?;
     Ok(Plan {
         line: counted_line(alloc, "generated ", u64::from(n), " calls\n")?,
+        differs: false,
         writes,
     })
 }
@@ -160,7 +213,7 @@ fn make(alloc: Global, calls: u32) -> Result<Recorder, Memory>
 fn lists_of(alloc: Global, calls: u32, recorder: &Recorder) -> Result<SessionLists, Memory>
     requires { recorder.now.calls ≡ made_calls calls }
     ensures lists { IfOk result (λ lists. lists_of lists ≡ made_lists calls) }
-    ensures files { IfOk result (λ lists. AreSessions 0 (lists_of lists)) }
+    ensures files { IfOk result (λ lists. AreSessionsFrom 0 (lists_of lists)) }
     ensures count { IfOk result (λ lists. length lists ≤ 64) }
 {
     sessions_of(alloc, recorder.calls(), GENERATED_SESSIONS)
@@ -170,7 +223,7 @@ fn lists_of(alloc: Global, calls: u32, recorder: &Recorder) -> Result<SessionLis
 fn session_writes(alloc: Global, out: &Txt, lists: &[CallList]) -> Result<List<Write>, Memory>
     requires out { length out.now ≤ 900 }
     requires count { length lists.now ≤ 64 }
-    requires lists { AreSessions 0 (lists_of lists.now) }
+    requires lists { AreSessionsFrom 0 (lists_of lists.now) }
     ensures { IfOk result (λ writes. writes ≡ session_files out.now 0 (lists_of lists.now)) }
 {
     let mut writes = List::new(alloc);
@@ -190,19 +243,23 @@ fn trying(alloc: Global, calls: u32) -> Result<Plan, Memory>
     ensures { IfOk result (λ plan. IsDone (ToTry calls) plan) }
 {
     let recorder = make(alloc, calls)?;
-    tried(alloc, calls, recorder.start(), recorder.calls().as_slice())
+    tried(alloc, calls, recorder.start(), recorder.calls())
 }
 
 /// A replay of these calls without pauses.
-fn tried(alloc: Global, n: u32, start: &Start, calls: &[Captured]) -> Result<Plan, Memory>
-    requires { IsLegalFrom start.now calls.now }
-    ensures line { IfOk result (λ plan. plan.line ≡ trial_line n (length calls.now) (all_commits calls.now)) }
-    ensures replay { IfOk result (λ plan. (history : Sequence Event) × (tables : Sequence Image) × IsReplay start.now calls.now 0 history tables) }
+fn tried(alloc: Global, n: u32, start: &Start, calls: &CallList) -> Result<Plan, Memory>
+    requires legal { IsLegalFrom start.now calls.now.items }
+    requires moments { HasMoments calls.now.items }
+    ensures line { IfOk result (λ plan. plan.line ≡ trial_line n (length calls.now.items) (all_commits calls.now.items)) }
+    ensures replay { IfOk result (λ plan. IsTried start.now calls.now.items) }
+    ensures quiet { IfOk result IsQuiet }
     ensures writes { IfOk result (λ plan. plan.writes ≡ []) }
 {
-    replay(alloc, start, calls, 0)?;
+    let job = trial_of(alloc, start, calls)?;
+    replay(alloc, job)?;
     Ok(Plan {
-        line: trial_line(alloc, n, calls.len() as u64, commits_of(calls))?,
+        line: trial_line(alloc, n, calls.len() as u64, commits_of(calls.as_slice()))?,
+        differs: false,
         writes: List::new(alloc),
     })
 }
@@ -228,6 +285,17 @@ fn commits(outcome: &Outcome) -> bool
         Outcome::Committed(images) => !images.is_empty(),
         _ => false,
     }
+}
+
+/// How many calls were replayed, and how many of them differ.
+fn replayed_line(alloc: Global, calls: u64, divergent: u64) -> Result<Bytes, Memory>
+    ensures { IfOk result (λ line. line ≡ replayed_line calls divergent) }
+{
+    let mut line = List::new(alloc);
+    line.append(b"replayed ")?;
+    append_counted(calls, " calls, ", &mut line)?;
+    append_counted(divergent, " divergent\n", &mut line)?;
+    Ok(line)
 }
 
 /// A word, how many calls, and what is said of them.

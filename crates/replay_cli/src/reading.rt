@@ -1,21 +1,25 @@
 //! Reading the files of a command, one after the other.
 
-ghost use Rattle.std.specs.Prelude.{◌≡◌, ◌≤◌, length, IfOk};
+ghost use Rattle.std.specs.Prelude.{◌≡◌, ◌≤◌, length, IfErr, IfOk, IsSome};
 ghost use Rattle.desk_files.specs.Outside.{Told};
-ghost use Rattle.prepare_plan.specs.Lists.{AreListsFrom, lists_of};
-ghost use Rattle.replay_cli.specs.Decision.{SessionOf, StartOf};
+ghost use Rattle.capture_laws.specs.Sessions.{AreSessionsFrom};
+ghost use Rattle.prepare_plan.specs.Lists.{lists_of};
+ghost use Rattle.remap_ids.specs.Services.{services_of};
+ghost use Rattle.replay_cli.specs.Decision.{IsOfCapture, RemapIn, SessionOf, StartOf, remap_of};
 ghost use Rattle.replay_cli.specs.Steps.{Answers, FaultFree, Is, Reading, Step, file_in, seen_as};
 
 use crate::failure::{Failure, Refusal};
 use capture_format::{FormErr, StartFile, read_session, read_start};
-use desk_files::{FileErr, Files};
+use desk_files::{FILE_LIMIT, FileErr, Files};
 use desk_values::{Bytes, CallList, Copied, List, SessionLists, Txt};
+use remap_ids::{Remap, RemapErr};
 use std::alloc::Global;
 
 /// The bytes of a file, of which at most `room` are taken.
 pub fn read_file<F: Files>(name: &Txt, room: usize, files: &mut F) -> Result<Bytes, Failure>
     ensures step { Step (λ map. Is (file_in map room name.now)) (F.content files.old) (F.content files.new) (F.faults files.old) (F.faults files.new) result }
     ensures room { IfOk result (λ bytes. length bytes ≤ room) }
+    ensures kind { IfErr result IsOfCapture }
 {
     match files.read(name) {
         Ok(bytes) if bytes.len() <= room => Ok(bytes),
@@ -31,6 +35,7 @@ pub fn read_file<F: Files>(name: &Txt, room: usize, files: &mut F) -> Result<Byt
 pub fn parse_start(alloc: Global, name: &Txt, bytes: &Bytes) -> Result<StartFile, Failure>
     ensures says { Answers (StartOf name.now bytes.now) result }
     ensures free { FaultFree result }
+    ensures kind { IfErr result IsOfCapture }
 {
     match read_start(alloc, bytes.as_slice()) {
         Ok(file) => Ok(file),
@@ -48,11 +53,42 @@ pub fn parse_session(
 ) -> Result<CallList, Failure>
     ensures says { Answers (SessionOf session name.now bytes.now) (seen_as (λ calls. calls.items) result) }
     ensures free { FaultFree result }
+    ensures kind { IfErr result IsOfCapture }
 {
     match read_session(alloc, bytes.as_slice(), session) {
         Ok(calls) => Ok(calls),
         Err(FormErr::Bad { line }) => Err(Failure::Refused(Refusal::BadLine(name.copy()?, line))),
         Err(FormErr::Memory) => Err(Failure::OutOfMemory),
+    }
+}
+
+/// What the file of this name says that services are sent as; nothing where none is named.
+pub fn read_remap<F: Files>(
+    alloc: Global,
+    name: &Option<Txt>,
+    files: &mut F,
+) -> Result<Remap, Failure>
+    ensures step { Step (λ map. RemapIn map name.now) (F.content files.old) (F.content files.new) (F.faults files.old) (F.faults files.new) result }
+    ensures named { IfErr result (λ _. IsSome name.now) }
+{
+    match name {
+        Some(name) => {
+            let bytes = read_file(name, FILE_LIMIT, files)?;
+            parse_remap(alloc, &bytes)
+        }
+        None => Ok(Remap::none(alloc)),
+    }
+}
+
+fn parse_remap(alloc: Global, bytes: &Bytes) -> Result<Remap, Failure>
+    ensures says { Answers (Is (remap_of (services_of bytes.now))) result }
+    ensures free { FaultFree result }
+{
+    match Remap::read(alloc, bytes.as_slice()) {
+        Ok(remap) => Ok(remap),
+        Err(RemapErr::BadRow { n }) => Err(Failure::Refused(Refusal::BadRemap(n))),
+        Err(RemapErr::TwiceFrom { n }) => Err(Failure::Refused(Refusal::BadRemap(n))),
+        Err(RemapErr::Memory) => Err(Failure::OutOfMemory),
     }
 }
 
@@ -67,7 +103,8 @@ pub fn read_sessions<F: Files>(
     requires { length names.now ≤ 64 }
     ensures step { Step (λ map. Reading SessionOf map room 0 names.now) (F.content files.old) (F.content files.new) (F.faults files.old) (F.faults files.new) (seen_as lists_of result) }
     ensures count { IfOk result (λ sessions. length sessions ≡ length names.now) }
-    ensures lists { IfOk result (λ sessions. AreListsFrom 0 (lists_of sessions)) }
+    ensures lists { IfOk result (λ sessions. AreSessionsFrom 0 (lists_of sessions)) }
+    ensures kind { IfErr result IsOfCapture }
 {
     let mut sessions = List::new(alloc);
     let mut left = room;

@@ -1,87 +1,73 @@
-//! The replay of a capture, in the order in which its calls were captured.
+//! The replay of a job, call after call.
 
-ghost use Rattle.std.specs.Prelude.{◌≡◌, ◌<◌, ◌≤◌, ◌+◌, ◌-◌, ◌∷◌, ◌++◌, ◌==◌, if◌then◌else◌, [], IfOk, OnOk};
-ghost use Rattle.desk_values.specs.declared.capture.Event.TheVariants.{Start as StartEvent, Answer as AnswerEvent};
-ghost use Rattle.machine_model.specs.Step.{reply_in, step};
-ghost use Rattle.replay_history.specs.Gap.{pause_of};
-ghost use Rattle.replay_cli.specs.Replay.{IsLegalFrom, IsReplay};
+ghost use Rattle.std.specs.Prelude.{◌≡◌, IfOk, map, [], ◌≤◌, length};
+ghost use Rattle.replay_job.specs.Job.{seen};
+ghost use Rattle.replay_job.specs.Replays.{IsReplay, IsSoundJob};
+ghost use Rattle.replay_cli.specs.Replay.{HasMoments, IsLegalFrom, IsTrial, plain_fact};
 
 use desk_schema::Start;
-use desk_values::{Captured, Event, History, Images, Memory};
+use desk_values::{CallList, Captured, Copied, List, Memory};
+use object_depends::{Fact, FactList, Mode};
+use remap_ids::Remap;
+use replay_core::Desk;
+use replay_job::Job;
 use std::alloc::Global;
-use txn_engine::Engine;
 
-/// The sessions of a capture have numbers below this.
-const SESSIONS: usize = 64;
-
-/// What a replay left.
-#[derive(Drop)]
-pub struct Replayed {
-    /// Its events.
-    pub history: History,
-    /// The committed rows of all tables at its end.
-    pub tables: Images,
-}
-
-/// Starts and answers each call, one after the other, on an engine that begins with this start. So many hundredths of the
-/// gap before a call are its pause.
-pub fn replay(
-    alloc: Global,
-    start: &Start,
-    calls: &[Captured],
-    percent: u32,
-) -> Result<Replayed, Memory>
-    requires legal { IsLegalFrom start.now calls.now }
-    requires percent { percent ≤ 100 }
-    ensures { IfOk result (λ replayed. IsReplay start.now calls.now percent replayed.history.items replayed.tables) }
+/// Starts and answers the first call that is not answered, as often as there are calls.
+pub fn replay(alloc: Global, job: Job) -> Result<Desk, Memory>
+    requires { IsSoundJob (seen job) }
+    ensures job { IfOk result (λ desk. desk.job ≡ seen job) }
+    ensures replay { IfOk result (λ desk. IsReplay desk.job desk.history desk.stage) }
 {
-    let mut engine = Engine::load(alloc, start)?;
-    let mut history = History::new(alloc);
-    let mut ended = [0; SESSIONS];
-    for (k, call) in calls.iter().enumerate() {
-        let session = call.session as usize;
-        let pause = pause_of(gap_of(call, ended[session]), percent);
-        replay_call(&mut engine, &mut history, k as u32, call, pause)?;
-        ended[session] = call.ended;
+    let count = job.calls.len();
+    let mut desk = Desk::setup(alloc, job)?;
+    for _turn in 0..count {
+        if let Some(k) = desk.first_open() {
+            desk.start(k);
+            desk.answer(k)?;
+        }
     }
-    let tables = engine.tables()?;
-    Ok(Replayed { history, tables })
+    desk.history_is_kept();
+    Ok(desk)
 }
 
-/// The time from the capture's start to the first call of a session; else from the end of the call before.
-fn gap_of(call: &Captured, ended: u64) -> u64
-    ensures { result ≡ (if call.now.place == 0 then call.now.began else (call.now.began - ended)) }
+/// The job of replaying a capture as it is, in its order and without pauses.
+pub fn trial_of(alloc: Global, start: &Start, calls: &CallList) -> Result<Job, Memory>
+    requires legal { IsLegalFrom start.now calls.now.items }
+    requires moments { HasMoments calls.now.items }
+    ensures trial { IfOk result (λ job. IsTrial start.now calls.now.items (seen job)) }
+    ensures sound { IfOk result (λ job. IsSoundJob (seen job)) }
 {
-    if call.place == 0 {
-        call.began
-    } else {
-        call.began.saturating_sub(ended)
+    let _ = start.schema();
+    let begins = start.copy()?;
+    let target = start.copy()?;
+    let copies = calls.copy()?;
+    let facts = plain_facts(alloc, calls.as_slice())?;
+    Ok(Job {
+        start: begins,
+        target,
+        calls: copies,
+        facts,
+        remap: Remap::none(alloc),
+        mode: Mode::Order,
+        think: 0,
+        connect: 0,
+    })
+}
+
+/// What a replay in the captured order has to know of the calls. Which tables they speak of is not asked.
+fn plain_facts(alloc: Global, calls: &[Captured]) -> Result<FactList, Memory>
+    ensures { IfOk result (λ facts. facts ≡ map plain_fact calls.now) }
+{
+    let mut facts = List::new(alloc);
+    for call in calls {
+        facts.push(Fact {
+            session: call.session,
+            seen: call.seen,
+            number: call.number,
+            refs: 0,
+            writes: 0,
+        })?;
     }
-}
-
-/// So many hundredths of a gap, rounded down.
-fn pause_of(gap: u64, percent: u32) -> u64
-    requires { percent ≤ 100 }
-    ensures { result ≡ pause_of gap percent }
-{
-    (u128::from(gap) * u128::from(percent) / 100) as u64
-}
-
-/// Starts a call with this pause, executes it and notes its reply.
-fn replay_call(
-    engine: &mut Engine,
-    history: &mut History,
-    stamp: u32,
-    call: &Captured,
-    pause: u64,
-) -> Result<(), Memory>
-    requires session { call.now.session < 64 }
-    requires steps { engine.old.steps < 1048576 }
-    ensures state { OnOk result (engine.new.state ≡ step engine.old.state call.now.session call.now.call) }
-    ensures steps { OnOk result (engine.new.steps ≡ engine.old.steps + 1) }
-    ensures events { OnOk result (history.new.items ≡ history.old.items ++ StartEvent stamp pause ∷ AnswerEvent stamp (reply_in engine.old.state call.now.session call.now.call) ∷ []) }
-{
-    history.push(Event::Start(stamp, pause))?;
-    let reply = engine.step(call.session, &call.call)?;
-    history.push(Event::Answer(stamp, reply))
+    Ok(facts)
 }

@@ -7,9 +7,9 @@ ghost use Rattle.replay_cli.specs.Decision.{Verdict};
 ghost use Rattle.replay_cli.specs.Ending.{MayComeTo, RunFaults, RunSays};
 
 use crate::failure::Failure;
-use crate::job::decide;
 use crate::plan::{Plan, plan_of};
 use crate::words::command_of;
+use crate::work::decide;
 use desk_files::{Files, WriteErr, write_all};
 use desk_values::Txt;
 use std::alloc::Global;
@@ -25,8 +25,8 @@ pub fn run<F: Files>(alloc: Global, words: &[Txt], files: &mut F) -> Result<Plan
     let Some(command) = command_of(words)? else {
         return Err(Failure::BadCommand);
     };
-    let job = decide(alloc, command, files)?;
-    let plan = plan_of(alloc, &job)?;
+    let work = decide(alloc, command, files)?;
+    let plan = plan_of(alloc, work)?;
     match write_all(plan.writes.as_slice(), files) {
         Ok(()) => Ok(plan),
         Err(WriteErr::Failed) => Err(Failure::DeviceFault),

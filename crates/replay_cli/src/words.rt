@@ -1,10 +1,15 @@
 //! The words of a command, and the names of its files.
 
 ghost use Rattle.std.specs.Prelude.{◌≡◌, ◌≤◌, ◌<◌, ◌++◌, length, IfOk, IfSome};
+ghost use Rattle.std.specs.Option.{option_map};
+ghost use Rattle.replay_cli.specs.declared.words.Command.TheVariants.{Run as TheRun};
 ghost use Rattle.replay_cli.specs.Command as command;
 ghost use Rattle.replay_cli.specs.Command.{IsCallCount, IsWithinLimits};
+ghost use Rattle.replay_cli.specs.Options.{ways_of};
+ghost use Rattle.replay_cli.specs.Path.{is_path};
 ghost use Rattle.replay_cli.specs.Words as name;
 
+use crate::options::{Ways, ways_of};
 use desk_values::fields::read_u64;
 use desk_values::{Bytes, Copied, List, Memory, Txt, TxtErr};
 use std::alloc::Global;
@@ -18,8 +23,8 @@ const GENERATED_LIMIT: u64 = 10_000;
 /// A command.
 #[derive(Drop)]
 pub enum Command {
-    /// `run CAPTURE OUT`: replays a capture.
-    Run(Txt, Txt),
+    /// `run CAPTURE OUT` with options: replays a capture.
+    Run(Txt, Txt, Ways),
     /// `prepare CAPTURE OUT`: writes which calls wait for which.
     Prepare(Txt, Txt),
     /// `generate N OUT`: writes a capture of so many calls.
@@ -61,10 +66,22 @@ fn run_of(words: &[Txt]) -> Result<Option<Command>, Memory>
     ensures limits { IfOk result (λ found. IfSome found IsWithinLimits) }
 {
     match words {
-        [capture, out] if is_path(capture) && is_path(out) => {
-            Ok(Some(Command::Run(capture.copy()?, out.copy()?)))
+        [capture, out, options @ ..] if is_path(capture) && is_path(out) => {
+            run_with(capture, out, options)
         }
         _ => Ok(None),
+    }
+}
+
+fn run_with(capture: &Txt, out: &Txt, options: &[Txt]) -> Result<Option<Command>, Memory>
+    requires capture { length capture.now ≤ 900 }
+    requires out { length out.now ≤ 900 }
+    ensures value { IfOk result (λ found. found ≡ option_map (λ ways. TheRun capture.now out.now ways) (ways_of options.now)) }
+    ensures limits { IfOk result (λ found. IfSome found IsWithinLimits) }
+{
+    match ways_of(options)? {
+        Some(ways) => Ok(Some(Command::Run(capture.copy()?, out.copy()?, ways))),
+        None => Ok(None),
     }
 }
 
@@ -115,8 +132,8 @@ fn calls_of(word: &Txt) -> Option<u32>
 }
 
 /// Whether the word is a path: 1 to 900 bytes, of which the first is no `-`.
-fn is_path(word: &Txt) -> bool
-    ensures { result ≡ command.is_path word.now }
+pub(crate) fn is_path(word: &Txt) -> bool
+    ensures { result ≡ is_path word.now }
 {
     match word.as_str().as_bytes() {
         [first, ..] => *first != b'-' && word.as_str().len() <= PATH_LIMIT,

@@ -1,6 +1,5 @@
 pub mod Mode
 pub mod Class
-pub mod Report
 pub mod Gap
 pub mod History
 pub mod Capture

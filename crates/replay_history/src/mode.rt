@@ -2,8 +2,7 @@ use desk_values::Word;
 
 /// How a replay is synchronized: which calls must be answered before a call is taken, beside those before it in its own
 /// session. Oracle's Database Testing Guide has the modes by SCN, the number of a commit, and by object; Galanis et al.,
-/// "Oracle Database Replay", SIGMOD 2008, say why. `Off`, `Scn` and `Object` are only words so far: every
-/// replay of the desk goes by `Order`.
+/// "Oracle Database Replay", SIGMOD 2008, say why.
 #[derive(Clone, Copy, Debug, PartialEq, Eq)]
 pub enum Mode {
     /// No other calls: without synchronization.

@@ -1,8 +1,4 @@
-ghost use Rattle.std.specs.Prelude.{◌≡◌};
-ghost use Rattle.replay_history.specs.Report.{clean_report};
-
 use desk_values::{List, Word};
-use std::alloc::Global;
 
 /// How a replayed reply differs from the captured one: the first that fits, in this order but for `Same`. Oracle's
 /// Database Testing Guide parts error divergence (an error that is new, gone or mutated) from data divergence (other
@@ -99,17 +95,4 @@ pub struct Report {
     pub counts: [u64; 9],
     /// One line per call that differs, stamps rising.
     pub lines: Lines,
-}
-
-impl Report {
-    /// The report in which each of so many calls is `Same`. It takes no memory.
-    pub fn clean(alloc: Global, calls: u64) -> Report
-        ensures { result ≡ clean_report calls }
-    {
-        Report {
-            calls,
-            counts: [calls, 0, 0, 0, 0, 0, 0, 0, 0],
-            lines: List::new(alloc),
-        }
-    }
 }

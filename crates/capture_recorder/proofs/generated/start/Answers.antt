@@ -1,4 +1,4 @@
-use Rattle.capture_recorder.proofs.Accounts.{declared_whole, declaring_more}
+use Rattle.capture_recorder.proofs.Generating.{declared_whole, declaring_more}
 use Rattle.capture_recorder.proofs.generated.start.Goals as goal
 
 pub loop-k-preserved : goal.loop-k-preserved

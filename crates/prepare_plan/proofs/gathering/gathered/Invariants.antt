@@ -1,6 +1,7 @@
 use Rattle.std.proofs.Common.{◌≡◌, ◌++◌, drop}
 use Rattle.prepare_plan.specs.Inside.{shown}
-use Rattle.prepare_plan.specs.Lists.{all_calls, lists_of}
+use Rattle.capture_laws.specs.Stamps.{all_calls}
+use Rattle.prepare_plan.specs.Lists.{lists_of}
 use Rattle.prepare_plan.proofs.gathering.gathered.Given as goal
 
 abbrev pub invariant-loop-session : goal.invariant-loop-session

@@ -1,4 +1,4 @@
-use Rattle.prepare_plan.proofs.Verdicts.{plan_calls, plan_legal, plan_sound}
+use Rattle.prepare_plan.proofs.Legality.{plan_calls, plan_legal, plan_sound}
 use Rattle.prepare_plan.proofs.laws.verdict_is_legal.Goals as goal
 
 pub returns-clause-calls : goal.returns-clause-calls

@@ -1,6 +1,7 @@
 use Rattle.std.proofs.Common.{sym, ap, ◌∙◌, arith, take}
 use Rattle.prepare_plan.specs.Tests.{bad_number, commits_in}
-use Rattle.prepare_plan.proofs.Walking.{number_fails, number_passes, taken, walk_on, walk_stops}
+use Rattle.capture_laws.proofs.Scanning.{taken, walk_on, walk_stops}
+use Rattle.prepare_plan.proofs.Walking.{number_fails, number_passes}
 use Rattle.prepare_plan.proofs.recorded.judge_numbers.Goals as goal
 
 pub returns-then-call-right : goal.returns-then-call-right

@@ -3,8 +3,10 @@ use Rattle.std.specs.Prelude.{slice_index, slice_set}
 use Rattle.std.proofs.lemmas.List.{get_or-replicate}
 use Rattle.desk_values.specs.declared.capture.Captured.{Captured}
 use Rattle.prepare_plan.specs.Inside.{IsFit}
-use Rattle.prepare_plan.specs.Tests.{bad_times, ended_in}
-use Rattle.prepare_plan.proofs.Walking.{each_at, ended_after, taken, times_pass, walk_on}
+use Rattle.capture_laws.specs.Moments.{ended_in}
+use Rattle.prepare_plan.specs.Tests.{bad_times}
+use Rattle.capture_laws.proofs.Scanning.{each_at, taken, walk_on}
+use Rattle.prepare_plan.proofs.Walking.{ended_after, times_pass}
 use Rattle.prepare_plan.proofs.recorded.judge_times.Goals as goal
 
 pub loop-call-init : goal.loop-call-init

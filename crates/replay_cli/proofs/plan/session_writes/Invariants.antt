@@ -1,6 +1,6 @@
 use Rattle.std.proofs.Common.{◌≡◌, ◌++◌, drop}
 use Rattle.prepare_plan.specs.Lists.{lists_of}
-use Rattle.capture_recorder.specs.Sessions.{AreSessions}
+use Rattle.capture_laws.specs.Sessions.{AreSessionsFrom}
 use Rattle.replay_cli.specs.Done.{session_files}
 use Rattle.replay_cli.proofs.plan.session_writes.Given as goal
 
@@ -8,5 +8,5 @@ abbrev pub invariant-loop-calls : goal.invariant-loop-calls
 invariant-loop-calls l = record {
   written : l.writes ++ session_files l.out l.calls-index (lists_of (drop l.calls-index l.lists)) ≡ session_files l.out 0 (lists_of l.lists);
   session_is : l.session ≡ l.calls-index;
-  rest : AreSessions l.calls-index (lists_of (drop l.calls-index l.lists));
+  rest : AreSessionsFrom l.calls-index (lists_of (drop l.calls-index l.lists));
 }

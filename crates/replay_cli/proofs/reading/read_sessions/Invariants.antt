@@ -1,5 +1,6 @@
 use Rattle.std.proofs.Common.{◌≡◌, length}
-use Rattle.prepare_plan.specs.Lists.{AreListsFrom, lists_of}
+use Rattle.capture_laws.specs.Sessions.{AreSessionsFrom}
+use Rattle.prepare_plan.specs.Lists.{lists_of}
 use Rattle.replay_cli.specs.Decision.{SessionOf}
 use Rattle.replay_cli.proofs.StepLaws.{ReadSoFar}
 use Rattle.replay_cli.proofs.reading.read_sessions.Given as goal
@@ -9,5 +10,5 @@ invariant-loop-name g l = record {
   read : ReadSoFar SessionOf l.names l.fn.room l.left l.name-index (lists_of l.sessions) (g.F.Files.content l.fn.files) (g.F.Files.content l.files) (g.F.Files.faults l.fn.files) (g.F.Files.faults l.files);
   session_is : l.session ≡ l.name-index;
   count : length l.sessions ≡ l.name-index;
-  lists : AreListsFrom 0 (lists_of l.sessions);
+  lists : AreSessionsFrom 0 (lists_of l.sessions);
 }

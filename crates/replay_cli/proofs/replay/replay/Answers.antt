@@ -1,31 +1,19 @@
-use Rattle.std.proofs.Common.{◌≤◌, ◌∙◌, ap, length, arith}
-use Rattle.replay_history.specs.Gap.{pause_of}
-use Rattle.replay_cli.proofs.Tested.{item_at}
-use Rattle.replay_cli.proofs.Order.{Replaying-none, Replaying-more, replay_done}
+use Rattle.std.proofs.Common.{arith}
+use Rattle.replay_job.specs.Job.{seen}
+use Rattle.replay_cli.proofs.Replaying.{behind_all, behind_answered, behind_done, may_start}
+use Rattle.replay_cli.proofs.replay.replay.Goals.{in-Some+in_ok-answer, in_default}
 use Rattle.replay_cli.proofs.replay.replay.Goals as goal
 
-pub loop-k-init : goal.loop-k-init
-loop-k-init c = rw (c.in_ok-engine.ensures, c.new-history.ensures) (Replaying-none c.args.start.now c.args.calls.now c.args.percent c.requires.legal)
+pub start-requires-clause-ready : goal.start-requires-clause-ready
+start-requires-clause-ready c = may_start (seen c.args.job) c.loop-turn.desk c.loop-turn._turn c.loop-turn.invariant c.in-Some.k (rw c.in-Some.is at c.first_open.ensures.never_stuck)
 
-pub bounds-ended-session : goal.bounds-ended-session
-bounds-ended-session c = (c.requires.legal.each c.loop-k.k c.index-calls-k.result (item_at c.args.calls.now c.loop-k.k c.index-calls-k.result c.loop-k-test.true c.index-calls-k.is)).session
+pub loop-turn-preserved : goal.loop-turn-preserved
+loop-turn-preserved c =
+    let l = c.loop-turn in
+    elim c.match-first_open.branch [
+      | in-Some+in_ok-answer w ↦ rw w.desk-is (behind_answered (seen c.args.job) l.desk l._turn l.invariant w.in-Some.k w.start.result w.start.new.self w.answer.new.self (rw w.in-Some.is at c.first_open.ensures.least) w.start.ensures.appended w.in_ok-answer.ensures.ok)
+      | in_default w ↦ rw w.desk-is (behind_all (seen c.args.job) l.desk l._turn l.invariant (rw w.in_default.is at c.first_open.ensures.least) (let count = c.len-count.ensures in omega (arith, count, c.loop-turn-test.true)))
+    ]
 
-pub replay_call-requires-clause-session : goal.replay_call-requires-clause-session
-replay_call-requires-clause-session c = (c.requires.legal.each c.loop-k.k c.index-calls-k.result (item_at c.args.calls.now c.loop-k.k c.index-calls-k.result c.loop-k-test.true c.index-calls-k.is)).session
-
-pub bounds-ended-session-in-loop-k : goal.bounds-ended-session-in-loop-k
-bounds-ended-session-in-loop-k c = (c.requires.legal.each c.loop-k.k c.index-calls-k.result (item_at c.args.calls.now c.loop-k.k c.index-calls-k.result c.loop-k-test.true c.index-calls-k.is)).session
-
-pub loop-k-preserved : goal.loop-k-preserved
-loop-k-preserved c =
-    let l = c.loop-k in
-    let call = c.index-calls-k.result in
-    let at = item_at c.args.calls.now l.k call c.loop-k-test.true c.index-calls-k.is in
-    let pause = c.pause_of-pause.ensures ∙ ap (λ gap. pause_of gap c.args.percent) c.gap_of.ensures in
-    rw c.in_ok-replay_call.ensures.events (Replaying-more c.args.start.now c.args.calls.now c.args.percent c.requires.legal l.k l.engine c.replay_call.new.engine l.ended l.history.items call c.pause_of-pause.result l.invariant at pause c.in_ok-replay_call.ensures.state c.in_ok-replay_call.ensures.steps)
-
-pub returns : goal.returns
-returns c =
-    let l = c.loop-k in
-    let all : length c.args.calls.now ≤ l.k = omega (arith, c.loop-k-test.false) in
-    replay_done c.args.start.now c.args.calls.now c.args.percent c.requires.legal l.k l.engine l.ended l.history.items c.in_ok-tables.tables all l.invariant c.in_ok-tables.ensures.value
+pub returns-clause-replay : goal.returns-clause-replay
+returns-clause-replay c = behind_done (seen c.args.job) c.loop-turn.desk c.loop-turn._turn c.loop-turn.invariant c.requires c.history_is_kept.ensures (let count = c.len-count.ensures in omega (arith, count, c.loop-turn-test.false))

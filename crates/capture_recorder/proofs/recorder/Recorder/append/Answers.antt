@@ -1,6 +1,6 @@
-use Rattle.std.proofs.Common.{◌≡◌, ◌∙◌, ◌+◌, ◌<◌, ◌∷◌, ◌++◌, ◌^◌, [], List, ℕ, cond, false, length, sym, ap, subst, arith, rules}
+use Rattle.std.proofs.Common.{◌≡◌, ◌∙◌, ◌+◌, ◌<◌, ◌∷◌, ◌++◌, ◌^◌, [], List, ℕ, cond, false, length, refl, sym, ap, subst, arith, rules}
 use Rattle.std.specs.Prelude.{max}
-use Rattle.std.proofs.lemmas.Option.{get_or_from_slice_get}
+use Rattle.desk_values.specs.declared.call.Call.{Call}
 use Rattle.desk_values.specs.declared.call.Reply.{Reply}
 use Rattle.desk_values.specs.declared.capture.Captured.{Captured}
 use Rattle.desk_values.specs.Good.{IsGoodReply}
@@ -11,7 +11,8 @@ use Rattle.machine_model.specs.Step.{reply_in, step}
 use Rattle.capture_recorder.specs.declared.progress.Progress.{Progress}
 use Rattle.capture_recorder.specs.Recording.{Recording, captured, connected_count, cut, is_stranger, kept_ended, recorded}
 use Rattle.capture_recorder.specs.Keeping.{progress_of}
-use Rattle.capture_recorder.proofs.Growing.{calls_within, commits_within, tick}
+use Rattle.capture_laws.proofs.Counts.{count_within}
+use Rattle.capture_laws.specs.Sessions.{is_of}
 use Rattle.capture_recorder.proofs.Keeping.{captured_is, keeps_added, progress}
 use Rattle.capture_recorder.proofs.recorder.Recorder.append.Goals as goal
 
@@ -19,16 +20,19 @@ pub overflow_add-place : goal.overflow_add-place
 overflow_add-place c =
     let calls = c.self.inside.calls.items in
     let session = c.args.session in
-    let place : c.index-place.result.now ≡ progress_of calls session = c.index-place.ensures ∙ get_or_from_slice_get c.self.inside.sessions.items session (progress_of calls session) _ (c.self.invariant.progress session c.requires.session) in
+    let place : c.index-place.result.now ≡ progress_of calls session = c.index-place.ensures ∙ c.self.invariant.progress session _ c.requires.session in
     let count = ap (λ (p : Progress). p.calls) place in
-    let fits : c.index-place.result.now.calls + 1 < 2 ^ 32 = omega (arith, calls_within calls session, count, c.requires.room, ap (λ (r : Recording). length r.calls) c.self.view_is) in
+    let fits : c.index-place.result.now.calls + 1 < 2 ^ 32 = omega (arith, count_within (is_of session) calls, count, c.requires.room, ap (λ (r : Recording). length r.calls) c.self.view_is) in
     search (rules, fits)
 
 pub commit_number-requires : goal.commit_number-requires
-commit_number-requires c = omega (arith, commits_within c.self.inside.calls.items, c.self.invariant.numbered_is, c.requires.room, ap (λ (r : Recording). length r.calls) c.self.view_is)
+commit_number-requires c = omega (arith, count_within (λ (call : Captured). commits call.reply.outcome) c.self.inside.calls.items, c.self.invariant.numbered_is, c.requires.room, ap (λ (r : Recording). length r.calls) c.self.view_is)
 
 abbrev recording : StartView → List Captured → State → Recording
 recording start calls state = record { start = start; calls = calls; state = state }
+
+abbrev made : ℕ → ℕ → ℕ → ℕ → ℕ → ℕ → ℕ → Call → Reply → Captured
+made session place stamp seen number began ended call reply = record { session = session; place = place; stamp = stamp; seen = seen; number = number; began = began; ended = ended; call = call; reply = reply }
 
 abbrev before : goal.After-self-2-1 → Recording
 before c = record { start = c.self.inside.start; calls = c.self.inside.calls.items; state = c.self.inside.engine.state }
@@ -37,7 +41,7 @@ given : (c : goal.After-self-2-1) → is_stranger c.self.inside.engine.state c.a
 given c = subst (λ (r : Recording). is_stranger r.state c.args.call.now ≡ false) (sym c.self.view_is) c.requires.given
 
 place_is : (c : goal.After-self-2-1) → c.index-place.result.now ≡ progress_of c.self.inside.calls.items c.args.session
-place_is c = c.index-place.ensures ∙ get_or_from_slice_get c.self.inside.sessions.items c.args.session (progress_of c.self.inside.calls.items c.args.session) _ (c.self.invariant.progress c.args.session c.requires.session)
+place_is c = c.index-place.ensures ∙ c.self.invariant.progress c.args.session _ c.requires.session
 
 first_is : (c : goal.After-self-2-1) → c.in_ok-copies.copies.first ≡ reply_in c.self.inside.engine.state c.args.session c.args.call.now
 first_is c = c.in_ok-copies.ensures.ok.0 ∙ ap (reply_in c.self.inside.engine.state c.args.session) c.in_ok-call.ensures
@@ -56,8 +60,8 @@ grown c =
     let to_is = c.cut-ended.ensures ∙ ap cut c.max-2.ensures in
     let stamp_is = c.len.ensures ∙ ap length c.in_ok-reserve.ensures.items in
     let item = captured_is (before c) c.self.inside.engine c.self.inside.numbered c.self.inside.sessions.items c.self.invariant c.args.session c.requires.session c.args.call.now c.args.began c.args.ended (given c)
-    c.index-place.result.now.calls c.len.result c.self.inside.numbered c.commit_number.result c.cut-began.result c.cut-ended.result c.in_ok-call.call c.in_ok-copies.copies.third
-    (ap (λ (p : Progress). p.calls) (place_is c)) stamp_is c.self.invariant.numbered_is number_is from_is to_is c.in_ok-call.ensures (c.in_ok-copies.ensures.third ∙ first_is c) in
+    (made c.args.session c.index-place.result.now.calls c.len.result c.self.inside.numbered c.commit_number.result c.cut-began.result c.cut-ended.result c.in_ok-call.call c.in_ok-copies.copies.third)
+    refl (ap (λ (p : Progress). p.calls) (place_is c)) stamp_is c.self.invariant.numbered_is number_is from_is to_is c.in_ok-call.ensures (c.in_ok-copies.ensures.third ∙ first_is c) in
     c.in_ok-push.ensures.ok ∙ ap (λ (x : Captured). c.reserve.new.self.items ++ x ∷ []) item ∙ ap (λ (xs : List Captured). xs ++ captured (before c) c.args.session c.args.call.now c.args.began c.args.ended ∷ []) c.in_ok-reserve.ensures.items
 
 pub invariant_of-self-2 : goal.invariant_of-self-2
@@ -67,7 +71,7 @@ invariant_of-self-2 c =
     let call = c.args.call.now in
     let room = subst (λ (x : Recording). length x.calls + connected_count (step x.state session call) < 100000) (sym c.self.view_is) c.requires.room in
     let good = subst IsGoodReply (first_is c) c.in_ok-copies.ensures.good in
-    let count_is = c.commits_after-self-inside.ensures ∙ ap (λ b. c.self.inside.numbered + tick b) (numbered_is c) in
+    let count_is = c.commits_after-self-inside.ensures ∙ ap (λ b. c.self.inside.numbered + cond b 1 0) (numbered_is c) in
     let from_is : c.cut-began.result ≡ (captured r session call c.args.began c.args.ended).began = c.cut-began.ensures ∙ ap cut (c.max.ensures ∙ ap (λ (p : Progress). max c.args.began p.ended) (place_is c)) in
     let to_is = c.cut-ended.ensures ∙ ap cut c.max-2.ensures ∙ ap (λ (b : ℕ). kept_ended b c.args.ended) from_is in
     let progress_is = ap (λ (p : Progress). progress (p.calls + 1) c.cut-ended.result) (place_is c) ∙ ap (progress (session_calls_before r.calls session (length r.calls) + 1)) to_is in

@@ -1,12 +1,12 @@
 use Rattle.std.proofs.Common.{◌∙◌, sym, ap, subst}
 use Rattle.capture_format.specs.SessionFile.{AreCallsOf}
 use Rattle.capture_recorder.specs.Recording.{Recording}
-use Rattle.capture_recorder.specs.Sessions.{calls_of}
-use Rattle.capture_recorder.proofs.Files.{session_file}
+use Rattle.capture_laws.specs.Sessions.{calls_of}
+use Rattle.capture_recorder.proofs.Files.{recorded_file}
 use Rattle.capture_recorder.proofs.recorder.Recorder.session.Goals as goal
 
 pub returns-clause-file : goal.returns-clause-file
 returns-clause-file c =
     let session = c.args.session in
     let same = c.in_ok-list.ensures ∙ ap (calls_of session) (c.as_slice.ensures ∙ ap (λ (r : Recording). r.calls) c.self.view_is) in
-    subst (AreCallsOf session) (sym same) (session_file c.args.self.now c.know_recording.ensures session)
+    subst (AreCallsOf session) (sym same) (recorded_file c.args.self.now c.know_recording.ensures session)

@@ -1,0 +1,4 @@
+pub mod Carried
+pub mod Equality
+pub mod Class
+pub mod Laws

@@ -1,0 +1,11 @@
+pub mod Truth
+pub mod Order
+pub mod Laid
+pub mod Longer
+pub mod Stages
+pub mod Written
+pub mod Own
+pub mod Classes
+pub mod Again
+pub mod Ends
+pub mod Whole

@@ -1,0 +1,3 @@
+pub mod Starts
+pub mod Pairs
+pub mod Learnt

@@ -1,0 +1,117 @@
+//! What a command has to do, by its words and the files.
+
+ghost use Rattle.std.specs.Prelude.{◌≡◌, ◌≤◌, IfOk, IfErr, length};
+ghost use Rattle.desk_files.specs.Outside.{Told};
+ghost use Rattle.replay_job.specs.Job.{AreKnownOf, seen};
+ghost use Rattle.replay_job.specs.Replays.{IsSoundJob};
+ghost use Rattle.replay_cli.specs.declared.words.Command.TheVariants.{Run as TheRun, Prepare as ThePrepare};
+ghost use Rattle.replay_cli.specs.Command.{IsWithinLimits};
+ghost use Rattle.replay_cli.specs.Decision.{Decides, MayRefuse, PrepareIn, RunIn, job_of};
+ghost use Rattle.replay_cli.specs.Done.{IsTaskOf, IsWork, legal_of, task_of};
+ghost use Rattle.replay_cli.specs.Options.{HasWays};
+ghost use Rattle.replay_cli.specs.Replay.{HasMoments, IsLegalFrom};
+ghost use Rattle.replay_cli.specs.Steps.{Step, seen_as};
+
+use crate::capture::{Legal, read_capture, test};
+use crate::failure::Failure;
+use crate::options::Ways;
+use crate::reading::read_remap;
+use crate::words::Command;
+use desk_files::Files;
+use desk_values::{Copied, Memory, Txt};
+use object_depends::FactList;
+use remap_ids::Remap;
+use replay_job::Job;
+use std::alloc::Global;
+
+/// What a command has to do.
+#[derive(Drop)]
+pub enum Work {
+    /// Replay the job, and write the replay into the folder.
+    Replaying(Txt, Job),
+    /// Write into the folder which calls wait for which.
+    Telling(Txt, FactList),
+    /// Write a capture of so many calls into the folder.
+    Making(u32, Txt),
+    /// Make that capture and replay it.
+    Trying(u32),
+}
+
+/// What the command has to do.
+pub fn decide<F: Files>(alloc: Global, command: Command, files: &mut F) -> Result<Work, Failure>
+    requires { IsWithinLimits command }
+    ensures work { IfOk result IsWork }
+    ensures task { IfOk result (λ work. IsTaskOf command (task_of work)) }
+    ensures refused { IfErr result (λ failure. MayRefuse command failure) }
+    ensures step { Step (λ map. Decides command map) (F.content files.old) (F.content files.new) (F.faults files.old) (F.faults files.new) (seen_as task_of result) }
+{
+    match command {
+        Command::Run(capture, out, ways) => decide_run(alloc, &capture, out, ways, files),
+        Command::Prepare(capture, out) => decide_prepare(alloc, &capture, out, files),
+        Command::Generate(calls, out) => Ok(Work::Making(calls, out)),
+        Command::Trial(calls) => Ok(Work::Trying(calls)),
+    }
+}
+
+fn decide_run<F: Files>(
+    alloc: Global,
+    capture: &Txt,
+    out: Txt,
+    ways: Ways,
+    files: &mut F,
+) -> Result<Work, Failure>
+    requires capture { length capture.now ≤ 900 }
+    requires out { length out ≤ 900 }
+    requires ways { HasWays ways }
+    ensures work { IfOk result IsWork }
+    ensures task { IfOk result (λ work. IsTaskOf (TheRun capture.now out ways) (task_of work)) }
+    ensures refused { IfErr result (λ failure. MayRefuse (TheRun capture.now out ways) failure) }
+    ensures step { Step (λ map. RunIn map capture.now out ways) (F.content files.old) (F.content files.new) (F.faults files.old) (F.faults files.new) (seen_as task_of result) }
+{
+    let read = read_capture(alloc, capture, files)?;
+    let remap = read_remap(alloc, &ways.remap, files)?;
+    let legal = test(alloc, read)?;
+    let job = job_of(legal, remap, &ways)?;
+    Ok(Work::Replaying(out, job))
+}
+
+/// The job of a legal capture that is replayed so, on its own start.
+fn job_of(legal: Legal, remap: Remap, ways: &Ways) -> Result<Job, Memory>
+    requires legal { IsLegalFrom legal.start legal.calls.items }
+    requires known { AreKnownOf legal.calls.items legal.facts }
+    requires moments { HasMoments legal.calls.items }
+    requires ways { HasWays ways.now }
+    ensures job { IfOk result (λ job. seen job ≡ job_of (legal_of legal) remap ways.now) }
+    ensures sound { IfOk result (λ job. IsSoundJob (seen job)) }
+{
+    let _ = legal.start.schema();
+    let target = legal.start.copy()?;
+    Ok(Job {
+        start: legal.start,
+        target,
+        calls: legal.calls,
+        facts: legal.facts,
+        remap,
+        mode: ways.mode,
+        think: ways.think,
+        connect: ways.connect,
+    })
+}
+
+fn decide_prepare<F: Files>(
+    alloc: Global,
+    capture: &Txt,
+    out: Txt,
+    files: &mut F,
+) -> Result<Work, Failure>
+    requires capture { length capture.now ≤ 900 }
+    requires out { length out ≤ 900 }
+    ensures work { IfOk result IsWork }
+    ensures task { IfOk result (λ work. IsTaskOf (ThePrepare capture.now out) (task_of work)) }
+    ensures refused { IfErr result (λ failure. MayRefuse (ThePrepare capture.now out) failure) }
+    ensures step { Step (λ map. PrepareIn map capture.now out) (F.content files.old) (F.content files.new) (F.faults files.old) (F.faults files.new) (seen_as task_of result) }
+{
+    let read = read_capture(alloc, capture, files)?;
+    let legal = test(alloc, read)?;
+    Ok(Work::Telling(out, legal.facts))
+}

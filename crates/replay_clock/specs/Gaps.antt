@@ -1,0 +1,29 @@
+-- The times before the calls of a capture.
+use Rattle.std.specs.Prelude.{◌≡◌, ℕ, ◌-◌, ◌<◌, ◌==◌, if◌then◌else◌, Some, List, length, slice_get}
+use Rattle.desk_values.specs.declared.capture.Captured.{Captured}
+use Rattle.replay_history.specs.Gap.{IsCallAt, IsGap}
+use Rattle.replay_history.specs.Capture.{session_calls_before}
+use Rattle.replay_clock.specs.declared.gap.Gap.{Gap}
+
+-- the call has a session's number, and as many calls of its session before it as it says
+pub record IsInPlace (calls : List Captured) (k : ℕ) (call : Captured) : Type 0 where
+  pub session : call.session < 64
+  pub place : call.place ≡ session_calls_before calls call.session k
+
+-- so have the calls of a legal capture
+abbrev pub AreInPlace : List Captured → Type 0
+AreInPlace calls = (k : ℕ) (call : Captured) → IsCallAt calls k call → IsInPlace calls k call
+
+-- the time before a call, and whether it is its session's first
+pub record IsGapOf (calls : List Captured) (call : Captured) (gap : Gap) : Type 0 where
+  pub micros : IsGap calls call gap.micros
+  pub first : gap.first ≡ (call.place == 0)
+
+-- by stamp the times before the calls
+pub record AreGaps (calls : List Captured) (gaps : List Gap) : Type 0 where
+  pub count : length gaps ≡ length calls
+  pub each : (k : ℕ) (call : Captured) (gap : Gap) → IsCallAt calls k call → slice_get gaps k ≡ Some gap → IsGapOf calls call gap
+
+-- the time before a call, where the call of its session before it ended at this moment
+abbrev pub gap_after : Captured → ℕ → Gap
+gap_after call ended = record { micros = if call.place == 0 then call.began else (call.began - ended); first = call.place == 0 }

@@ -1,0 +1,8 @@
+pub mod JournalView
+pub mod JournalFile
+pub mod JournalReading
+pub mod Last
+pub mod Report
+pub mod Differences
+pub mod Laws
+pub mod Written

@@ -1,0 +1,2 @@
+mod Classed
+pub mod Named
