@@ -8,8 +8,8 @@ use Rattle.capture_format.specs.declared.start.StartFile.{StartFile}
 use Rattle.capture_format.specs.StartFile.{IsStartFile}
 use Rattle.capture_format.specs.SessionFile.{IsSessionFile}
 use Rattle.prepare_plan.specs.Lists.{all_calls, by_stamp}
-use Rattle.prepare_plan.specs.Verdict.{CanBeLegal, Plan, verdict}
-use Rattle.prepare_plan.specs.Facts.{facts_of}
+use Rattle.capture_verdict.specs.Verdict.{CanBeLegal, Plan, verdict}
+use Rattle.capture_verdict.specs.Facts.{facts_of}
 use Rattle.remap_ids.specs.Services.{ServicePair, services_of}
 use Rattle.replay_cli.specs.declared.options.Ways.{Ways}
 use Rattle.replay_cli.specs.declared.words.Command.TheVariants.{Run, Prepare}

@@ -1,6 +1,7 @@
 -- Where the class is Same.
 use Rattle.std.proofs.Common.{◌≡◌, ◌∙◌, ℕ, Bool, true, false, cond, eqb, not, List, ◌++◌, length, Option, None, Some, refl, sym, ap, subst}
 use Rattle.std.specs.Prelude.{◌↔◌}
+use Rattle.std.specs.Bool.{Decides}
 use Rattle.std.specs.List.{find}
 use Rattle.std.specs.List.Sorted.{IsPermutation}
 use Rattle.std.specs.Option.{unwrap_or}
@@ -17,12 +18,14 @@ use Rattle.desk_values.proofs.Faults.{numbered_again}
 use Rattle.id_pairs.specs.Pairs.{IdPair}
 use Rattle.replay_history.specs.declared.report.Class.{Class}
 use Rattle.replay_history.specs.declared.report.Class.TheVariants.{Same, MutatedError, RowsModified, RowsFetched, RowContents, Images}
-use Rattle.divergence.specs.Carried.{carried_images, carried_row, carried_rows}
-use Rattle.divergence.specs.Class.{equal_images, equal_rows, fits, lines}
-use Rattle.divergence.specs.Laws.{AreSameMaps, IsSameOutcome, LongerMapsKeepSame, SameWhereEqual, rows, count, committed, rolled_back, marked, connected, disconnected, refused}
-use Rattle.divergence.proofs.Carrying.{each_length, images_longer, rows_longer}
-use Rattle.divergence.proofs.SameImages.{map_decides}
-use Rattle.divergence.proofs.SameRows.{bag_decides}
+use Rattle.carrying_law.specs.Carried.{carried_images, carried_row, carried_rows}
+use Rattle.divergence.specs.Class.{equal_carried, fits, lines}
+use Rattle.bag_laws.specs.Equality.{same_bag, same_map}
+use Rattle.bag_laws.specs.Laws.{AreSameMaps}
+use Rattle.divergence.specs.Laws.{IsSameOutcome, LongerMapsKeepSame, SameWhereEqual, rows, count, committed, rolled_back, marked, connected, disconnected, refused}
+use Rattle.carrying_law.proofs.Carrying.{each_length, images_longer, rows_longer}
+use Rattle.bag_laws.proofs.SameImages.{map_decides}
+use Rattle.bag_laws.proofs.SameRows.{bag_decides}
 
 one_fault : (fault other : Fault) → fault_number fault ≡ fault_number other → fault ≡ other
 unfolding fault_numbered
@@ -34,13 +37,9 @@ class_at pairs captured replayed = unwrap_or (find (fits pairs captured replayed
 module _ (pairs : List IdPair) where
   -- ---- what the tests of lists tell
 
-  rows_equal : (o : Option (List (List Value))) (others : List (List Value)) → equal_rows o others ≡ true → (carried : List (List Value)) × (o ≡ Some carried) × IsPermutation carried others
-  rows_equal None others e = absurd (cc)
-  rows_equal (Some carried) others e = (carried, refl, (bag_decides carried others).0 e)
-
-  images_equal : (o : Option (List Image)) (others : List Image) → equal_images o others ≡ true → (carried : List Image) × (o ≡ Some carried) × AreSameMaps carried others
-  images_equal None others e = absurd (cc)
-  images_equal (Some carried) others e = (carried, refl, (map_decides carried others).0 e)
+  carried_equal : {A : Type 0} {R : A → A → Type 0} (same : A → A → Bool) → ((x y : A) → Decides (same x y) (R x y)) → (o : Option A) (other : A) → equal_carried same o other ≡ true → (carried : A) × (o ≡ Some carried) × R carried other
+  carried_equal same decides None other e = absurd (cc)
+  carried_equal same decides (Some carried) other e = (carried, refl, (decides carried other).0 e)
 
   -- ---- where one line is left, or two
 
@@ -59,18 +58,18 @@ module _ (pairs : List IdPair) where
   same_count : (n other : ℕ) → (class_at pairs (Count n) (Count other) ≡ Same) ↔ (eqb n other ≡ true)
   same_count n other = one_left RowsModified (λ e. cc) (eqb n other)
 
-  same_rows : (found others : List (List Value)) → (class_at pairs (Rows found) (Rows others) ≡ Same) ↔ ((eqb (length found) (length others) ≡ true) × (equal_rows (carried_rows pairs found) others ≡ true))
-  same_rows found others = two_left (eqb (length found) (length others)) (equal_rows (carried_rows pairs found) others)
+  same_rows : (found others : List (List Value)) → (class_at pairs (Rows found) (Rows others) ≡ Same) ↔ ((eqb (length found) (length others) ≡ true) × (equal_carried same_bag (carried_rows pairs found) others ≡ true))
+  same_rows found others = two_left (eqb (length found) (length others)) (equal_carried same_bag (carried_rows pairs found) others)
 
-  same_images : (images others : List Image) → (class_at pairs (Committed images) (Committed others) ≡ Same) ↔ (equal_images (carried_images pairs images) others ≡ true)
-  same_images images others = one_left Images (λ e. cc) (equal_images (carried_images pairs images) others)
+  same_images : (images others : List Image) → (class_at pairs (Committed images) (Committed others) ≡ Same) ↔ (equal_carried same_map (carried_images pairs images) others ≡ true)
+  same_images images others = one_left Images (λ e. cc) (equal_carried same_map (carried_images pairs images) others)
 
   -- ---- both ways
 
   equal_where_same : (captured replayed : Outcome) → class_at pairs captured replayed ≡ Same → IsSameOutcome pairs captured replayed
-  equal_where_same (Rows found) (Rows others) e = let t = rows_equal (carried_rows pairs found) others ((same_rows found others).0 e).1 in rows found t.0 others t.1 t.2
+  equal_where_same (Rows found) (Rows others) e = let t = carried_equal same_bag bag_decides (carried_rows pairs found) others ((same_rows found others).0 e).1 in rows found t.0 others t.1 t.2
   equal_where_same (Count n) (Count other) e = subst (λ (m : ℕ). IsSameOutcome pairs (Count n) (Count m)) (eqb-true n other ((same_count n other).0 e)) (count n)
-  equal_where_same (Committed images) (Committed others) e = let t = images_equal (carried_images pairs images) others ((same_images images others).0 e) in committed images t.0 others t.1 t.2
+  equal_where_same (Committed images) (Committed others) e = let t = carried_equal same_map map_decides (carried_images pairs images) others ((same_images images others).0 e) in committed images t.0 others t.1 t.2
   equal_where_same RolledBack RolledBack e = rolled_back
   equal_where_same Marked Marked e = marked
   equal_where_same Connected Connected e = connected
@@ -81,10 +80,10 @@ module _ (pairs : List IdPair) where
   same_where_equal : {captured replayed : Outcome} → IsSameOutcome pairs captured replayed → class_at pairs captured replayed ≡ Same
   same_where_equal (rows found carried others e moved) = (same_rows found others).1 (
     eq-eqb _ _ (each_length (carried_row pairs) found carried e ∙ sym (length_permutation carried others moved)),
-    ap (λ (o : Option (List (List Value))). equal_rows o others) e ∙ (bag_decides carried others).1 moved,
+    ap (λ (o : Option (List (List Value))). equal_carried same_bag o others) e ∙ (bag_decides carried others).1 moved,
   )
   same_where_equal (count n) = (same_count n n).1 (eq-eqb n n refl)
-  same_where_equal (committed images carried others e same) = (same_images images others).1 (ap (λ (o : Option (List Image)). equal_images o others) e ∙ (map_decides carried others).1 same)
+  same_where_equal (committed images carried others e same) = (same_images images others).1 (ap (λ (o : Option (List Image)). equal_carried same_map o others) e ∙ (map_decides carried others).1 same)
   same_where_equal rolled_back = refl
   same_where_equal marked = refl
   same_where_equal connected = refl

@@ -2,8 +2,6 @@
 use Rattle.std.specs.Prelude.{ℕ, Bool, true, false, not, ◌&&◌, ◌||◌, ◌==◌, List, [], ◌∷◌, length, Option, None, Some}
 use Rattle.std.specs.List.{find}
 use Rattle.std.specs.Option.{unwrap_or}
-use Rattle.desk_values.specs.declared.value.Value.{Value}
-use Rattle.desk_values.specs.declared.value.Image.{Image}
 use Rattle.desk_values.specs.declared.call.Outcome.{Outcome}
 use Rattle.desk_values.specs.declared.call.Outcome.TheVariants.{Rows, Count, Committed, RolledBack, Marked, Connected, Disconnected, Refused}
 use Rattle.desk_values.specs.declared.call.Reply.{Reply}
@@ -12,8 +10,8 @@ use Rattle.id_pairs.specs.Pairs.{IdPair}
 use Rattle.replay_history.specs.declared.report.Class.{Class}
 use Rattle.replay_history.specs.declared.report.Class.TheVariants.{Same, NewError, GoneError, MutatedError, RowsModified, RowsFetched, RowContents, Images, Shape}
 use Rattle.replay_history.specs.Class.{class_number}
-use Rattle.divergence.specs.Carried.{carried_images, carried_rows}
-use Rattle.divergence.specs.Equality.{same_bag, same_map}
+use Rattle.carrying_law.specs.Carried.{carried_images, carried_rows}
+use Rattle.bag_laws.specs.Equality.{same_bag, same_map}
 
 abbrev pub is_refused : Outcome → Bool
 is_refused (Refused fault) = true
@@ -30,47 +28,23 @@ variant Connected = 5
 variant Disconnected = 6
 variant (Refused fault) = 7
 
-abbrev pub other_fault : Outcome → Outcome → Bool
-other_fault (Refused fault) (Refused other) = not (fault_number fault == fault_number other)
-other_fault captured replayed = false
-
-abbrev pub other_count : Outcome → Outcome → Bool
-other_count (Count n) (Count other) = not (n == other)
-other_count captured replayed = false
-
-abbrev pub other_length : Outcome → Outcome → Bool
-other_length (Rows rows) (Rows others) = not (length rows == length others)
-other_length captured replayed = false
-
--- rows with an id that has no image equal nothing
-abbrev pub equal_rows : Option (List (List Value)) → List (List Value) → Bool
-equal_rows None others = false
-equal_rows (Some carried) others = same_bag carried others
-
-abbrev pub other_rows : List IdPair → Outcome → Outcome → Bool
-other_rows pairs (Rows rows) (Rows others) = not (equal_rows (carried_rows pairs rows) others)
-other_rows pairs captured replayed = false
-
--- so do images
-abbrev pub equal_images : Option (List Image) → List Image → Bool
-equal_images None others = false
-equal_images (Some carried) others = same_map carried others
-
-abbrev pub other_images : List IdPair → Outcome → Outcome → Bool
-other_images pairs (Committed images) (Committed others) = not (equal_images (carried_images pairs images) others)
-other_images pairs captured replayed = false
+-- what holds an id without an image equals nothing
+abbrev pub equal_carried : {A : Type 0} → (A → A → Bool) → Option A → A → Bool
+equal_carried same None other = false
+equal_carried same (Some carried) other = same carried other
 
 -- whether a class's line fits: the captured outcome, then the replayed one
 abbrev pub fits : List IdPair → Outcome → Outcome → Class → Bool
 fits pairs captured replayed NewError = not (is_refused captured) && is_refused replayed
 fits pairs captured replayed GoneError = is_refused captured && not (is_refused replayed)
-fits pairs captured replayed MutatedError = other_fault captured replayed
-fits pairs captured replayed RowsModified = other_count captured replayed
-fits pairs captured replayed RowsFetched = other_length captured replayed
-fits pairs captured replayed RowContents = other_rows pairs captured replayed
-fits pairs captured replayed Images = other_images pairs captured replayed
+fits pairs (Refused fault) (Refused other) MutatedError = not (fault_number fault == fault_number other)
+fits pairs (Count n) (Count other) RowsModified = not (n == other)
+fits pairs (Rows rows) (Rows others) RowsFetched = not (length rows == length others)
+fits pairs (Rows rows) (Rows others) RowContents = not (equal_carried same_bag (carried_rows pairs rows) others)
+fits pairs (Committed images) (Committed others) Images = not (equal_carried same_map (carried_images pairs images) others)
 fits pairs captured replayed Shape = not (variant captured == variant replayed)
 fits pairs captured replayed Same = true
+fits pairs captured replayed class = false
 
 -- the lines, of which the first that fits gives the class
 abbrev pub lines : List Class

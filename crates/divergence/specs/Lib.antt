@@ -1,4 +1,2 @@
-pub mod Carried
-pub mod Equality
 pub mod Class
 pub mod Laws

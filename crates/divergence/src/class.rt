@@ -1,6 +1,7 @@
 ghost use Rattle.std.specs.Prelude.{◌≡◌, ◌&&◌, false, length, ◌==◌, if◌then◌else◌, IfOk, IsOk};
-ghost use Rattle.divergence.specs.Carried.{carried_images, carried_rows};
-ghost use Rattle.divergence.specs.Class.{class_between, equal_images, equal_rows, holds_list};
+ghost use Rattle.bag_laws.specs.Equality.{same_bag, same_map};
+ghost use Rattle.carrying_law.specs.Carried.{carried_images, carried_rows};
+ghost use Rattle.divergence.specs.Class.{class_between, equal_carried, holds_list};
 
 use crate::carry::Carry;
 use crate::equality::{same_bag, same_map};
@@ -57,7 +58,7 @@ fn class_of_rows(
     rows: &RowList,
     others: &RowList,
 ) -> Result<Class, Memory>
-    ensures { IfOk result (λ class. class ≡ (if length rows.now == length others.now then (if equal_rows (carried_rows map.now.pairs rows.now) others.now then Class.Same else Class.RowContents) else Class.RowsFetched)) }
+    ensures { IfOk result (λ class. class ≡ (if length rows.now == length others.now then (if equal_carried same_bag (carried_rows map.now.pairs rows.now) others.now then Class.Same else Class.RowContents) else Class.RowsFetched)) }
 {
     if rows.len() != others.len() {
         return Ok(Class::RowsFetched);
@@ -76,7 +77,7 @@ fn equal_images(
     images: &Images,
     others: &Images,
 ) -> Result<bool, Memory>
-    ensures { IfOk result (λ same. same ≡ equal_images (carried_images map.now.pairs images.now) others.now) }
+    ensures { IfOk result (λ same. same ≡ equal_carried same_map (carried_images map.now.pairs images.now) others.now) }
 {
     match images.carry(alloc, map)? {
         Some(carried) => same_map(alloc, carried.as_slice(), others.as_slice()),

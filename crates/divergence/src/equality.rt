@@ -5,7 +5,7 @@ ghost use Rattle.std.specs.List.{list_all};
 ghost use Rattle.std.specs.Option.{option_copied};
 ghost use Rattle.std.specs.Ordering.{nat_cmp};
 ghost use Rattle.std.specs.BTreeMap.{get};
-ghost use Rattle.divergence.specs.Equality.{found, same_bag, same_image, same_map};
+ghost use Rattle.bag_laws.specs.Equality.{found, same_bag, same_image, same_map};
 
 use desk_values::{Image, Memory, RowList, Same, same_items, sort_rows};
 use std::alloc::Global;

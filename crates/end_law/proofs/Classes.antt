@@ -32,11 +32,12 @@ use Rattle.renaming_law.specs.Replies.{IsRenamedOutcome}
 use Rattle.renaming_law.specs.Replies as renamed
 use Rattle.renaming_law.specs.Twins.{AreSets}
 use Rattle.renaming_law.proofs.Rising.{bags_sets}
-use Rattle.divergence.specs.Carried.{carried_image, carried_images, carried_left, carried_number, carried_row, carried_value, each_some, row_of}
+use Rattle.carrying_law.specs.Carried.{carried_image, carried_images, carried_left, carried_number, carried_row, carried_value, each_some, row_of}
 use Rattle.divergence.specs.Class.{class_between, is_committed, is_write_divergence}
-use Rattle.divergence.specs.Equality.{found}
-use Rattle.divergence.specs.Laws.{AreSameMaps, IsSameOutcome, rows, count, committed, rolled_back, marked, connected, disconnected, refused}
-use Rattle.divergence.proofs.Carrying.{renamed_carried}
+use Rattle.bag_laws.specs.Equality.{found}
+use Rattle.bag_laws.specs.Laws.{AreSameMaps}
+use Rattle.divergence.specs.Laws.{IsSameOutcome, rows, count, committed, rolled_back, marked, connected, disconnected, refused}
+use Rattle.carrying_law.proofs.Carrying.{renamed_carried}
 use Rattle.divergence.proofs.Classes.{same_is_equal}
 use Rattle.end_law.specs.Tables.{AreCarried}
 use Rattle.end_law.specs.Laws.{CarriedTablesAreOne}

@@ -7,9 +7,9 @@ use Rattle.capture_laws.specs.Sessions.{AreSessionsFrom}
 use Rattle.capture_laws.specs.Stamps.{all_calls, by_stamp}
 use Rattle.capture_laws.proofs.Permuted.{stamped_are_all}
 use Rattle.capture_laws.proofs.Stamping.{stamp_is}
-use Rattle.prepare_plan.specs.Tests.{bad_stamp}
-use Rattle.prepare_plan.specs.Verdict.{CanBeLegal, IsLegal}
-use Rattle.prepare_plan.proofs.Legality.{all_stamped, has, plan_calls, plan_legal}
+use Rattle.capture_verdict.specs.Tests.{bad_stamp}
+use Rattle.capture_verdict.specs.Verdict.{CanBeLegal, IsLegal}
+use Rattle.capture_verdict.proofs.Legality.{all_stamped, has, plan_calls, plan_legal}
 use Rattle.legality_law.specs.First.{IsTaken, plan_of}
 use Rattle.legality_law.proofs.Taken.{plan_given}
 

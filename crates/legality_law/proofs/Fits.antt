@@ -18,11 +18,11 @@ use Rattle.capture_laws.specs.Same.{same_reply}
 use Rattle.capture_laws.proofs.Following.{waits}
 use Rattle.capture_laws.proofs.Sameness.{reply_decided}
 use Rattle.capture_laws.proofs.Strangers.{not_stranger}
-use Rattle.prepare_plan.specs.declared.refusal.Refusal.{Refusal}
-use Rattle.prepare_plan.specs.declared.refusal.Refusal.TheVariants.{Reply as OtherReply}
-use Rattle.prepare_plan.specs.Tests.{asked, bad_ids, bad_number, bad_reply, bad_seen, bad_times, commits_in, first_refused, right_number, right_reply, unless}
-use Rattle.prepare_plan.specs.Verdict.{IsLegal, fault_of}
-use Rattle.prepare_plan.proofs.Walking.{run_more}
+use Rattle.capture_verdict.specs.declared.refusal.Refusal.{Refusal}
+use Rattle.capture_verdict.specs.declared.refusal.Refusal.TheVariants.{Reply as OtherReply}
+use Rattle.capture_verdict.specs.Tests.{asked, bad_ids, bad_number, bad_reply, bad_seen, bad_times, commits_in, first_refused, right_number, right_reply, unless}
+use Rattle.capture_verdict.specs.Verdict.{IsLegal, fault_of}
+use Rattle.capture_verdict.proofs.Legality.{run_more}
 use Rattle.legality_law.proofs.Walks.{none_refused}
 
 pub unless_true : (b : Bool) (refusal : Refusal) → b ≡ true → unless b refusal ≡ None

@@ -5,14 +5,14 @@ use Rattle.std.specs.List.Sorted.{IsPermutation}
 use Rattle.std.proofs.lemmas.Bool.{le-leb}
 use Rattle.desk_values.specs.declared.capture.Captured.{Captured}
 use Rattle.desk_schema.specs.Start.{StartView}
-use Rattle.prepare_plan.specs.declared.refusal.Refusal.{Refusal}
-use Rattle.prepare_plan.specs.declared.refusal.Refusal.TheVariants.{Stamp}
-use Rattle.prepare_plan.specs.declared.refusal.TheConstants.{CALL_LIMIT}
+use Rattle.capture_verdict.specs.declared.refusal.Refusal.{Refusal}
+use Rattle.capture_verdict.specs.declared.refusal.Refusal.TheVariants.{Stamp}
+use Rattle.capture_verdict.specs.declared.refusal.TheConstants.{CALL_LIMIT}
 use Rattle.capture_laws.specs.Stamped.{IsStamped}
 use Rattle.capture_laws.specs.Stamps.{all_calls, by_stamp}
 use Rattle.capture_laws.proofs.Ordered.{len, none_bad, order_is_by_stamp}
-use Rattle.prepare_plan.specs.Tests.{bad_stamp, too_many}
-use Rattle.prepare_plan.specs.Verdict.{IsLegal, fault_of, or_else, verdict, verdict_of}
+use Rattle.capture_verdict.specs.Tests.{bad_stamp, too_many}
+use Rattle.capture_verdict.specs.Verdict.{IsLegal, fault_of, or_else, verdict, verdict_of}
 use Rattle.legality_law.specs.First.{plan_of}
 use Rattle.legality_law.proofs.Fits.{no_fault, unless_true}
 

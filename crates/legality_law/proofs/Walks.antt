@@ -3,8 +3,8 @@ use Rattle.std.proofs.Common.{◌≡◌, ℕ, suc, ◌<◌, List, [], ◌∷◌,
 use Rattle.std.specs.Prelude.{Option, None, Some, slice_get}
 use Rattle.std.specs.Option.{option_or}
 use Rattle.desk_values.specs.declared.capture.Captured.{Captured}
-use Rattle.prepare_plan.specs.declared.refusal.Refusal.{Refusal}
-use Rattle.prepare_plan.specs.Tests.{first_refused}
+use Rattle.capture_verdict.specs.declared.refusal.Refusal.{Refusal}
+use Rattle.capture_verdict.specs.Tests.{first_refused}
 use Rattle.legality_law.specs.First.{IsFirstRefused, IsNeverRefused, PassBefore, Test}
 
 last : {X : Type 0} (l : List X) → l ++ [] ≡ l

@@ -3,9 +3,9 @@ use Rattle.std.specs.Prelude.{◌≡◌, ℕ, ◌<◌, List, ◌++◌, take, Opt
 use Rattle.desk_values.specs.declared.capture.Captured.{Captured}
 use Rattle.desk_schema.specs.Start.{StartView}
 use Rattle.replay_history.specs.Gap.{IsCallAt}
-use Rattle.prepare_plan.specs.declared.refusal.Refusal.{Refusal}
-use Rattle.prepare_plan.specs.Facts.{facts_of}
-use Rattle.prepare_plan.specs.Verdict.{Plan, verdict}
+use Rattle.capture_verdict.specs.declared.refusal.Refusal.{Refusal}
+use Rattle.capture_verdict.specs.Facts.{facts_of}
+use Rattle.capture_verdict.specs.Verdict.{Plan, verdict}
 
 -- a test sees a call and those before it
 abbrev pub Test : Type 0

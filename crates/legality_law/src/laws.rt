@@ -6,11 +6,11 @@ ghost use Rattle.desk_values.specs.declared.capture.Captured.{Captured};
 ghost use Rattle.desk_schema.specs.Start.{StartView};
 ghost use Rattle.replay_history.specs.Capture.{commits_before, number_of};
 ghost use Rattle.replay_history.specs.Gap.{IsCallAt};
-ghost use Rattle.prepare_plan.specs.declared.refusal.Refusal.{Refusal};
+ghost use Rattle.capture_verdict.specs.declared.refusal.Refusal.{Refusal};
 ghost use Rattle.capture_laws.specs.Sessions.{AreSessionsFrom};
 ghost use Rattle.capture_laws.specs.Stamps.{all_calls, by_stamp};
-ghost use Rattle.prepare_plan.specs.Tests.{bad_stamp, commits_in, first_refused, right_number};
-ghost use Rattle.prepare_plan.specs.Verdict.{CanBeLegal, IsLegal, verdict};
+ghost use Rattle.capture_verdict.specs.Tests.{bad_stamp, commits_in, first_refused, right_number};
+ghost use Rattle.capture_verdict.specs.Verdict.{CanBeLegal, IsLegal, verdict};
 ghost use Rattle.legality_law.specs.First.{IsFirstRefused, IsNeverRefused, IsTaken, Test, plan_of};
 
 /// Where some order of the calls is a legal capture, the verdict takes them. That order is the one by stamp.

@@ -5,10 +5,9 @@ use Rattle.std.specs.declared.cmp.Ordering.{Ordering}
 use Rattle.std.specs.declared.cmp.Ordering.TheVariants.{Less, Equal, Greater}
 use Rattle.std.specs.Ordering.{is_eq, nat_cmp, ordering_then}
 use Rattle.std.specs.List.{flat_map, list_any}
-use Rattle.std.proofs.lemmas.Grind.{common_steps}
 use Rattle.std.proofs.lemmas.List.{append-nil}
 use Rattle.std.proofs.lemmas.List.Folds.{list_any-append}
-use Rattle.std.proofs.lemmas.Grind.{flat_map-append}
+use Rattle.std.proofs.lemmas.Grind.{common_steps, flat_map-append}
 use Rattle.std.proofs.lemmas.Map.Views.{any-filter_same}
 use Rattle.desk_values.specs.Ids.{ids_of_image, ids_in, ids_left, is_id, ids_made}
 use Rattle.desk_values.specs.declared.value.Value.{Value}

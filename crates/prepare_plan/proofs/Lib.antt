@@ -2,4 +2,3 @@ pub mod Walking
 pub mod Seating
 pub mod Knowing
 pub mod Places
-pub mod Legality

@@ -14,7 +14,7 @@ use Rattle.capture_laws.proofs.Stamping.{has_each}
 use Rattle.prepare_plan.specs.declared.seats.Seat.{Seat}
 use Rattle.prepare_plan.specs.declared.seats.Seat.TheVariants.{Empty, Taken, Crowded}
 use Rattle.prepare_plan.specs.Inside.{shown, calls_at, IsSeat, AreSeatsOf, is_taken, taken_call, ordered, ordered_or}
-use Rattle.prepare_plan.specs.declared.refusal.Refusal.TheVariants.{Stamp}
+use Rattle.capture_verdict.specs.declared.refusal.Refusal.TheVariants.{Stamp}
 
 -- ---- one more call
 

@@ -6,8 +6,8 @@ use Rattle.std.proofs.lemmas.List.{get_or-set_same, get_or-set_other, map-append
 use Rattle.desk_values.specs.declared.capture.Captured.{Captured}
 use Rattle.capture_laws.specs.Moments.{ended_in}
 use Rattle.capture_laws.proofs.Following.{ended_more}
-use Rattle.prepare_plan.specs.declared.refusal.Refusal.TheVariants.{Number, Times, Reply as OtherReply}
-use Rattle.prepare_plan.specs.Tests.{unless, bad_number, bad_times, right_number, asked, bad_reply, right_reply}
+use Rattle.capture_verdict.specs.declared.refusal.Refusal.TheVariants.{Number, Times, Reply as OtherReply}
+use Rattle.capture_verdict.specs.Tests.{unless, bad_number, bad_times, right_number, asked, bad_reply, right_reply}
 use Rattle.desk_values.specs.declared.call.Call.{Call}
 use Rattle.desk_values.specs.declared.call.Reply.{Reply}
 use Rattle.desk_schema.specs.Start.{StartView}
@@ -15,6 +15,7 @@ use Rattle.machine_model.specs.State.{State, opening}
 use Rattle.machine_model.specs.Step.{reply_in, run, step}
 use Rattle.capture_laws.specs.Same.{same_reply}
 use Rattle.capture_laws.proofs.Scanning.{taken}
+use Rattle.capture_verdict.proofs.Legality.{run_more}
 
 pub number_fails : (before : List Captured) (call : Captured) (right : ℕ) → right ≡ right_number before call → call.number ≢ right → bad_number before call ≡ Some (Number call.stamp call.number right)
 number_fails before call right is wrong = rw (is, ne_eqb call.number (right_number before call) (λ same. wrong (same ∙ sym is))) refl
@@ -33,10 +34,6 @@ ended_after ended before call session within was = at (nat_eq call.session sessi
 
 pub times_pass : (before : List Captured) (call : Captured) (earliest : ℕ) → earliest ≡ ended_in call.session before → (nat_le call.began call.ended && nat_le earliest call.began) ≡ true → bad_times before call ≡ None
 times_pass before call earliest is good = ap (λ (b : Bool). unless b (Times call.stamp)) (ap (λ (e : ℕ). nat_le call.began call.ended && nat_le e call.began) (sym is) ∙ good)
-
-pub run_more : (state : State) (calls : List (ℕ × Call)) (session : ℕ) (call : Call) → run state (calls ++ (session, call) ∷ []) ≡ step (run state calls) session call
-run_more state [] session call = refl
-run_more state (first ∷ calls) session call = run_more (step state first.0 first.1) calls session call
 
 pub run_next : (start : StartView) (calls : List Captured) (i : ℕ) (call : Captured) (state next : State) → i < length calls → call ≡ get_or calls i call → state ≡ run (opening start) (asked (take i calls)) → next ≡ step state call.session call.call
     → next ≡ run (opening start) (asked (take (i + 1) calls))

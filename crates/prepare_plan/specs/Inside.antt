@@ -6,19 +6,18 @@ use Rattle.std.specs.Ordering.{nat_cmp, ordering_then}
 use Rattle.std.specs.List.{filter, list_any}
 use denote.Ref.{Bor}
 use Rattle.desk_values.specs.Room.{Room}
-use Rattle.desk_values.specs.Good.{IsGoodReply}
 use Rattle.desk_values.specs.Ids.{is_id}
 use Rattle.capture_laws.specs.Same.{same_value}
 use Rattle.capture_laws.specs.Stamps.{has_stamp, by_stamp}
 use Rattle.desk_values.specs.declared.value.Value.{Value}
 use Rattle.desk_values.specs.declared.value.Value.TheVariants.{Row, Draw}
 use Rattle.desk_values.specs.declared.capture.Captured.{Captured}
-use Rattle.prepare_plan.specs.declared.refusal.Refusal.{Refusal}
-use Rattle.prepare_plan.specs.declared.refusal.Refusal.TheVariants.{Memory}
+use Rattle.capture_verdict.specs.declared.refusal.Refusal.{Refusal}
+use Rattle.capture_verdict.specs.declared.refusal.Refusal.TheVariants.{Memory}
 use Rattle.prepare_plan.specs.declared.seats.Seat.{Seat}
 use Rattle.prepare_plan.specs.declared.seats.Seat.TheVariants.{Empty, Taken, Crowded}
 use Rattle.prepare_plan.specs.declared.known.KnownIds.{KnownIds}
-use Rattle.prepare_plan.specs.Tests.{bad_stamp}
+use Rattle.capture_verdict.specs.Tests.{bad_stamp}
 
 -- the calls that are looked at
 abbrev pub shown : List (Bor Captured) → List Captured
@@ -82,10 +81,3 @@ knows ids other = false
 -- they know just the ids of the list
 abbrev pub KnowsAll : KnownIds → List Value → Type 0
 KnowsAll ids known = (value : Value) → is_id value ≡ true → knows ids value ≡ list_any (same_value value) known
-
--- ---- what holds of the calls of sessions
-
--- a session that there is, and a reply that can be written
-pub record IsFit (call : Captured) : Type 0 where
-  pub session : call.session < 64
-  pub reply : IsGoodReply call.reply

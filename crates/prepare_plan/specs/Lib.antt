@@ -1,5 +1,3 @@
 pub mod Lists
-pub mod Facts
-pub mod Tests
-pub mod Verdict
+pub mod Answered
 pub mod Inside

@@ -9,10 +9,10 @@ ghost use Rattle.desk_values.specs.declared.value.Value.TheVariants.{Row as RowI
 ghost use Rattle.capture_laws.specs.Same.{same_value};
 ghost use Rattle.replay_history.specs.Capture.{binds_of};
 ghost use Rattle.capture_laws.specs.Known.{given_by, is_stranger};
-ghost use Rattle.prepare_plan.specs.Tests.{bad_ids, first_refused};
+ghost use Rattle.capture_verdict.specs.Tests.{bad_ids, first_refused};
 ghost use Rattle.prepare_plan.specs.Inside.{passed, told, knows, KnowsAll};
 
-use crate::refusal::Refusal;
+use capture_verdict::Refusal;
 use desk_values::{Call, Captured, Image, Memory, Reply, Value};
 use std::alloc::Global;
 use std::collections::BTreeSet;

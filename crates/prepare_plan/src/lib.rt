@@ -10,12 +10,10 @@
 mod facts;
 mod gathering;
 mod known;
-pub mod laws;
 mod prepared;
 mod recorded;
-mod refusal;
 mod replies;
 mod seats;
 
+pub use capture_verdict::{CALL_LIMIT, Refusal};
 pub use prepared::{Prepared, prepare};
-pub use refusal::{CALL_LIMIT, Refusal};

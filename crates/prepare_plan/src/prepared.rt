@@ -4,16 +4,18 @@ ghost use Rattle.desk_values.specs.Answers.{Answers};
 ghost use Rattle.object_depends.specs.Facts.{AreSound};
 ghost use Rattle.capture_laws.specs.Sessions.{AreSessionsFrom};
 ghost use Rattle.prepare_plan.specs.Lists.{lists_of};
-ghost use Rattle.prepare_plan.specs.Verdict.{verdict, verdict_of, fault_of, plan_seen, refusal_told, IsLegal};
-ghost use Rattle.prepare_plan.specs.Inside.{passed, told, IsFit};
+ghost use Rattle.capture_verdict.specs.Verdict.{verdict, verdict_of, fault_of, IsLegal};
+ghost use Rattle.prepare_plan.specs.Answered.{plan_seen, refusal_told};
+ghost use Rattle.capture_verdict.specs.Fit.{IsFit};
+ghost use Rattle.prepare_plan.specs.Inside.{passed, told};
 
 use crate::facts::facts_of;
 use crate::gathering::gathered;
 use crate::known::judge_ids;
 use crate::recorded::{judge_numbers, judge_seen, judge_times};
-use crate::refusal::{CALL_LIMIT, Refusal};
 use crate::replies::judge_replies;
 use crate::seats::ordered;
+use capture_verdict::{CALL_LIMIT, Refusal};
 use desk_schema::Start;
 use desk_values::{CallList, Captured, SessionLists};
 use object_depends::FactList;
@@ -44,7 +46,7 @@ pub fn prepare(alloc: Global, start: &Start, sessions: &SessionLists) -> Result<
 }
 
 /// What becomes of the calls.
-#[tactic(auto, unfolding(crate::specs::Verdict::verdict))]
+#[tactic(auto, unfolding(capture_verdict::specs::Verdict::verdict))]
 fn judged(alloc: Global, start: &Start, sessions: &SessionLists) -> Result<Prepared, Refusal>
     requires sessions { length sessions.now ≤ 64 }
     requires lists { AreSessionsFrom 0 (lists_of sessions.now) }

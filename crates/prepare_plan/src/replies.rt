@@ -4,10 +4,11 @@ ghost use Rattle.std.specs.Prelude.{◌≡◌, ◌≤◌, [], length};
 ghost use Rattle.std.specs.List.{AllByRecursion};
 ghost use Rattle.desk_values.specs.Answers.{Answers};
 ghost use Rattle.capture_laws.specs.Same.{same_reply};
-ghost use Rattle.prepare_plan.specs.Tests.{bad_reply, first_refused};
-ghost use Rattle.prepare_plan.specs.Inside.{passed, told, IsFit};
+ghost use Rattle.capture_verdict.specs.Tests.{bad_reply, first_refused};
+ghost use Rattle.capture_verdict.specs.Fit.{IsFit};
+ghost use Rattle.prepare_plan.specs.Inside.{passed, told};
 
-use crate::refusal::Refusal;
+use capture_verdict::Refusal;
 use desk_schema::Start;
 use desk_values::{Captured, Copied, Reply, Same};
 use std::alloc::Global;

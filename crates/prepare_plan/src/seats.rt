@@ -7,7 +7,7 @@ ghost use Rattle.desk_values.specs.declared.capture.Captured.{Captured as Call};
 ghost use Rattle.prepare_plan.specs.declared.seats.Seat.TheVariants.{Empty as NoCall};
 ghost use Rattle.prepare_plan.specs.Inside.{shown, IsSeat, AreSeatsOf, is_taken, taken_call, ordered, ordered_seen, order_told};
 
-use crate::refusal::Refusal;
+use capture_verdict::Refusal;
 use desk_values::{CallList, Captured, Copied, Memory, Reserved};
 use std::alloc::Global;
 
@@ -90,9 +90,11 @@ fn free_seat(seats: &[Seat]) -> Option<u32>
 
 /// The calls of the seats that just one has.
 fn listed(alloc: Global, seats: &[Seat]) -> Result<CallList, Memory>
+    requires { length seats.now ≤ 100000 }
     ensures { IfOk result (λ list. list.items ≡ filter_map taken_call seats.now) }
 {
     let mut list = Reserved::new(alloc);
+    list.reserve(seats.len() as u32)?;
     for seat in seats {
         if let Seat::Taken(call) = seat {
             list.push(call.copy()?)?;

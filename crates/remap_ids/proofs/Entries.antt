@@ -1,7 +1,9 @@
 -- A map of ids as an `IndexMap` and a set.
 use Rattle.std.proofs.Common.{◌≡◌, ◌∙◌, Bool, true, false, ◌||◌, List, [], ◌∷◌, ◌++◌, map, Option, None, Some, refl, sym, ap, subst, is_some}
 use Rattle.std.specs.Prelude.{if◌then◌else◌}
+use Rattle.std.proofs.lemmas.Bool.{or_parts}
 use Rattle.std.proofs.lemmas.List.{map-append}
+use Rattle.std.proofs.lemmas.List.Elements.{All-from_recursion, All-push, recursion_from_All}
 use Rattle.std.proofs.lemmas.Map.Made.{is_some-lookup}
 use Rattle.std.specs.List.{AllByRecursion, IsDistinct, list_any}
 use Rattle.std.specs.Map.{keys_of}
@@ -26,13 +28,9 @@ replayed_of pairs = map (λ pair. pair.1) pairs
 pub tests : (pairs : List IdPair) (captured replayed : Id) → (is_some (image_in pairs captured) || list_any (same_id replayed) (replayed_of pairs)) ≡ is_known pairs (captured, replayed)
 tests pairs captured replayed = ap (λ (there : Bool). there || list_any (same_id replayed) (replayed_of pairs)) (is_some-lookup (same_id captured) pairs)
 
-neither : (a b : Bool) → (a || b) ≡ false → (a ≡ false) × (b ≡ false)
-neither true b e = absurd (cc)
-neither false b e = (refl, e)
-
 module _ {S : Type 0} (m : IndexMap Id Id S) (captured replayed : Id) (unknown : is_known m.entries (captured, replayed) ≡ false) where
   parts : (list_any (same_id captured) (keys_of m.entries) ≡ false) × (list_any (same_id replayed) (replayed_of m.entries) ≡ false)
-  parts = neither (list_any (same_id captured) (keys_of m.entries)) (list_any (same_id replayed) (replayed_of m.entries)) unknown
+  parts = or_parts (list_any (same_id captured) (keys_of m.entries)) (list_any (same_id replayed) (replayed_of m.entries)) unknown
 
   pub goes_last : insert_entry (derived.eq-value).it m.entries captured replayed ≡ m.entries ++ (captured, replayed) ∷ []
   goes_last = ap (λ eq. insert_entry eq m.entries captured replayed) derived_is_same ∙ insert_entry-new same_id m captured replayed (none_of (image_in m.entries captured) (is_some-lookup (same_id captured) m.entries ∙ parts.0))
@@ -45,16 +43,14 @@ module _ {S : Type 0} (m : IndexMap Id Id S) (captured replayed : Id) (unknown :
       let known = replayed_of m.entries in
       ap (λ eq. insert_key eq keys replayed) derived_is_same ∙ ap (λ (ids : List Id). insert_key same_id ids replayed) is ∙ ap (λ (there : Bool). if there then known else known ++ replayed ∷ []) parts.1 ∙ sym (map-append (λ (pair : IdPair). pair.1) m.entries ((captured, replayed) ∷ []))
 
-both_like : (xs : List IdPair) (x : IdPair) → AllByRecursion (λ pair. AreLike pair.0 pair.1) xs → AreLike x.0 x.1 → AllByRecursion (λ pair. AreLike pair.0 pair.1) (xs ++ x ∷ [])
-both_like [] x all last = (last, tt)
-both_like (first ∷ xs) x all last = (all.0, both_like xs x all.1 last)
-
 -- a map of ids with a further pair
 pub one_more : (pairs after : List IdPair) (pair : IdPair) (keys : List Id) → IsIdMap pairs → AreLike pair.0 pair.1 → after ≡ pairs ++ pair ∷ [] → IsDistinct (derived.eq-value).it (keys_of after) → IsDistinct (derived.eq-value).it keys → keys ≡ replayed_of after → IsIdMap after
-one_more pairs after pair keys is alike grown captured replayed sides = record {
-  once = record {
-    captured = subst (λ eq. IsDistinct eq (keys_of after)) derived_is_same captured;
-    replayed = subst (IsDistinct same_id) sides (subst (λ eq. IsDistinct eq keys) derived_is_same replayed);
-  };
-  like = subst (λ (all : List IdPair). AllByRecursion (λ pair. AreLike pair.0 pair.1) all) (sym grown) (both_like pairs pair is.like alike);
-}
+one_more pairs after pair keys is alike grown captured replayed sides =
+    let Alike : IdPair → Type 0 = λ (pair : IdPair). AreLike pair.0 pair.1 in
+    record {
+      once = record {
+        captured = subst (λ eq. IsDistinct eq (keys_of after)) derived_is_same captured;
+        replayed = subst (IsDistinct same_id) sides (subst (λ eq. IsDistinct eq keys) derived_is_same replayed);
+      };
+      like = subst (AllByRecursion Alike) (sym grown) (recursion_from_All Alike (pairs ++ pair ∷ []) (All-push Alike pairs pair (All-from_recursion Alike pairs is.like) alike));
+    }

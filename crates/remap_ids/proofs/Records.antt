@@ -1,6 +1,7 @@
 -- The records of a text, one read at a time.
 use Rattle.std.proofs.Common.{◌≡◌, ◌∙◌, ℕ, ◌<◌, ◌≤◌, ◌+◌, zero, suc, Bool, true, false, List, [], ◌∷◌, ◌++◌, length, Option, None, Some, Result, Ok, Err, refl, sym, ap, arith}
 use Rattle.std.specs.Prelude.{if◌then◌else◌, IsErr, IsErrAnd}
+use Rattle.std.proofs.lemmas.Option.{same_Some}
 use Rattle.csv.specs.Machine.{Read, next_record, step, is_end, ends_at_end, fields_after, field_after}
 use Rattle.csv.proofs.ReadFacts.{rows-more}
 use Rattle.csv.specs.Reading.{ReadRecord, Reached, default_config, records_from, source_of, strip_bom}
@@ -26,16 +27,13 @@ end_is_between st.InEscape byte ends = grind arith
 end_is_between st.InComment byte ends = grind arith
 end_is_between st.AfterCr byte ends = grind arith
 
-some_is : (read other : Read) → Some read ≡ Some other → read ≡ other
-some_is read other is = cc
-
 fewer : (ends : Bool) (s : State) (byte : ℕ) (fields : List (List ℕ)) (bytes : List ℕ) (other : Option Read) (read : Read)
     → is_end (step default_config s byte).1 ≡ ends
     → (if ends then Some (fields, (step default_config s byte).0, bytes) else other) ≡ Some read
     → (other ≡ Some read → IsBetween read.1 × (length read.2 ≤ length bytes))
     → IsBetween read.1 × (length read.2 ≤ length bytes)
 fewer true s byte fields bytes other read ends is more =
-    let same = some_is _ _ is in
+    let same = same_Some _ _ is in
     let state : (step default_config s byte).0 ≡ read.1 = ap (λ (r : Read). r.1) same in
     let rest : bytes ≡ read.2 = ap (λ (r : Read). r.2) same in
     (sym (ap ends_at_end state) ∙ end_is_between s byte ends, omega (arith, ap length rest))
@@ -47,7 +45,7 @@ unfolding next_record
 read_on s fields field [] read is = by (ends_at_end s) is
   where
     by : (ends : Bool) → (if ends then Some (fields ++ (field ∷ []), st.StartRecord, []) else None) ≡ Some read → IsBetween read.1 × (length read.2 ≤ 0)
-    by true is = let same = some_is _ _ is in (sym (ap ends_at_end (ap (λ (r : Read). r.1) same)) ∙ refl, omega (arith, ap length (ap (λ (r : Read). r.2) same)))
+    by true is = let same = same_Some _ _ is in (sym (ap ends_at_end (ap (λ (r : Read). r.1) same)) ∙ refl, omega (arith, ap length (ap (λ (r : Read). r.2) same)))
     by false is = absurd (cc)
 read_on s fields field (byte ∷ bytes) read is =
     let kept = fewer (is_end (step default_config s byte).1) s byte _ bytes _ read refl is (read_on (step default_config s byte).0 (fields_after (step default_config s byte).1 fields field) (field_after (step default_config s byte).1 byte field) bytes read) in

@@ -1,6 +1,7 @@
 -- The services of a remap as an `IndexMap`.
 use Rattle.std.proofs.Common.{◌≡◌, ◌∙◌, ℕ, zero, suc, ◌+◌, Bool, true, false, List, [], ◌∷◌, ◌++◌, cond, length, map, take, Option, None, Some, Ok, Err, refl, sym, ap, is_some, arith}
 use Rattle.std.specs.Prelude.{not, slice_get}
+use Rattle.std.proofs.lemmas.Bool.{not-false}
 use Rattle.std.proofs.lemmas.Option.{get_or_from_slice_get, slice_get_within}
 use Rattle.std.proofs.lemmas.Slice.Eq.{bytes_eq-Decides}
 use Rattle.std.specs.List.{AllByRecursion, IsDistinct}
@@ -64,7 +65,4 @@ pub taken : (services : List ServicePair) (place : ℕ) (pair : ServicePair) →
 taken services place pair at = take_more services place pair (slice_get_within services place pair at) ∙ ap (λ (one : ServicePair). take place services ++ one ∷ []) (get_or_from_slice_get services place pair pair at)
 
 pub same_text : (a b : List ℕ) → false ≡ not (bytes_eq a b) → a ≡ b
-same_text a b e = (bytes_eq-Decides a b).0 (told (bytes_eq a b) e) where
-  told : (same : Bool) → false ≡ not same → same ≡ true
-  told true e = refl
-  told false e = absurd (cc)
+same_text a b e = (bytes_eq-Decides a b).0 (not-false (bytes_eq a b) (sym e))

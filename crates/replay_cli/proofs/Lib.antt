@@ -4,7 +4,6 @@ pub mod Made
 pub mod Unique
 pub mod Endings
 pub mod Pairing
-pub mod Jobs
 pub mod Replaying
 pub mod Steps
 pub mod Written

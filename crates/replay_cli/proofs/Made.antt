@@ -14,9 +14,9 @@ use Rattle.replay_cli.specs.declared.plan.Plan.{Plan}
 use Rattle.replay_cli.specs.Decision.{ToMake, ToTry}
 use Rattle.replay_cli.specs.Done.{IsDone, IsQuiet, IsTried, all_commits, made_calls, made_lists, made_start, session_files}
 use Rattle.replay_cli.specs.Lines.{generated_line, trial_line}
-use Rattle.replay_cli.specs.Replay.{HasMoments, IsLegalFrom}
+use Rattle.job_laws.specs.Jobs.{HasMoments, IsLegalFrom}
 use Rattle.replay_cli.specs.Words.{start_name}
-use Rattle.replay_cli.proofs.Jobs.{at_each}
+use Rattle.job_laws.proofs.Jobs.{at_each}
 use Rattle.replay_cli.proofs.Sessions.{count_lists}
 
 start_is : (r : Recording) (n : ℕ) → r ≡ generated n → r.start ≡ made_start n

@@ -6,12 +6,12 @@ use Rattle.desk_values.specs.declared.call.Reply.{Reply}
 use Rattle.desk_values.specs.declared.capture.Event.{Event}
 use Rattle.desk_values.specs.declared.capture.Event.TheVariants.{Start, Answer}
 use Rattle.replay_history.specs.History.{AnswersAll, IsAnswered}
+use Rattle.history_laws.proofs.Extended.{answered_kept, none_started, start_is, started_in}
+use Rattle.history_laws.proofs.Items.{last_at}
 use Rattle.replay_job.specs.Job.{JobView}
 use Rattle.replay_job.specs.Replays.{IsReplay, IsSoundJob}
 use Rattle.replay_job.specs.Runs.{IsFirstOpen, IsStarted, IsWaiting, MayStart}
 use Rattle.replay_core.specs.Desk.{DeskView, IsAnswer, IsKept, new_desk, with_start}
-use Rattle.replay_core.proofs.Extended.{answered_kept, last_at, none_started, start_is, started_in}
-use Rattle.replay_core.proofs.Truth.{complete}
 
 -- after so many turns so many calls are answered, and every call that is started is
 pub record IsBehind (job : JobView) (desk : DeskView) (turn : ℕ) : Type 0 where
@@ -94,5 +94,5 @@ module _ (job : JobView) (desk : DeskView) (turn : ℕ) (behind : IsBehind job d
   pub behind_done : IsSoundJob job → IsKept desk → length job.calls ≤ turn → IsReplay desk.job desk.history desk.stage
   behind_done sound kept all = record {
     sound = subst IsSoundJob (sym behind.job_is) sound;
-    complete = complete desk kept (λ j below. behind.front j (let same = ap (λ (job : JobView). length job.calls) behind.job_is in omega (arith, below, all, same)));
+    complete = record { legal = kept.legal; truthful = kept.truthful; whole = λ j below. behind.front j (let same = ap (λ (job : JobView). length job.calls) behind.job_is in omega (arith, below, all, same)) };
   }

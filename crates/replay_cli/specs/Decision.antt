@@ -10,8 +10,8 @@ use Rattle.capture_format.specs.declared.start.StartFile.{StartFile}
 use Rattle.capture_format.specs.StartFile.{IsBadStart, IsStartFile}
 use Rattle.capture_format.specs.SessionFile.{IsBadSession, IsSessionFile}
 use Rattle.object_depends.specs.declared.fact.Fact.{Fact}
-use Rattle.prepare_plan.specs.declared.refusal.Refusal.{Refusal as Illegal}
-use Rattle.prepare_plan.specs.Verdict as plan
+use Rattle.capture_verdict.specs.declared.refusal.Refusal.{Refusal as Illegal}
+use Rattle.capture_verdict.specs.Verdict as plan
 use Rattle.replay_cli.specs.declared.capture.Opened.{Opened}
 use Rattle.replay_cli.specs.declared.capture.TheConstants.{ROOM}
 use Rattle.replay_cli.specs.declared.failure.Refusal.{Refusal}

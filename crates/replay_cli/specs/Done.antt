@@ -28,7 +28,8 @@ use Rattle.replay_cli.specs.declared.words.Command.TheVariants.{Run, Prepare, Ge
 use Rattle.replay_cli.specs.Command.{IsCallCount}
 use Rattle.replay_cli.specs.Decision.{Legal, Read, Task, ToReplay, ToTell, ToMake, ToTry}
 use Rattle.replay_cli.specs.Lines.{generated_line, prepared_line, replayed_line, trial_line}
-use Rattle.replay_cli.specs.Replay.{IsTrial, end_tables}
+use Rattle.job_laws.specs.Jobs.{IsTrial}
+use Rattle.replay_cli.specs.Replay.{end_tables}
 use Rattle.replay_cli.specs.Words.{journal_name, maps_name, report_name, requires_name, session_name, start_name, table_of_report_name, tables_name}
 
 abbrev pub all_commits : List Captured → ℕ

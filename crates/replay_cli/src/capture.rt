@@ -5,7 +5,7 @@ ghost use Rattle.desk_files.specs.Outside.{Told};
 ghost use Rattle.replay_job.specs.Job.{AreKnownOf};
 ghost use Rattle.replay_cli.specs.Decision.{IsOfCapture, LegalOf, OpenedIn, ReadIn, SessionOf};
 ghost use Rattle.replay_cli.specs.Done.{legal_of, read_of};
-ghost use Rattle.replay_cli.specs.Replay.{HasMoments, IsLegalFrom};
+ghost use Rattle.job_laws.specs.Jobs.{HasMoments, IsLegalFrom};
 ghost use Rattle.replay_cli.specs.Steps.{Answers, FaultFree, Step, Reading, seen_as};
 ghost use Rattle.replay_cli.specs.Words.{session_names};
 ghost use Rattle.capture_laws.specs.Sessions.{AreSessionsFrom};

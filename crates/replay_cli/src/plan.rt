@@ -14,7 +14,7 @@ ghost use Rattle.replay_cli.specs.Lines.{counted, counted_line, done_status, gen
 ghost use Rattle.replay_job.specs.Job.{seen};
 ghost use Rattle.replay_job.specs.Replays.{IsReplay, IsSoundJob};
 ghost use Rattle.replay_report.specs.Report.{report_in};
-ghost use Rattle.replay_cli.specs.Replay.{HasMoments, IsLegalFrom};
+ghost use Rattle.job_laws.specs.Jobs.{HasMoments, IsLegalFrom};
 ghost use Rattle.replay_cli.specs.Words.{start_name};
 
 use crate::replay::{replay, trial_of};

@@ -3,7 +3,7 @@
 ghost use Rattle.std.specs.Prelude.{◌≡◌, IfOk, map, [], ◌≤◌, length};
 ghost use Rattle.replay_job.specs.Job.{seen};
 ghost use Rattle.replay_job.specs.Replays.{IsReplay, IsSoundJob};
-ghost use Rattle.replay_cli.specs.Replay.{HasMoments, IsLegalFrom, IsTrial, plain_fact};
+ghost use Rattle.job_laws.specs.Jobs.{HasMoments, IsLegalFrom, IsTrial, plain_fact};
 
 use desk_schema::Start;
 use desk_values::{CallList, Captured, Copied, List, Memory};

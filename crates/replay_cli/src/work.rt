@@ -9,7 +9,7 @@ ghost use Rattle.replay_cli.specs.Command.{IsWithinLimits};
 ghost use Rattle.replay_cli.specs.Decision.{Decides, MayRefuse, PrepareIn, RunIn, job_of};
 ghost use Rattle.replay_cli.specs.Done.{IsTaskOf, IsWork, legal_of, task_of};
 ghost use Rattle.replay_cli.specs.Options.{HasWays};
-ghost use Rattle.replay_cli.specs.Replay.{HasMoments, IsLegalFrom};
+ghost use Rattle.job_laws.specs.Jobs.{HasMoments, IsLegalFrom};
 ghost use Rattle.replay_cli.specs.Steps.{Step, seen_as};
 
 use crate::capture::{Legal, read_capture, test};

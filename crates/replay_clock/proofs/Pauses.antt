@@ -7,22 +7,16 @@ use Rattle.desk_values.specs.declared.capture.Captured.{Captured}
 use Rattle.replay_history.specs.Gap.{IsCallAt, IsGap, IsJustBefore, IsPause, pause_of}
 use Rattle.replay_history.specs.Capture.{session_calls_before}
 use Rattle.replay_clock.specs.declared.gap.Gap.{Gap}
-use Rattle.replay_clock.specs.Gaps.{AreInPlace, IsGapOf, gap_after}
-use Rattle.replay_clock.proofs.Places.{at_push, just_before, one_at_place, one_more, same_call}
+use Rattle.history_laws.specs.Places.{AreInPlace}
+use Rattle.history_laws.proofs.Items.{at_push}
+use Rattle.history_laws.proofs.Places.{one_at_place, one_gap, one_more, same_call}
+use Rattle.replay_clock.specs.Gaps.{IsGapOf, gap_after}
 
 -- by session when its last call below a stamp ended
 abbrev pub AreEnds : List Captured → ℕ → List ℕ → Type 0
 AreEnds calls i ended = (j : ℕ) (before : Captured) → IsCallAt calls j before → before.place + 1 ≡ session_calls_before calls before.session i → get_or ended before.session 0 ≡ before.ended
 
 module _ (calls : List Captured) (each : AreInPlace calls) where
-  pub one_gap : (k : ℕ) (call : Captured) (gap other : ℕ) → IsCallAt calls k call → IsGap calls call gap → IsGap calls call other → gap ≡ other
-  one_gap k call gap other at is too = elim (cases_eq call.place 0) [
-    | inl first ↦ is.0 first ∙ sym (too.0 first)
-    | inr later ↦
-        let just = just_before calls each k call at (omega (arith, later)) in
-        is.1 just.0 just.1 just.2 just.3 ∙ sym (too.1 just.0 just.1 just.2 just.3)
-  ]
-
   pub gap_is : (k : ℕ) (call : Captured) (ended : List ℕ) → IsCallAt calls k call → AreEnds calls k ended → IsGap calls call (gap_after call (get_or ended call.session 0)).micros
   gap_is k call ended at ends = (first, later) where
     first : (call.place ≡ 0) → (gap_after call (get_or ended call.session 0)).micros ≡ call.began
@@ -63,4 +57,5 @@ module _ (calls : List Captured) (each : AreInPlace calls) where
 
 pub one_pause : (calls : List Captured) (connect think k p q : ℕ) (call : Captured) → AreInPlace calls → IsCallAt calls k call → IsPause calls connect think call p → IsPause calls connect think call q → p ≡ q
 one_pause calls connect think k p q call each at is too =
-    is.2 ∙ ap (λ (gap : ℕ). pause_of gap (if call.place == 0 then connect else think)) (one_gap calls each k call is.0 too.0 at is.1 too.1) ∙ sym too.2
+    let one = (one_gap calls each k call at).1.2 in
+    is.2 ∙ ap (λ (gap : ℕ). pause_of gap (if call.place == 0 then connect else think)) (one is.0 is.1 ∙ sym (one too.0 too.1)) ∙ sym too.2

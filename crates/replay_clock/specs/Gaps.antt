@@ -1,18 +1,8 @@
 -- The times before the calls of a capture.
-use Rattle.std.specs.Prelude.{◌≡◌, ℕ, ◌-◌, ◌<◌, ◌==◌, if◌then◌else◌, Some, List, length, slice_get}
+use Rattle.std.specs.Prelude.{◌≡◌, ℕ, ◌-◌, ◌==◌, if◌then◌else◌, Some, List, length, slice_get}
 use Rattle.desk_values.specs.declared.capture.Captured.{Captured}
 use Rattle.replay_history.specs.Gap.{IsCallAt, IsGap}
-use Rattle.replay_history.specs.Capture.{session_calls_before}
 use Rattle.replay_clock.specs.declared.gap.Gap.{Gap}
-
--- the call has a session's number, and as many calls of its session before it as it says
-pub record IsInPlace (calls : List Captured) (k : ℕ) (call : Captured) : Type 0 where
-  pub session : call.session < 64
-  pub place : call.place ≡ session_calls_before calls call.session k
-
--- so have the calls of a legal capture
-abbrev pub AreInPlace : List Captured → Type 0
-AreInPlace calls = (k : ℕ) (call : Captured) → IsCallAt calls k call → IsInPlace calls k call
 
 -- the time before a call, and whether it is its session's first
 pub record IsGapOf (calls : List Captured) (call : Captured) (gap : Gap) : Type 0 where

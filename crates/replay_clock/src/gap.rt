@@ -1,6 +1,7 @@
 ghost use Rattle.std.specs.Prelude.{◌≡◌, ◌≤◌, IfOk};
 ghost use Rattle.replay_history.specs.Gap.{pause_of};
-ghost use Rattle.replay_clock.specs.Gaps.{AreGaps, AreInPlace, gap_after};
+ghost use Rattle.history_laws.specs.Places.{AreInPlace};
+ghost use Rattle.replay_clock.specs.Gaps.{AreGaps, gap_after};
 
 use desk_values::{CallList, Captured, Copied, List, Memory};
 use std::alloc::Global;

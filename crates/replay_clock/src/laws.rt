@@ -3,7 +3,7 @@
 ghost use Rattle.std.specs.Prelude.{◌≡◌, ℕ, List};
 ghost use Rattle.desk_values.specs.declared.capture.Captured.{Captured};
 ghost use Rattle.replay_history.specs.Gap.{IsCallAt, IsPause};
-ghost use Rattle.replay_clock.specs.Gaps.{AreInPlace};
+ghost use Rattle.history_laws.specs.Places.{AreInPlace};
 
 /// A call of a legal capture has one pause.
 pub fn one_pause()

@@ -1,26 +1,24 @@
 -- What holds of the fields of a desk.
-use Rattle.std.specs.Prelude.{◌≡◌, ◌↔◌, ℕ, ◌+◌, ◌≤◌, ◌<◌, Bool, true, false, ◌&&◌, not, List, [], ◌++◌, length, replicate, count_by}
+use Rattle.std.specs.Prelude.{◌≡◌, ℕ, ◌+◌, ◌≤◌, ◌<◌, false, [], ◌++◌, length, replicate}
 use Rattle.desk_values.specs.declared.call.Reply.{Reply}
 use Rattle.desk_values.specs.declared.capture.Captured.{Captured}
-use Rattle.desk_values.specs.declared.capture.Event.{Event}
 use Rattle.desk_schema.specs.Start.{StartView}
 use Rattle.machine_model.specs.Machine.{Running}
 use Rattle.machine_model.specs.State.{State, opening}
 use Rattle.machine_model.specs.Step.{Gives}
 use Rattle.replay_history.specs.Gap.{IsCallAt}
-use Rattle.replay_history.specs.History.{IsAnswered}
-use Rattle.commit_gate.specs.Gates.{GateView, new_gate}
-use Rattle.commit_gate.specs.Heads.{is_in}
+use Rattle.commit_gate.specs.Gates.{new_gate}
 use Rattle.id_pairs.specs.Pairs.{HasNoIdTwice, learnt}
 use Rattle.remap_ids.specs.IdMap.{start_pairs}
 use Rattle.remap_ids.specs.Sent.{HasLowIds, sent}
 use Rattle.replay_clock.specs.Gaps.{AreGaps}
 use Rattle.replay_job.specs.Job.{JobView, seen}
 use Rattle.replay_job.specs.declared.job.Job.{Job}
-use Rattle.replay_job.specs.Runs.{IsStarted, Stage}
+use Rattle.replay_job.specs.Runs.{IsTruthfulFor, Stage}
+use Rattle.gate_law.specs.Following.{IsGateOf}
 use Rattle.replay_core.specs.declared.desk.Desk.TheInside.{Inside}
 use Rattle.replay_core.specs.declared.desk.Parts.{Parts}
-use Rattle.replay_core.specs.Desk.{DeskView, IsKept}
+use Rattle.replay_core.specs.Desk.{DeskView}
 
 abbrev pub stage_of : Inside → Stage
 stage_of a = record { state = a.engine.state; pairs = a.map.pairs }
@@ -28,32 +26,14 @@ stage_of a = record { state = a.engine.state; pairs = a.map.pairs }
 abbrev pub view_of : Inside → DeskView
 view_of a = record { job = seen a.job; history = a.history.items; stage = stage_of a; stopped = a.stopped }
 
--- how many stamps stand in a set
-abbrev pub size : List Bool → ℕ
-size stamps = count_by (λ there. there) stamps
-
--- the gate has just the starts and the answers of the history, and the waiting calls are those between
-pub record IsGateOf (job : JobView) (history : List Event) (gate : GateView) (waiting : List Bool) : Type 0 where
-  pub facts : gate.facts ≡ job.facts
-  pub mode : gate.mode ≡ job.mode
-  pub started_len : length gate.started ≡ length job.calls
-  pub answered_len : length gate.answered ≡ length job.calls
-  pub waiting_len : length waiting ≡ length job.calls
-  pub started : (k : ℕ) → (is_in gate.started k ≡ true) ↔ IsStarted history k
-  pub answered : (k : ℕ) → (is_in gate.answered k ≡ true) ↔ IsAnswered history k
-  pub between : (k : ℕ) → is_in waiting k ≡ (is_in gate.started k && not (is_in gate.answered k))
-
--- there is room for a start and an answer of each call, and the engine took a step for each answer
-pub record HasRoom (job : JobView) (gate : GateView) (spare steps : ℕ) : Type 0 where
-  pub room : length job.calls + length job.calls ≤ spare + (size gate.started + size gate.answered)
-  pub taken : steps ≡ size gate.answered
-
 pub record IsDesk (a : Inside) : Type 0 where
-  pub kept : IsKept (view_of a)
+  pub truthful : IsTruthfulFor (seen a.job) a.history.items (stage_of a)
   pub own : a.map.own ≡ length (start_pairs a.job.start)
   pub gaps : AreGaps a.job.calls.items a.gaps
   pub gate : IsGateOf (seen a.job) a.history.items a.gate a.waiting.items
-  pub room : HasRoom (seen a.job) a.gate a.history.spare a.engine.steps
+  -- for a start and an answer of each call
+  pub room : length a.job.calls.items + length a.job.calls.items ≤ a.history.spare + length a.history.items
+  pub steps : a.engine.steps ≤ length a.history.items
 
 -- the call can be executed: it can be sent, and whatever reply comes brings new ids on both sides
 pub record MayExecute (job : JobView) (stage : Stage) (k : ℕ) (call : Captured) : Type 0 where

@@ -1,4 +1,4 @@
-ghost use Rattle.std.specs.Prelude.{EachIndex, ◌≡◌, ◌<◌, ◌≤◌, ◌↔◌, ◌⊎◌, ◌+◌, ℕ, [], true, false, length, replicate, slice_index, IfOk, IfSome, IsTrue, MatchOption, OnErr, OnOk};
+ghost use Rattle.std.specs.Prelude.{EachIndex, ◌≡◌, ◌<◌, ◌≤◌, ◌↔◌, ◌⊎◌, ◌+◌, ℕ, [], true, false, length, replicate, slice_index, IfOk, IfSome, IsTrue, MatchOption, OnErr, OnOk, if◌then◌else◌};
 ghost use Rattle.desk_values.specs.declared.capture.Captured.{Captured};
 ghost use Rattle.machine_model.specs.Sound.{AreStanding};
 ghost use Rattle.machine_model.specs.State.{tables};
@@ -124,6 +124,13 @@ fn sheet_of(alloc: Global, calls: usize) -> Result<(History, Vec<bool>), Memory>
     Ok((history, waiting))
 }
 
+// How many hundredths of the time before a call are its pause, where it is its session's first and where not.
+fn percentage(job: &Job, first: bool) -> u32
+    ensures { result ≡ (if first then job.now.connect else job.now.think) }
+{
+    if first { job.connect } else { job.think }
+}
+
 impl Desk {
     /// The desk of a job of which nothing is started. It has room for a start and an answer of each call.
     pub fn setup(alloc: Global, job: Job) -> Result<Desk, Memory>
@@ -204,12 +211,7 @@ impl Desk {
         ensures { (call : Captured) → IsCallAt self.now.job.calls k call → IsPauseIn self.now.job call result }
     {
         let gap = self.gaps.as_slice()[k as usize];
-        let percent = if gap.first {
-            self.job.connect
-        } else {
-            self.job.think
-        };
-        pause(gap.micros, percent)
+        pause(gap.micros, percentage(&self.job, gap.first))
     }
 
     /// Starts a call, and gives the pause before it.

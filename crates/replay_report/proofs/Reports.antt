@@ -1,11 +1,12 @@
 -- Laws of the report.
-use Rattle.std.proofs.Common.{◌≡◌, ◌≢◌, ◌⊎◌, inl, inr, ℕ, zero, suc, ◌+◌, ◌<◌, ◌≤◌, Bool, true, false, cond, eqb, List, [], ◌∷◌, ◌++◌, map, length, get_or, take, Option, None, Some, refl, sym, ap, subst, ◌∙◌, append-nil, arith}
+use Rattle.std.proofs.Common.{◌≡◌, ◌≢◌, ◌⊎◌, inl, inr, ℕ, zero, suc, ◌+◌, ◌<◌, ◌≤◌, Bool, true, false, cond, eqb, List, [], ◌∷◌, ◌++◌, map, length, take, Option, None, Some, refl, sym, ap, subst, ◌∙◌, append-nil, arith, ⊎_elim}
 use Rattle.std.specs.Prelude.{◌↔◌, count_by, slice_get, sum}
 use Rattle.std.specs.List.{Contains, flat_map}
 use Rattle.std.specs.Option.{option_or}
 use Rattle.std.proofs.lemmas.Bool.{eq-eqb, eqb-false, eqb-true, ne_eqb}
 use Rattle.std.proofs.lemmas.List.{length-map}
-use Rattle.std.proofs.lemmas.Option.{slice_get_within}
+use Rattle.std.proofs.lemmas.Option.{same_Some, slice_get_within}
+use Rattle.desk_schema.proofs.Members.{Contains-cases, Contains-none}
 use Rattle.std.proofs.lemmas.List.Sums.{sum_by-append}
 use Rattle.std.proofs.lemmas.List.Elements.{Contains-append_cases, Contains-append_left, Contains-append_right}
 use Rattle.desk_values.specs.declared.call.Reply.{Reply}
@@ -45,14 +46,8 @@ not_in calls call pairs (first ∷ xs) never =
     let known = pairs ++ gained calls first in
     ap (λ o. option_or o (class_by call first known)) (not_in calls call known xs (λ j. never (suc j))) ∙ not_by call first xs known never
 
-event_is : (a b : Event) → ◌≡◌ {A = Option Event} (Some a) (Some b) → a ≡ b
-event_is a b e = cc
-
 by_own : (call : Captured) (reply : Reply) (pairs : List IdPair) → class_by call (Answer call.stamp reply) pairs ≡ Some (class_between pairs call.reply reply)
-by_own call reply pairs = ap (λ (b : Bool). cond b (Some (class_between pairs call.reply reply)) None) (eq_self call.stamp)
-  where
-    eq_self : (n : ℕ) → eqb n n ≡ true
-    eq_self n = eq-eqb n n refl
+by_own call reply pairs = ap (λ (b : Bool). cond b (Some (class_between pairs call.reply reply)) None) (eq-eqb call.stamp call.stamp refl)
 
 own_in : (calls : List Captured) (call : Captured) (pairs : List IdPair) (xs : List Event) (i : ℕ) (reply : Reply) → ((j : ℕ) (other : Reply) → slice_get xs j ≡ Some (Answer call.stamp other) → j ≡ i) → slice_get xs i ≡ Some (Answer call.stamp reply) → last_of (class_at call) (marked calls pairs xs) ≡ Some (class_between (pairs ++ learnt_in calls (take (suc i) xs)) call.reply reply)
 unfolding NoAnswer
@@ -61,7 +56,7 @@ own_in calls call pairs (first ∷ xs) zero reply once at =
     let known = pairs ++ gained calls first in
     let none = not_in calls call known xs (λ j other later. let never = once (suc j) other later in absurd (omega arith)) in
     let whole : known ≡ pairs ++ learnt_in calls (first ∷ []) = sym (append-nil known) ∙ known_more calls pairs first [] in
-    ap (λ o. option_or o (class_by call first known)) none ∙ ap (λ (e : Event). class_by call e known) (event_is first (Answer call.stamp reply) at) ∙ by_own call reply known ∙ ap (λ (ps : List IdPair). Some (class_between ps call.reply reply)) whole
+    ap (λ o. option_or o (class_by call first known)) none ∙ ap (λ (e : Event). class_by call e known) (same_Some first (Answer call.stamp reply) at) ∙ by_own call reply known ∙ ap (λ (ps : List IdPair). Some (class_between ps call.reply reply)) whole
 own_in calls call pairs (first ∷ xs) (suc i) reply once at =
     let known = pairs ++ gained calls first in
     let rest = own_in calls call known xs i reply (λ j other later. (let next = once (suc j) other later in omega arith)) at in
@@ -159,18 +154,10 @@ unfolding lines_from
 by_stamp job history stamps = rising job history job.calls 0 0 (λ k call at. stamps k call at ∙ omega arith) (omega arith)
 
 single : (l x : Line) → Contains (l ∷ []) x → l ≡ x
-single l x h = go h.0 h.1 h.2
-  where
-    go : (k : ℕ) → k < 1 → get_or (l ∷ []) k x ≡ x → l ≡ x
-    go zero lt e = e
-    go (suc k) lt e = absurd (omega arith)
-
-abbrev built : ℕ → ℕ → ℕ → Class → Line
-built stamp session place class = record { stamp = stamp; session = session; place = place; class = class }
+single l x h = ⊎_elim (λ is. is) (λ later. absurd (Contains-none x later)) (Contains-cases l [] x h)
 
 line_is : (call : Captured) (l : Line) → l.stamp ≡ call.stamp → l.session ≡ call.session → l.place ≡ call.place → (class : Class) → class ≡ l.class → line_for call class ≡ l
-line_is call l s t p class e =
-    ap (λ (n : ℕ). built n call.session call.place class) (sym s) ∙ ap (λ (n : ℕ). built l.stamp n call.place class) (sym t) ∙ ap (λ (n : ℕ). built l.stamp l.session n class) (sym p) ∙ ap (built l.stamp l.session l.place) e
+line_is call l s t p class e = λ i. record { stamp = sym s i; session = sym t i; place = sym p i; class = e i }
 
 module _ (job : JobView) (history : List Event) (l : Line) where
   line_here : (call : Captured) → IsCallAt job.calls call.stamp call → Contains (difference call (class_of job history call)) l → IsLineOf job history l
@@ -192,10 +179,7 @@ module _ (job : JobView) (history : List Event) (l : Line) where
   placed : (calls : List Captured) (k : ℕ) (call : Captured) → IsCallAt calls k call → Contains (difference call (class_of job history call)) l → Contains (lines_from job history calls) l
   unfolding lines_from
   placed [] k call at h = absurd cc
-  placed (first ∷ calls) zero call at h = Contains-append_left (difference first (class_of job history first)) (lines_from job history calls) l (subst (λ (c : Captured). Contains (difference c (class_of job history c)) l) (call_is call first (sym at)) h)
-    where
-      call_is : (a b : Captured) → ◌≡◌ {A = Option Captured} (Some a) (Some b) → a ≡ b
-      call_is a b e = cc
+  placed (first ∷ calls) zero call at h = Contains-append_left (difference first (class_of job history first)) (lines_from job history calls) l (subst (λ (c : Captured). Contains (difference c (class_of job history c)) l) (same_Some call first (sym at)) h)
   placed (first ∷ calls) (suc k) call at h = Contains-append_right (difference first (class_of job history first)) (lines_from job history calls) l (placed calls k call at h)
 
   shown : HasOwnStamps job.calls → (is : IsLineOf job history l) → Contains (difference is.call (class_of job history is.call)) l

@@ -1,5 +1,5 @@
 -- Words for the steps of the work.
-use Rattle.std.specs.Prelude.{◌≡◌, ℕ, ◌<◌, false, List, [], ◌∷◌, ◌++◌, length, take, Option, None, slice_index_or, option_copied, Vec}
+use Rattle.std.specs.Prelude.{◌≡◌, ℕ, false, List, [], ◌∷◌, ◌++◌, Option, None, Some, slice_get, slice_index_or, slice_set, option_copied, Vec}
 use Rattle.std.specs.declared.alloc.Global.{Global}
 use denote.Ref.{Bor}
 use Rattle.csv.specs.declared.writer.Writer.{Writer}
@@ -9,10 +9,11 @@ use Rattle.desk_values.specs.declared.capture.Captured.{Captured}
 use Rattle.desk_values.specs.declared.capture.Event.{Event}
 use Rattle.replay_history.specs.declared.report.Class.{Class}
 use Rattle.replay_history.specs.declared.report.Line.{Line}
-use Rattle.id_pairs.specs.Pairs.{HasNoIdTwice}
-use Rattle.replay_job.specs.Job.{JobView}
-use Rattle.replay_report.specs.Differences.{captured_reply, fields_of, record_text, reply_in}
-use Rattle.replay_report.specs.Report.{difference, pairs_after}
+use Rattle.desk_values.specs.declared.capture.Event.TheVariants.{Start, Answer}
+use Rattle.id_pairs.specs.Pairs.{IdPair}
+use Rattle.divergence.specs.Class.{class_between}
+use Rattle.replay_report.specs.Differences.{captured_reply, fields_of, record_text}
+use Rattle.replay_report.specs.Report.{difference, gained}
 
 -- the writer has its defaults and stands between two records
 pub record IsBetween (writer : Writer (Vec ℕ Global)) : Type 0 where
@@ -24,9 +25,10 @@ pub record IsBetween (writer : Writer (Vec ℕ Global)) : Type 0 where
 abbrev pub written : Writer (Vec ℕ Global) → List ℕ
 written writer = (writer_under writer).items ++ writer_pending writer
 
--- each slot holds the reply of the call with its stamp
-abbrev pub AreRepliesOf : List Event → List (Option (Bor Reply)) → Type 0
-AreRepliesOf events replies = (k : ℕ) → k < length replies → option_copied (slice_index_or replies k None) ≡ reply_in k events
+-- the replies by stamp, with that of the event, where it answers one of these calls
+abbrev pub with_answer : List (Option Reply) → Event → List (Option Reply)
+with_answer replies (Start k pause) = replies
+with_answer replies (Answer k reply) = slice_set replies k (Some reply)
 
 -- the record of a line, where its slot holds the replayed reply
 abbrev pub slot_record : List Captured → List (Option (Bor Reply)) → Line → List ℕ
@@ -37,6 +39,17 @@ abbrev pub differences : List Captured → List (Option Class) → List Line
 differences (call ∷ calls) (class ∷ classes) = difference call class ++ differences calls classes
 differences calls classes = []
 
--- at no time does an id stand twice on one side
-abbrev pub HasPairsOnce : JobView → List Event → Type 0
-HasPairsOnce job history = (i : ℕ) → HasNoIdTwice (pairs_after job (take i history))
+-- the classes by stamp, with that of the call which is answered so, by these pairs
+abbrev pub noted_on : Option Captured → List IdPair → ℕ → Reply → List (Option Class) → List (Option Class)
+noted_on None pairs k reply classes = classes
+noted_on (Some call) pairs k reply classes = slice_set classes k (Some (class_between pairs call.reply reply))
+
+-- the same of an event and the pairs just behind it
+abbrev pub noted : List Captured → List IdPair → Event → List (Option Class) → List (Option Class)
+noted calls pairs (Start k pause) classes = classes
+noted calls pairs (Answer k reply) classes = noted_on (slice_get calls k) pairs k reply classes
+
+-- the same of each event in turn, behind others that gave these pairs
+abbrev pub walked : List Captured → List IdPair → List Event → List (Option Class) → List (Option Class)
+walked calls pairs [] classes = classes
+walked calls pairs (event ∷ events) classes = let known = pairs ++ gained calls event in walked calls known events (noted calls known event classes)

@@ -1,12 +1,11 @@
 //! The calls that differ, as comma-separated fields.
 
-ghost use Rattle.std.specs.Prelude.{◌≡◌, ◌++◌, ◌∷◌, [], None, IfOk, OnOk, map, length, slice_index_or, List as Sequence};
-ghost use Rattle.desk_values.specs.declared.capture.Event.{Event as AnyEvent};
-ghost use Rattle.std.specs.List.{flat_map};
+ghost use Rattle.std.specs.Prelude.{◌≡◌, ◌++◌, ◌<◌, ℕ, None, IfOk, OnOk, length, map, replicate, slice_index_or};
+ghost use Rattle.std.specs.List.{flat_map, fold};
 ghost use Rattle.std.specs.Option.{option_copied};
 ghost use Rattle.std.specs.Fmt.{decimal};
 ghost use Rattle.replay_report.specs.Differences.{captured_reply, csv_text, fields_of, head_fields, record_text, reply_field};
-ghost use Rattle.replay_report.specs.Written.{AreRepliesOf, IsBetween, slot_record, written};
+ghost use Rattle.replay_report.specs.Written.{IsBetween, slot_record, with_answer, written};
 
 use capture_format::append_reply;
 use csv::{Writer, WriterBuilder};
@@ -43,28 +42,32 @@ fn replies_of<'a>(
     count: usize,
     events: &'a [Event],
 ) -> Result<Vec<Option<&'a Reply>>, Memory>
-    ensures count { IfOk result (λ replies. length replies.items ≡ count) }
-    ensures are { IfOk result (λ replies. AreRepliesOf events.now replies.items) }
+    ensures { IfOk result (λ replies. map option_copied replies.items ≡ fold with_answer (replicate count None) events.now) }
 {
-    let mut replies = vec![in alloc; None; count]?;
+    let mut replies = no_replies(alloc, count)?;
     for event in events {
         note(&mut replies, event);
     }
     Ok(replies)
 }
 
+// No reply yet to each of as many calls.
+fn no_replies<'a>(alloc: Global, count: usize) -> Result<Vec<Option<&'a Reply>>, Memory>
+    ensures count { IfOk result (λ replies. length replies.items ≡ count) }
+    ensures none { IfOk result (λ replies. (k : ℕ) → k < length replies.items → option_copied (slice_index_or replies.items k None) ≡ None) }
+{
+    let replies = vec![in alloc; None; count]?;
+    Ok(replies)
+}
+
 // Notes the reply of an answer. That to a call with another stamp is left out.
 fn note<'a>(replies: &mut Vec<Option<&'a Reply>>, event: &'a Event)
-    ensures count { length replies.new.items ≡ length replies.old.items }
-    ensures are { (events : Sequence AnyEvent) → AreRepliesOf events replies.old.items → AreRepliesOf (events ++ event.now ∷ []) replies.new.items }
+    ensures { map option_copied replies.new.items ≡ with_answer (map option_copied replies.old.items) event.now }
 {
-    match event {
-        Event::Start(_, _) => {}
-        Event::Answer(stamp, reply) => {
-            let stamp = *stamp as usize;
-            if stamp < replies.len() {
-                replies[stamp] = Some(reply);
-            }
+    if let Event::Answer(stamp, reply) = event {
+        let stamp = *stamp as usize;
+        if stamp < replies.len() {
+            replies[stamp] = Some(reply);
         }
     }
 }

@@ -2,13 +2,14 @@
 
 ghost use Rattle.std.specs.Prelude.{◌≡◌, ◌++◌, ◌<◌, None, Some, IfOk, OnOk, length, map, replicate, slice_set, count_by};
 ghost use Rattle.id_pairs.specs.Pairs.{HasNoIdTwice, learnt};
+ghost use Rattle.remap_ids.specs.IdMap.{start_pairs};
 ghost use Rattle.replay_job.specs.Job.{IsReplayable, seen};
-ghost use Rattle.replay_job.specs.Runs.{IsCompleteFor, IsLegalFor, Stage};
+ghost use Rattle.replay_job.specs.Runs.{IsCompleteFor, Stage, learnt_in};
 ghost use Rattle.divergence.specs.Class.{class_between};
-ghost use Rattle.replay_report.specs.Report.{class_of, counts_of, difference, is_class, pairs_after, report_in};
-ghost use Rattle.replay_report.specs.Laws.{HasOwnStamps};
-ghost use Rattle.replay_report.specs.Written.{HasPairsOnce, differences};
+ghost use Rattle.replay_report.specs.Report.{counts_of, difference, gained, is_class, report_in};
+ghost use Rattle.replay_report.specs.Written.{differences, noted, walked};
 
+use desk_schema::Start;
 use desk_values::{Captured, Event, History, List, Memory, Reply};
 use divergence::class_of;
 use remap_ids::IdMap;
@@ -23,40 +24,31 @@ pub fn report_of(alloc: Global, job: &Job, history: &History) -> Result<Report, 
     requires complete { (last : Stage) × IsCompleteFor (seen job.now) history.now.items last }
     ensures { IfOk result (λ report. report ≡ report_in (seen job.now) history.now.items) }
 {
-    let classes = classes_of(alloc, job, history.as_slice())?;
-    let lines = lines_of(alloc, job.calls.as_slice(), classes.as_slice())?;
+    let calls = job.calls.as_slice();
+    let classes = classes_of(alloc, &job.start, calls, history.as_slice())?;
+    let lines = lines_of(alloc, calls, classes.as_slice())?;
     Ok(Report {
-        calls: job.calls.len() as u64,
+        calls: calls.len() as u64,
         counts: counts_of(classes.as_slice()),
         lines,
     })
 }
 
 // The class of each call, by stamp.
-fn classes_of(alloc: Global, job: &Job, events: &[Event]) -> Result<Vec<Option<Class>>, Memory>
-    requires stamps { HasOwnStamps job.now.calls.items }
-    requires legal { IsLegalFor (seen job.now) events.now }
-    requires once { HasPairsOnce (seen job.now) events.now }
-    ensures { IfOk result (λ classes. classes.items ≡ map (class_of (seen job.now) events.now) job.now.calls.items) }
+fn classes_of(
+    alloc: Global,
+    start: &Start,
+    calls: &[Captured],
+    events: &[Event],
+) -> Result<Vec<Option<Class>>, Memory>
+    requires once { HasNoIdTwice (start_pairs start.now ++ learnt_in calls.now events.now) }
+    ensures count { IfOk result (λ classes. length classes.items ≡ length calls.now) }
+    ensures classes { IfOk result (λ classes. classes.items ≡ walked calls.now (start_pairs start.now) events.now (replicate (length calls.now) None)) }
 {
-    let calls = job.calls.as_slice();
     let mut classes = no_classes(alloc, calls.len())?;
-    let mut map = IdMap::from_start(alloc, &job.start)?;
+    let mut map = IdMap::from_start(alloc, start)?;
     for event in events {
-        match event {
-            Event::Start(_, _) => {}
-            Event::Answer(stamp, reply) => {
-                let stamp = *stamp as usize;
-                note_class(
-                    alloc,
-                    stamp,
-                    &calls[stamp].reply,
-                    reply,
-                    &mut map,
-                    &mut classes,
-                )?;
-            }
-        }
+        note_event(alloc, calls, event, &mut map, &mut classes)?;
     }
     Ok(classes)
 }
@@ -67,6 +59,30 @@ fn no_classes(alloc: Global, count: usize) -> Result<Vec<Option<Class>>, Memory>
 {
     let classes = vec![in alloc; None; count]?;
     Ok(classes)
+}
+
+// Learns the pairs that an event gives, and then notes the class of the call that it answers.
+fn note_event(
+    alloc: Global,
+    calls: &[Captured],
+    event: &Event,
+    map: &mut IdMap,
+    classes: &mut Vec<Option<Class>>,
+) -> Result<(), Memory>
+    requires once { HasNoIdTwice (map.old.pairs ++ gained calls.now event.now) }
+    requires count { length classes.old.items ≡ length calls.now }
+    ensures count { OnOk result (length classes.new.items ≡ length calls.now) }
+    ensures pairs { OnOk result (map.new.pairs ≡ map.old.pairs ++ gained calls.now event.now) }
+    ensures classes { OnOk result (classes.new.items ≡ noted calls.now (map.old.pairs ++ gained calls.now event.now) event.now classes.old.items) }
+{
+    let Event::Answer(stamp, reply) = event else {
+        return Ok(());
+    };
+    let stamp = *stamp as usize;
+    match calls.get(stamp) {
+        Some(call) => note_class(alloc, stamp, &call.reply, reply, map, classes),
+        None => Ok(()),
+    }
 }
 
 // Learns the pairs of the two replies to the call with this stamp, and then notes its class.

@@ -1,14 +1,36 @@
-use Rattle.std.proofs.Common.{◌≡◌, ◌≤◌, List, length, ap, ◌∙◌, arith}
+use Rattle.std.proofs.Common.{◌≡◌, ◌≤◌, List, length, refl, sym, ap, subst, ◌∙◌, arith}
+use Rattle.std.specs.Prelude.{Option, None, Some, Result, Ok}
+use Rattle.std.specs.List.{AllByRecursion}
 use Rattle.std.proofs.lemmas.List.{length-map}
 use denote.Ref.{Bor}
 use Rattle.desk_values.specs.Room.{Room}
 use Rattle.desk_values.specs.declared.capture.Captured.{Captured}
-use Rattle.capture_laws.specs.Stamps.{all_calls}
-use Rattle.prepare_plan.specs.Inside.{shown}
+use Rattle.capture_laws.specs.Sessions.{AreSessionsFrom}
+use Rattle.capture_laws.specs.Stamps.{all_calls, by_stamp}
+use Rattle.capture_laws.proofs.Stamping.{by_stamp_len}
+use Rattle.capture_verdict.specs.declared.refusal.Refusal.{Refusal}
+use Rattle.capture_verdict.specs.Fit.{IsFit}
+use Rattle.capture_verdict.specs.Tests.{bad_stamp}
+use Rattle.capture_verdict.proofs.Legality.{all_stamped, fit_by_stamp, fit_lists, ok_is}
+use Rattle.prepare_plan.specs.Inside.{ordered, ordered_or, shown}
 use Rattle.prepare_plan.specs.Lists.{lists_of}
-use Rattle.prepare_plan.proofs.Legality.{order_few, order_fit}
 use Rattle.prepare_plan.proofs.prepared.judged.Goals as goal
 use Rattle.prepare_plan.proofs.prepared.judged.Goals.{In_ok-calls}
+
+ordered_case : (fault : Option Refusal) (calls items : List Captured) → ordered_or fault calls ≡ Ok items → (fault ≡ None) × (items ≡ by_stamp calls)
+ordered_case None calls items is = (refl, ok_is _ items is)
+ordered_case (Some fault) calls items is = cc
+
+module _ (lists : List (List Captured)) (calls items : List Captured) (all : calls ≡ all_calls lists) (given : ordered calls ≡ Ok items) where
+  -- no stamp is bad, and the calls stand by stamp
+  order_is : (bad_stamp (all_calls lists) ≡ None) × (items ≡ by_stamp (all_calls lists))
+  order_is = ordered_case (bad_stamp (all_calls lists)) (all_calls lists) items (sym (ap ordered all) ∙ given)
+
+  order_fit : length lists ≤ 64 → AreSessionsFrom 0 lists → AllByRecursion IsFit items
+  order_fit few are = subst (AllByRecursion IsFit) (sym order_is.1) (fit_by_stamp (all_calls lists) (all_stamped (all_calls lists) order_is.0) (fit_lists 0 lists (omega (arith, few)) are))
+
+  order_few : length calls ≤ 100000 → length items ≤ 100000
+  order_few few = omega (arith, few, ap length all, by_stamp_len (all_calls lists) (all_stamped (all_calls lists) order_is.0), ap length order_is.1)
 
 abbrev lists : In_ok-calls → List (List Captured)
 lists c = lists_of c.args.sessions.now

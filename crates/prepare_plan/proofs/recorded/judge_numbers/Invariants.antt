@@ -1,5 +1,5 @@
 use Rattle.std.proofs.Common.{◌≡◌, ◌≤◌, [], take, drop}
-use Rattle.prepare_plan.specs.Tests.{bad_number, commits_in, first_refused}
+use Rattle.capture_verdict.specs.Tests.{bad_number, commits_in, first_refused}
 use Rattle.prepare_plan.proofs.recorded.judge_numbers.Given as goal
 
 abbrev pub invariant-loop-call : goal.invariant-loop-call

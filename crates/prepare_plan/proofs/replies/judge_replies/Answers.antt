@@ -1,5 +1,5 @@
 use Rattle.std.proofs.Common.{sym, ◌∙◌, ap, ◌+◌, ℕ, take}
-use Rattle.prepare_plan.specs.Tests.{bad_reply}
+use Rattle.capture_verdict.specs.Tests.{bad_reply}
 use Rattle.prepare_plan.proofs.Walking.{reply_passes, run_next}
 use Rattle.capture_laws.proofs.Scanning.{walk_on}
 use Rattle.prepare_plan.proofs.replies.judge_replies.Goals as goal

@@ -1,5 +1,5 @@
 use Rattle.prepare_plan.specs.Lists.{lists_of}
-use Rattle.replay_cli.proofs.Jobs.{plan_known, plan_moments}
+use Rattle.job_laws.proofs.Jobs.{plan_known, plan_moments}
 use Rattle.replay_cli.proofs.capture.test.Goals as goal
 
 pub returns-in-Ok-clause-known : goal.returns-in-Ok-clause-known

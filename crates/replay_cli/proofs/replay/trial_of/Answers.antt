@@ -1,6 +1,6 @@
 use Rattle.std.proofs.Common.{◌∙◌, ap, map}
-use Rattle.replay_cli.specs.Replay.{plain_fact}
-use Rattle.replay_cli.proofs.Jobs.{trial_sound}
+use Rattle.job_laws.specs.Jobs.{plain_fact}
+use Rattle.job_laws.proofs.Jobs.{trial_sound}
 use Rattle.replay_cli.proofs.replay.trial_of.Goals as goal
 
 pub returns-clause-sound : goal.returns-clause-sound

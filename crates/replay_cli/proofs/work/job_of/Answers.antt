@@ -1,4 +1,4 @@
-use Rattle.replay_cli.proofs.Jobs.{sound_job}
+use Rattle.job_laws.proofs.Jobs.{sound_job}
 use Rattle.replay_cli.proofs.work.job_of.Goals as goal
 
 pub returns-clause-sound : goal.returns-clause-sound

@@ -3,7 +3,7 @@ use Rattle.replay_history.specs.Gap.{IsCallAt}
 use Rattle.replay_clock.specs.declared.gap.Gap.{Gap}
 use Rattle.replay_clock.specs.Gaps.{gap_after}
 use Rattle.replay_clock.proofs.Pauses.{AreGapsBelow, ends_more, gaps_more}
-use Rattle.replay_clock.proofs.Places.{item_at}
+use Rattle.history_laws.proofs.Items.{item_at}
 use Rattle.replay_clock.proofs.gap.gaps_of.Goals as goal
 
 pub loop-call-preserved : goal.loop-call-preserved

@@ -1,5 +1,4 @@
-use Rattle.replay_core.proofs.Truth.{complete}
 use Rattle.replay_core.proofs.laws.all_answered_is_complete.Goals as goal
 
 pub returns : goal.returns
-returns c = λ desk kept whole. complete desk kept whole
+returns c = λ desk kept whole. record { legal = kept.legal; truthful = kept.truthful; whole = whole }

@@ -1,6 +1,8 @@
-use Rattle.std.proofs.Common.{◌≡◌, length, take}
-use Rattle.replay_report.specs.Written.{AreRepliesOf}
+use Rattle.std.proofs.Common.{◌≡◌, map, None, replicate, take}
+use Rattle.std.specs.List.{fold}
+use Rattle.std.specs.Prelude.{option_copied}
+use Rattle.replay_report.specs.Written.{with_answer}
 use Rattle.replay_report.proofs.differences.replies_of.Given as goal
 
 abbrev pub invariant-loop-event : goal.invariant-loop-event
-invariant-loop-event l = record { count : length l.replies.items ≡ l.count; are : AreRepliesOf (take l.event-index l.events) l.replies.items }
+invariant-loop-event l = map option_copied l.replies.items ≡ fold with_answer (replicate l.count None) (take l.event-index l.events)

@@ -1,6 +1,9 @@
-use Rattle.std.proofs.Common.{◌≡◌, ℕ, List, [], refl, subst}
+use Rattle.std.proofs.Common.{◌≡◌, ◌∙◌, ◌++◌, ℕ, List, [], ap, refl, subst}
 use Rattle.std.specs.Prelude.{IfOk}
-use Rattle.replay_report.specs.Written.{written}
+use Rattle.std.specs.List.{flat_map}
+use Rattle.replay_history.specs.declared.report.Line.{Line}
+use Rattle.replay_report.specs.Differences.{csv_text, head_fields, record_text}
+use Rattle.replay_report.specs.Written.{slot_record, written}
 use Rattle.replay_report.proofs.Lasts.{csv_is}
 use Rattle.replay_report.proofs.differences.report_csv.Goals as goal
 
@@ -8,4 +11,9 @@ pub returns : goal.returns
 returns c =
     let from = c.from_writer-writer.ensures in
     let empty : written c.from_writer-writer.result ≡ [] = rw (from.wtr, c.new-2.ensures.items, from.empty) refl in
-    subst (λ (text : List ℕ). IfOk c.bytes_of.result (λ bytes. bytes ≡ text)) (csv_is c.args.job.now.calls.items c.as_slice-calls.result.now c.args.history.now.items c.as_slice.result.now c.args.r.now.lines c.as_slice-2.result.now c.in_ok-replies.replies.items c.as_slice-3.result.now (written c.from_writer-writer.result) (written c.write_head.new.writer) (written c.write_lines.new.writer) c.as_slice-calls.ensures c.as_slice.ensures c.as_slice-2.ensures c.as_slice-3.ensures.value c.in_ok-replies.ensures.count c.in_ok-replies.ensures.are empty c.in_ok-write_head.ensures.written c.in_ok-write_lines.ensures.written) c.bytes_of.ensures
+    let calls = c.as_slice-calls.result.now in
+    let replies = c.in_ok-replies.replies.items in
+    let text = csv_is calls c.as_slice.result.now c.as_slice-2.result.now replies c.in_ok-replies.ensures in
+    let whole : written c.write_lines.new.writer ≡ csv_text calls c.as_slice.result.now c.as_slice-2.result.now =
+    rw (c.in_ok-write_lines.ensures.written, c.as_slice-3.ensures.value, c.in_ok-write_head.ensures.written, empty) text in
+    subst (λ (text : List ℕ). IfOk c.bytes_of.result (λ bytes. bytes ≡ text)) (rw (c.as_slice-calls.ensures, c.as_slice.ensures, c.as_slice-2.ensures) at whole) c.bytes_of.ensures

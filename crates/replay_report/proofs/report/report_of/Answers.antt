@@ -1,13 +1,22 @@
+use Rattle.std.proofs.Common.{◌∙◌, ap, length}
+use Rattle.desk_values.specs.declared.capture.Captured.{Captured}
+use Rattle.replay_history.specs.declared.report.Class.{Class}
+use Rattle.std.specs.Prelude.{List, Option}
 use Rattle.replay_job.specs.Job.{seen}
-use Rattle.replay_report.proofs.Classes.{always_once, report_is}
+use Rattle.replay_report.specs.Report.{counts_of}
+use Rattle.replay_report.specs.Written.{differences}
+use Rattle.replay_report.proofs.Classes.{report_is}
 use Rattle.replay_report.proofs.Once.{once_of}
 use Rattle.replay_report.proofs.report.report_of.Goals as goal
 
-pub classes_of-requires-clause-stamps : goal.classes_of-requires-clause-stamps
-classes_of-requires-clause-stamps c = λ k call at. (c.requires.replayable.legal.each k call at).stamp
-
-pub classes_of-requires-clause-once : goal.classes_of-requires-clause-once
-classes_of-requires-clause-once c = always_once (seen c.args.job.now) c.args.history.now.items c.as_slice.result.now c.as_slice.ensures (once_of (seen c.args.job.now) c.args.history.now.items c.requires.replayable c.requires.complete)
+pub classes_of-requires : goal.classes_of-requires
+classes_of-requires c = rw (c.as_slice-calls.ensures, c.as_slice.ensures) (record { once = once_of (seen c.args.job.now) c.args.history.now.items c.requires.replayable c.requires.complete })
 
 pub returns : goal.returns
-returns c = report_is (seen c.args.job.now) c.args.history.now.items c.as_slice.result.now c.as_slice-2.result.now c.in_ok-classes.classes.items c.as_slice-4.result.now c.as_slice-3.result.now c.len.result c.counts_of.result c.in_ok-lines.lines c.as_slice.ensures c.as_slice-2.ensures c.in_ok-classes.ensures c.as_slice-4.ensures.value c.as_slice-3.ensures.value c.len.ensures c.counts_of.ensures c.in_ok-lines.ensures
+returns c =
+    let job = seen c.args.job.now in
+    let is = report_is job c.args.history.now.items (λ k call at. (c.requires.replayable.legal.each k call at).stamp) c.in_ok-classes.classes.items (rw (c.as_slice-calls.ensures, c.as_slice.ensures) at c.in_ok-classes.ensures.classes) in
+    let calls = ap length c.as_slice-calls.ensures in
+    let counts = c.counts_of.ensures ∙ ap counts_of c.as_slice-3.ensures.value ∙ is.0 in
+    let lines = c.in_ok-lines.ensures ∙ ap (λ (calls : List Captured). differences calls c.as_slice-2.result.now) c.as_slice-calls.ensures ∙ ap (differences job.calls) c.as_slice-2.ensures.value ∙ is.1 in
+    λ i. record { calls = calls i; counts = counts i; lines = lines i }

@@ -11,8 +11,7 @@ use Rattle.remap_ids.proofs.pairs.Pairs.has_either.Goals as goal
 
 pub returns-then-contains_key : goal.returns-then-contains_key
 returns-then-contains_key c =
-    let own = ap (λ (view : PairsView). view.pairs) c.self.view_is in
-    let first : c.contains_key.result ≡ is_some (image_in c.args.self.now.pairs c.args.captured) = c.contains_key.ensures ∙ ap (λ eq. is_some (lookup (eq c.args.captured) c.self.inside.by_captured.entries)) derived_is_same ∙ ap (λ (pairs : List IdPair). is_some (image_in pairs c.args.captured)) own in
+    let first : c.contains_key.result ≡ is_some (image_in c.args.self.now.pairs c.args.captured) = c.contains_key.ensures ∙ ap (λ eq. is_some (lookup (eq c.args.captured) c.self.inside.by_captured.entries)) derived_is_same ∙ ap (λ (view : PairsView). is_some (image_in view.pairs c.args.captured)) c.self.view_is in
     c.if-contains_key.true ∙ ap (λ (there : Bool). there || list_any (same_id c.args.replayed) (replayed_of c.args.self.now.pairs)) (sym c.if-contains_key.true ∙ first) ∙ tests c.args.self.now.pairs c.args.captured c.args.replayed
 
 pub returns-else-contains_key : goal.returns-else-contains_key

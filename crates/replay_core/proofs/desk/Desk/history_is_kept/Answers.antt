@@ -1,6 +1,4 @@
-use Rattle.std.proofs.Common.{subst}
-use Rattle.replay_core.specs.Desk.{IsKept}
 use Rattle.replay_core.proofs.desk.Desk.history_is_kept.Goals as goal
 
 pub returns : goal.returns
-returns c = subst IsKept c.self.view_is c.self.invariant.kept
+returns c = let is = c.self.invariant in rw (← c.self.view_is) (record { replayable = is.gate.replayable; legal = is.gate.legal; truthful = is.truthful })

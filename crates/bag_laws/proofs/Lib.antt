@@ -1,0 +1,4 @@
+pub mod RowOrder
+pub mod Counts
+pub mod SameRows
+pub mod SameImages

@@ -1,0 +1,9 @@
+-- What holds of the calls of sessions.
+use Rattle.std.specs.Prelude.{ℕ, ◌<◌}
+use Rattle.desk_values.specs.Good.{IsGoodReply}
+use Rattle.desk_values.specs.declared.capture.Captured.{Captured}
+
+-- a session that there is, and a reply that can be written
+pub record IsFit (call : Captured) : Type 0 where
+  pub session : call.session < 64
+  pub reply : IsGoodReply call.reply

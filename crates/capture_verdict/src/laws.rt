@@ -1,0 +1,16 @@
+//! Laws of the verdict. A call does nothing: its clause is the law.
+
+ghost use Rattle.std.specs.Prelude.{◌≡◌, ◌≤◌, List, Ok, length};
+ghost use Rattle.desk_values.specs.declared.capture.Captured.{Captured};
+ghost use Rattle.desk_schema.specs.Start.{StartView};
+ghost use Rattle.object_depends.specs.Facts.{AreSound};
+ghost use Rattle.capture_laws.specs.Sessions.{AreSessionsFrom};
+ghost use Rattle.capture_laws.specs.Stamps.{all_calls, by_stamp};
+ghost use Rattle.capture_verdict.specs.Verdict.{IsLegal, Plan, verdict};
+
+/// What the verdict gives are the calls by stamp. They are a legal capture, and what is known of them is sound.
+pub fn verdict_is_legal()
+    ensures calls { (start : StartView) (lists : List (List Captured)) (plan : Plan) → verdict start lists ≡ Ok plan → plan.calls ≡ by_stamp (all_calls lists) }
+    ensures legal { (start : StartView) (lists : List (List Captured)) (plan : Plan) → AreSessionsFrom 0 lists → length lists ≤ 64 → verdict start lists ≡ Ok plan → IsLegal start plan.calls }
+    ensures sound { (start : StartView) (lists : List (List Captured)) (plan : Plan) → verdict start lists ≡ Ok plan → AreSound plan.facts }
+{}
