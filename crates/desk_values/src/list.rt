@@ -72,6 +72,13 @@ impl<T> List<T> {
         *self.items.allocator()
     }
 
+    /// Gives back the room that the items do not need.
+    pub fn fit(&mut self)
+        ensures { self.new ≡ self.old }
+    {
+        self.items.shrink_to_fit();
+    }
+
     /// The vector of the items.
     pub fn into_vec(self) -> Vec<T>
         ensures { result.items ≡ self }
@@ -116,11 +123,11 @@ impl<T: Drop> List<T> {
 }
 
 impl<T: Copied> List<T> {
-    /// A list of copies of these items.
+    /// A list of copies of these items, in just the room that they need.
     pub fn from_slice(alloc: Global, items: &[T]) -> Result<Self, Memory>
         ensures { IfOk result (λ list. list ≡ items.now) }
     {
-        let mut list = List::new(alloc);
+        let mut list = List::from_vec(Vec::with_capacity(alloc, items.len())?);
         for item in items {
             list.push(item.copy()?)?;
         }

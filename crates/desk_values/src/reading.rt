@@ -62,7 +62,9 @@ fn values(alloc: Global, bytes: &[u8]) -> Result<Values, ReadErr>
     if inside.is_empty() {
         return Ok(List::new(alloc));
     }
-    items(alloc, inside)
+    let mut values = items(alloc, inside)?;
+    values.fit();
+    Ok(values)
 }
 
 // What stands in the brackets.
