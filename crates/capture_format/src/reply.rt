@@ -108,7 +108,11 @@ fn rows(alloc: Global, bytes: &[u8]) -> Result<RowList, ReadErr>
     match bytes {
         b"-" => Ok(List::new(alloc)),
         [] => Err(ReadErr::Bad),
-        _ => rows_in(alloc, bytes),
+        _ => {
+            let mut rows = rows_in(alloc, bytes)?;
+            rows.fit();
+            Ok(rows)
+        }
     }
 }
 
@@ -148,7 +152,8 @@ fn images(alloc: Global, bytes: &[u8]) -> Result<Images, ReadErr>
     if let b"-" = bytes {
         return Ok(List::new(alloc));
     }
-    let images: Images = read_pieces(alloc, bytes, b';')?;
+    let mut images: Images = read_pieces(alloc, bytes, b';')?;
+    images.fit();
     if rows_ascend(images.as_slice()) {
         Ok(images)
     } else {

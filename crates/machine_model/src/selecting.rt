@@ -183,6 +183,7 @@ fn column_rows(with: Evaluation<'_>, found: &[&Image]) -> Result<RowList, Memory
     for image in found {
         rows.push(values_of(with, *image).copy()?)?;
     }
+    rows.fit();
     Ok(rows)
 }
 
@@ -192,9 +193,11 @@ fn value_rows(with: Evaluation<'_>, exprs: &[Checked], found: &[&Image]) -> Resu
 {
     let mut rows = List::new(with.alloc);
     for image in found {
-        let (values, _) = values_for(with, exprs, *image, Faults::NONE)?;
+        let (mut values, _) = values_for(with, exprs, *image, Faults::NONE)?;
+        values.fit();
         rows.push(values)?;
     }
+    rows.fit();
     Ok(rows)
 }
 
