@@ -95,4 +95,5 @@ module _ (job : JobView) (desk : DeskView) (turn : ℕ) (behind : IsBehind job d
   behind_done sound kept all = record {
     sound = subst IsSoundJob (sym behind.job_is) sound;
     complete = record { legal = kept.legal; truthful = kept.truthful; whole = λ j below. behind.front j (let same = ap (λ (job : JobView). length job.calls) behind.job_is in omega (arith, below, all, same)) };
+    texts = kept.texts;
   }

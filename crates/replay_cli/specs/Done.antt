@@ -70,6 +70,10 @@ pub record IsReported (job : JobView) (history : List Event) (plan : Plan) : Typ
   pub line : plan.line ≡ replayed_line (length job.calls) (length (report_in job history).lines)
   pub differs : plan.differs ≡ nat_lt 0 (length (report_in job history).lines)
 
+-- the line and the files are those of this replay
+abbrev pub IsDoneBy : List ℕ → JobView → Plan → List Event → Stage → Type 0
+IsDoneBy out job plan history last = IsReplay job history last × IsReported job history plan × (plan.writes ≡ replayed_files out job history last)
+
 -- a capture was replayed as it is
 abbrev pub IsTried : StartView → List Captured → Type 0
 IsTried start calls = (job : JobView) × (history : List Event) × (last : Stage) × IsTrial start calls job × IsReplay job history last
@@ -80,8 +84,7 @@ IsQuiet plan = plan.differs ≡ false
 
 -- the files and the line that it may end with
 abbrev pub IsDone : Task → Plan → Type 0
-IsDone (ToReplay out job) plan =
-    (history : List Event) × (last : Stage) × IsReplay job history last × IsReported job history plan × (plan.writes ≡ replayed_files out job history last)
+IsDone (ToReplay out job) plan = (history : List Event) × (last : Stage) × IsDoneBy out job plan history last
 IsDone (ToTell out facts) plan =
     (plan.line ≡ prepared_line (length facts)) × IsQuiet plan × (plan.writes ≡ record { name = requires_name out; bytes = requires_text facts } ∷ [])
 IsDone (ToMake n out) plan = (plan.line ≡ generated_line n) × IsQuiet plan × (plan.writes ≡ made_files out n)

@@ -1,8 +1,10 @@
 -- A desk as contracts see it.
 use Rattle.std.specs.Prelude.{◌≡◌, ℕ, Bool, false, List, [], ◌∷◌, ◌++◌}
+use Rattle.std.specs.List.{AllByRecursion}
 use Rattle.desk_values.specs.declared.call.Reply.{Reply}
 use Rattle.desk_values.specs.declared.capture.Event.{Event}
 use Rattle.desk_values.specs.declared.capture.Event.TheVariants.{Start, Answer}
+use Rattle.replay_job.specs.Events.{IsEvent}
 use Rattle.replay_job.specs.Job.{JobView, IsReplayable}
 use Rattle.replay_job.specs.Runs.{Executes, IsLegalFor, IsTruthfulFor, Stage, first_stage}
 
@@ -18,11 +20,13 @@ pub record DeskView : Type 0 where
 abbrev pub new_desk : JobView → DeskView
 new_desk job = record { job = job; history = []; stage = first_stage job; stopped = false }
 
--- what a desk keeps: its job can be replayed, and its history is a legal and truthful one of the job that leads to its stage
+-- what a desk keeps: its job can be replayed, and its history is a legal and truthful one of the job that leads to its stage,
+-- in which each event has a text
 pub record IsKept (desk : DeskView) : Type 0 where
   pub replayable : IsReplayable desk.job
   pub legal : IsLegalFor desk.job desk.history
   pub truthful : IsTruthfulFor desk.job desk.history desk.stage
+  pub texts : AllByRecursion IsEvent desk.history
 
 -- the desk after the start of a call
 abbrev pub with_start : DeskView → ℕ → ℕ → DeskView

@@ -1,5 +1,6 @@
 -- What holds of the fields of a desk.
 use Rattle.std.specs.Prelude.{◌≡◌, ℕ, ◌+◌, ◌≤◌, ◌<◌, false, [], ◌++◌, length, replicate}
+use Rattle.std.specs.List.{AllByRecursion}
 use Rattle.desk_values.specs.declared.call.Reply.{Reply}
 use Rattle.desk_values.specs.declared.capture.Captured.{Captured}
 use Rattle.desk_schema.specs.Start.{StartView}
@@ -12,6 +13,7 @@ use Rattle.id_pairs.specs.Pairs.{HasNoIdTwice, learnt}
 use Rattle.remap_ids.specs.IdMap.{start_pairs}
 use Rattle.remap_ids.specs.Sent.{HasLowIds, sent}
 use Rattle.replay_clock.specs.Gaps.{AreGaps}
+use Rattle.replay_job.specs.Events.{IsEvent}
 use Rattle.replay_job.specs.Job.{JobView, seen}
 use Rattle.replay_job.specs.declared.job.Job.{Job}
 use Rattle.replay_job.specs.Runs.{IsTruthfulFor, Stage}
@@ -28,6 +30,7 @@ view_of a = record { job = seen a.job; history = a.history.items; stage = stage_
 
 pub record IsDesk (a : Inside) : Type 0 where
   pub truthful : IsTruthfulFor (seen a.job) a.history.items (stage_of a)
+  pub texts : AllByRecursion IsEvent a.history.items
   pub own : a.map.own ≡ length (start_pairs a.job.start)
   pub gaps : AreGaps a.job.calls.items a.gaps
   pub gate : IsGateOf (seen a.job) a.history.items a.gate a.waiting.items

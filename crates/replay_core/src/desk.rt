@@ -1,4 +1,5 @@
 ghost use Rattle.std.specs.Prelude.{EachIndex, ◌≡◌, ◌<◌, ◌≤◌, ◌↔◌, ◌⊎◌, ◌+◌, ℕ, [], true, false, length, replicate, slice_index, IfOk, IfSome, IsTrue, MatchOption, OnErr, OnOk, if◌then◌else◌};
+ghost use Rattle.desk_values.specs.Good.{IsGoodReply};
 ghost use Rattle.desk_values.specs.declared.capture.Captured.{Captured};
 ghost use Rattle.machine_model.specs.Sound.{AreStanding};
 ghost use Rattle.machine_model.specs.State.{tables};
@@ -26,7 +27,7 @@ use txn_engine::Engine;
 const MOST_LEARNT: u32 = 17;
 
 /// A replay under way. Contracts see its job, its history, how far that leads, and whether it is stopped. The history is
-/// always a legal and truthful one of the job.
+/// always a legal and truthful one of the job, and each of its events has a text.
 #[derive(Drop)]
 pub struct Desk {
     job: Job,
@@ -157,7 +158,8 @@ impl Desk {
         })
     }
 
-    /// What a desk keeps: its history is a legal and truthful one of its job. It does nothing: its contract is a law.
+    /// What a desk keeps: its history is a legal and truthful one of its job, and each event has a text. It does nothing:
+    /// its contract is a law.
     pub fn history_is_kept(&self)
         ensures { IsKept self.now }
     {
@@ -301,6 +303,7 @@ fn executed(job: &Job, engine: &mut Engine, map: &mut IdMap, k: u32) -> Result<R
     requires call { (call : Captured) × MayExecute (seen job.now) (record { state = engine.old.state; pairs = map.old.pairs }) k call }
     requires steps { engine.old.steps < 1048576 }
     ensures ok { IfOk result (λ reply. Executes (seen job.now) (record { state = engine.old.state; pairs = map.old.pairs }) k reply (record { state = engine.new.state; pairs = map.new.pairs })) }
+    ensures good { IfOk result (λ reply. IsGoodReply reply) }
     ensures steps { OnOk result (engine.new.steps ≡ engine.old.steps + 1) }
     ensures engine { OnErr result (engine.new ≡ engine.old) }
     ensures map { OnErr result (map.new.pairs ≡ map.old.pairs) }

@@ -1,3 +1,4 @@
 pub mod Job
 pub mod Runs
+pub mod Events
 pub mod Replays

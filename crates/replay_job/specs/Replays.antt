@@ -1,7 +1,9 @@
 -- A replay of a job to its end.
 use Rattle.std.specs.Prelude.{List}
+use Rattle.std.specs.List.{AllByRecursion}
 use Rattle.desk_values.specs.declared.capture.Event.{Event}
 use Rattle.desk_schema.specs.Sound.{IsSoundStart}
+use Rattle.replay_job.specs.Events.{IsEvent}
 use Rattle.replay_job.specs.Job.{IsReplayable, JobView}
 use Rattle.replay_job.specs.Runs.{IsCompleteFor, Stage}
 
@@ -11,7 +13,8 @@ pub record IsSoundJob (job : JobView) : Type 0 where
   pub target : IsSoundStart job.target
 
 -- The job's calls are a legal capture. The history is legal, each call that is sent is answered as one server answers it there, and
--- every call is answered; the server and the pairs of ids come to this stage.
+-- every call is answered; each event has a text; the server and the pairs of ids come to this stage.
 pub record IsReplay (job : JobView) (history : List Event) (last : Stage) : Type 0 where
   pub sound : IsSoundJob job
   pub complete : IsCompleteFor job history last
+  pub texts : AllByRecursion IsEvent history

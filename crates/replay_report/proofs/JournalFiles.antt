@@ -18,13 +18,14 @@ use Rattle.capture_format.proofs.SessionTexts.{visible_all}
 use Rattle.replay_history.specs.declared.mode.Mode.{Mode}
 use Rattle.replay_history.specs.declared.mode.Mode.TheVariants.{Off, Scn, Object, Order}
 use Rattle.replay_history.specs.Texts.{event_text, journal_text, line}
+use Rattle.replay_job.specs.Events.{IsEvent}
 use Rattle.replay_report.specs.declared.journal.Journal.{Journal}
 use Rattle.replay_report.specs.declared.journal.Stage.{Stage}
 use Rattle.replay_report.specs.declared.journal.Stage.TheVariants.{Empty, Headed, Ended}
 use Rattle.replay_report.specs.declared.journal_line.JournalLine.{JournalLine}
 use Rattle.replay_report.specs.declared.journal_line.JournalLine.TheVariants.{Head, Event, End}
 use Rattle.replay_report.specs.JournalView.{JournalView}
-use Rattle.replay_report.specs.JournalFile.{IsBadJournal, IsEvent, IsJournal, IsJournalLine, MayCome, ended, is_ended, is_headed, is_last, journal_form, journal_line_text, new_view, with_line}
+use Rattle.replay_report.specs.JournalFile.{IsBadJournal, IsJournal, IsJournalLine, MayCome, ended, is_ended, is_headed, is_last, journal_form, journal_line_text, new_view, with_line}
 use Rattle.replay_report.proofs.JournalReader.{journal_lines}
 
 -- ---- lines are whole, and nothing follows the last

@@ -1,14 +1,13 @@
 -- The file of a journal: its lines as a form, and the bytes of a mode and a history.
-use Rattle.std.specs.Prelude.{◌≡◌, ◌<◌, ◌^◌, ℕ, Bool, true, false, List, [], ◌∷◌, ◌++◌, codes}
+use Rattle.std.specs.Prelude.{◌≡◌, ℕ, Bool, true, false, List, [], ◌∷◌, ◌++◌, codes}
 use Rattle.std.specs.List.{AllByRecursion}
 use Rattle.desk_values.specs.declared.capture.Event.{Event as AnyEvent}
-use Rattle.desk_values.specs.declared.capture.Event.TheVariants.{Start, Answer}
-use Rattle.desk_values.specs.Good.{IsGoodReply}
 use Rattle.file_lines.specs.File.{IsBadAt}
 use Rattle.file_lines.specs.Form.{Form, Comes}
 use Rattle.replay_history.specs.declared.mode.Mode.{Mode}
 use Rattle.replay_history.specs.Mode.{mode_word}
 use Rattle.replay_history.specs.Texts.{event_text, journal_text}
+use Rattle.replay_job.specs.Events.{IsEvent}
 use Rattle.replay_report.specs.declared.journal.Stage.{Stage}
 use Rattle.replay_report.specs.declared.journal.Stage.TheVariants.{Empty, Headed, Ended}
 use Rattle.replay_report.specs.declared.journal_line.JournalLine.{JournalLine}
@@ -20,11 +19,6 @@ abbrev pub journal_line_text : JournalLine → List ℕ
 journal_line_text (Head mode) = codes "journal 1 " ++ mode_word mode
 journal_line_text (Event event) = event_text event
 journal_line_text End = codes "end"
-
--- an event that has a text: its numbers are within the limits of their types, and its reply is good
-abbrev pub IsEvent : AnyEvent → Type 0
-IsEvent (Start k pause) = (k < 2 ^ 32) × (pause < 2 ^ 64)
-IsEvent (Answer k reply) = (k < 2 ^ 32) × IsGoodReply reply
 
 -- a line that has a text
 abbrev pub IsJournalLine : JournalLine → Type 0

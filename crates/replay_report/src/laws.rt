@@ -15,13 +15,14 @@ ghost use Rattle.replay_history.specs.Texts.{journal_text};
 ghost use Rattle.replay_history.specs.declared.report.Line.{Line};
 ghost use Rattle.replay_history.specs.Gap.{IsCallAt};
 ghost use Rattle.replay_history.specs.History.{AnswersAll, AnswersAt};
+ghost use Rattle.replay_job.specs.Events.{IsEvent};
 ghost use Rattle.replay_job.specs.Job.{JobView};
 ghost use Rattle.replay_job.specs.Runs.{IsLegalFor};
 ghost use Rattle.divergence.specs.Class.{class_between};
 ghost use Rattle.replay_report.specs.Laws.{HasOwnStamps, IsLineOf, StampsRise};
 ghost use Rattle.replay_report.specs.Report.{class_of, pairs_after, report_in};
 ghost use Rattle.replay_report.specs.declared.journal.Journal.{Journal};
-ghost use Rattle.replay_report.specs.JournalFile.{IsBadJournal, IsEvent, IsJournal};
+ghost use Rattle.replay_report.specs.JournalFile.{IsBadJournal, IsJournal};
 
 /// Bytes are the journal of at most one mode and history.
 pub fn one_journal()

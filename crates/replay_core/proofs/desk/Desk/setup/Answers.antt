@@ -15,6 +15,7 @@ invariant_of-result c =
     let are = c.in_ok-gaps.ensures in
     record {
       truthful = rw (are.no_event, are.opened.state, are.pairs_are) refl;
+      texts = rw are.no_event tt;
       own = are.own_are ∙ ap length are.pairs_are;
       gaps = are.gaps_are;
       gate = rw (are.gate_is, are.no_event, are.none_waits) (new_follows (seen c.args.job) c.requires);

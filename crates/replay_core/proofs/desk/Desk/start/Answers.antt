@@ -1,5 +1,7 @@
-use Rattle.std.proofs.Common.{◌≡◌, ◌++◌, ◌∷◌, [], inl, ap, length, length-append, refl, arith}
+use Rattle.std.proofs.Common.{◌≡◌, ◌<◌, ◌^◌, ◌++◌, ◌∷◌, [], inl, ap, length, length-append, refl, arith}
 use Rattle.desk_values.specs.declared.capture.Event.TheVariants.{Start}
+use Rattle.desk_schema.proofs.Distinct.{all-push}
+use Rattle.replay_job.specs.Events.{IsEvent}
 use Rattle.replay_job.specs.Job.{seen}
 use Rattle.replay_job.specs.Runs.{Executes, first_stage}
 use Rattle.history_laws.proofs.Truth.{truthful_start}
@@ -25,11 +27,13 @@ invariant_of-self c =
     let a = c.self.inside in
     let is = c.self.invariant in
     let pause = c.pause_before-pause.result in
+    let fits : pause < 2 ^ 64 = search in
     let grown = rw c.unwrap.ensures at c.push.ensures.ok in
     let longer = length-append a.history.items (Start c.args.k pause ∷ []) in
     let follows = start_follows is.gate c.args.k pause (rw (← c.self.view_is) at c.requires.ready) (rw (← c.self.view_is) at c.pause_before-pause.ensures) in
     record {
       truthful = rw grown (truthful_start (Executes (seen a.job)) (first_stage (seen a.job)) (stage_of a) a.history.items c.args.k pause is.truthful);
+      texts = rw grown (all-push IsEvent a.history.items (Start c.args.k pause) is.texts (c.ranges.k.fits, fits));
       own = is.own;
       gaps = is.gaps;
       gate = rw (grown, c.start.ensures.noted) follows;
