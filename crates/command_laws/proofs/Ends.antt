@@ -1,25 +1,51 @@
 -- What a replay that is done has written, by the laws of whole replays.
-use Rattle.std.proofs.Common.{◌≡◌, ◌∙◌, List, [], ◌∷◌, length, refl, sym, ap, arith, rules}
+use Rattle.std.proofs.Common.{◌≡◌, ◌∙◌, List, [], ◌∷◌, ℕ, length, refl, sym, ap, subst, arith, rules}
 use Rattle.std.specs.Prelude.{false, nat_lt, true}
+use Rattle.std.specs.List.{AllByRecursion}
+use Rattle.desk_values.specs.declared.capture.Event.{Event}
+use Rattle.replay_history.specs.declared.mode.Mode.{Mode}
 use Rattle.replay_history.specs.declared.report.Line.{Line}
 use Rattle.replay_history.specs.declared.report.Report.{Report}
-use Rattle.end_law.proofs.Whole.{again_as_captured, captured_one, tables_carried}
+use Rattle.replay_history.specs.Texts.{journal_text}
+use Rattle.replay_job.specs.Events.{IsEvent}
+use Rattle.replay_job.specs.Job.{JobView}
+use Rattle.replay_report.specs.JournalFile.{IsJournal}
+use Rattle.replay_report.proofs.JournalFiles.{one_file}
+use Rattle.end_law.proofs.Whole.{again_as_captured, tables_carried}
 use Rattle.report_law.proofs.Named.{again_clean, no_line_none}
+use Rattle.desk_files.specs.declared.writes.Write.{Write}
 use Rattle.replay_cli.specs.Lines.{replayed_line}
-use Rattle.command_laws.specs.Ends.{QuietRunsCarryTables, RunsAgainAreQuiet, TablesAreCarried}
+use Rattle.command_laws.specs.Ends.{JournalsTellTheirHistory, PlansTellTheirHistory, QuietRunsCarryTables, RunsAgainAreQuiet, TablesAreCarried}
+
+is_journal : (job : JobView) (history : List Event) (texts : AllByRecursion IsEvent history) → IsJournal (journal_text job.mode history) job.mode history
+is_journal job history texts = record { fit = texts; text = refl }
+
+pub journal_tells : JournalsTellTheirHistory
+journal_tells out job plan history last done =
+    let is = is_journal job history done.0.texts in
+    (is, λ mode other also. one_file (journal_text job.mode history) mode job.mode other history also is)
+
+-- the bytes of the first file
+first_bytes : List Write → List ℕ
+first_bytes [] = []
+first_bytes (write ∷ writes) = write.bytes
+
+pub plan_tells : PlansTellTheirHistory
+plan_tells out job plan history other last later done also =
+    let same : journal_text job.mode other ≡ journal_text job.mode history = ap first_bytes (sym also.2 ∙ done.2) in
+    let told = (journal_tells out job plan history last done).1 job.mode other (subst (λ (bytes : List ℕ). IsJournal bytes job.mode other) same (is_journal job other also.0.texts)) in
+    told.1
 
 pub again_quiet : RunsAgainAreQuiet
-again_quiet out job plan again done =
-    let clean = again_clean job done.0 done.1 done.2 again in
-    let same = again_as_captured job done.0 done.1 done.2 again in (
-      done.3.differs ∙ ap (λ (r : Report). nat_lt 0 (length r.lines)) clean,
-      done.3.line ∙ ap (λ (r : Report). replayed_line (length job.calls) (length r.lines)) clean,
-      (done.0, done.1, (done.2, done.4), λ captured came. captured_one job done.1.state captured same.state came),
+again_quiet out job plan history last again done =
+    let clean = again_clean job history last done.0 again in (
+      done.1.differs ∙ ap (λ (r : Report). nat_lt 0 (length r.lines)) clean,
+      done.1.line ∙ ap (λ (r : Report). replayed_line (length job.calls) (length r.lines)) clean,
+      again_as_captured job history last done.0 again,
     )
 
 pub carried : TablesAreCarried
-carried out job plan captured waits done came =
-    (done.0, done.1, (done.2, done.4), λ none. tables_carried job done.0 done.1 captured done.2 waits none came)
+carried out job plan history last captured waits done none came = tables_carried job history last captured done.0 waits none came
 
 no_lines : (lines : List Line) → nat_lt 0 (length lines) ≡ false → lines ≡ []
 no_lines [] none = refl
@@ -28,6 +54,6 @@ no_lines (line ∷ lines) none =
     absurd (let never = sym some ∙ none in cc)
 
 pub quiet_carried : QuietRunsCarryTables
-quiet_carried out job plan captured waits done quiet came =
-    let none = no_line_none job done.0 done.1 done.2 (no_lines _ (sym done.3.differs ∙ quiet)) in
-    (done.0, done.1, (done.2, done.4), tables_carried job done.0 done.1 captured done.2 waits none came)
+quiet_carried out job plan history last captured waits done quiet came =
+    let none = no_line_none job history last done.0 (no_lines _ (sym done.1.differs ∙ quiet)) in
+    tables_carried job history last captured done.0 waits none came

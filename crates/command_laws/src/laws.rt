@@ -1,7 +1,7 @@
 //! Laws of what the words and the files come to.
 
 ghost use Rattle.command_laws.specs.Complete.{CapturesArePrepared, CapturesAreReplayed, LegalCapturesArePrepared, LegalCapturesAreReplayed};
-ghost use Rattle.command_laws.specs.Ends.{QuietRunsCarryTables, RunsAgainAreQuiet, TablesAreCarried};
+ghost use Rattle.command_laws.specs.Ends.{JournalsTellTheirHistory, PlansTellTheirHistory, QuietRunsCarryTables, RunsAgainAreQuiet, TablesAreCarried};
 
 /// Completeness of `run`: where the words are its command, the files of the capture are there, each within the limit of one
 /// file and all within that of a capture, the remap file says services where one is named, and the calls are accepted, the calls are to be replayed. By the clause `each` of
@@ -25,8 +25,14 @@ pub fn legal_captures_are_prepared()
     ensures { LegalCapturesArePrepared }
 {}
 
-/// A run that does again what the capture did, in its order, from its start and by its services, prints that no call differs, and
-/// ends in the captured state, whose tables it writes.
+/// The journal that is written tells one history: the one that the replay had, that is reported on and that the other files are of.
+pub fn journals_tell_their_history()
+    ensures journal { JournalsTellTheirHistory }
+    ensures plan { PlansTellTheirHistory }
+{}
+
+/// A run that does again what the capture did, in its order, from its start and by its services, prints that no call differs; each
+/// reply of its journal is the captured one, and it ends in the captured state, whose tables it writes.
 pub fn runs_again_are_quiet()
     ensures { RunsAgainAreQuiet }
 {}

@@ -1,7 +1,7 @@
 ghost use Rattle.std.specs.Prelude.{◌≡◌, ◌&&◌, false, length, ◌==◌, if◌then◌else◌, IfOk, IsOk};
 ghost use Rattle.bag_laws.specs.Equality.{same_bag, same_map};
 ghost use Rattle.carrying_law.specs.Carried.{carried_images, carried_rows};
-ghost use Rattle.divergence.specs.Class.{class_between, equal_carried, holds_list};
+ghost use Rattle.divergence.specs.Class.{class_between, equal_carried, holds_list, variant};
 
 use crate::carry::Carry;
 use crate::equality::{same_bag, same_map};
@@ -12,7 +12,7 @@ use std::alloc::Global;
 
 /// How the replayed reply to a call differs from the captured one: the first line that fits. Each captured id counts as its
 /// image, and an outcome that holds an id without one equals nothing. Draws and made rows are not compared. It takes no
-/// memory unless both outcomes hold rows or images.
+/// memory unless both outcomes hold rows, or both images.
 pub fn class_of(
     alloc: Global,
     map: &IdMap,
@@ -20,7 +20,7 @@ pub fn class_of(
     replayed: &Reply,
 ) -> Result<Class, Memory>
     ensures class { IfOk result (λ class. class ≡ class_between map.now.pairs captured.now replayed.now) }
-    ensures succeeds { (holds_list captured.now.outcome && holds_list replayed.now.outcome) ≡ false → IsOk result }
+    ensures succeeds { (holds_list captured.now.outcome && (variant captured.now.outcome == variant replayed.now.outcome)) ≡ false → IsOk result }
 {
     match (&captured.outcome, &replayed.outcome) {
         (Outcome::Refused(fault), Outcome::Refused(other)) => {

@@ -5,7 +5,8 @@ use Rattle.desk_values.specs.declared.call.Reply.{Reply}
 use Rattle.desk_values.specs.declared.capture.Event.{Event}
 use Rattle.desk_values.specs.declared.capture.Event.TheVariants.{Start, Answer}
 use Rattle.replay_job.specs.Events.{IsEvent}
-use Rattle.replay_job.specs.Job.{JobView, IsReplayable}
+use Rattle.replay_job.specs.Job.{JobView}
+use Rattle.replay_job.specs.Replays.{IsSoundJob}
 use Rattle.replay_job.specs.Runs.{Executes, IsLegalFor, IsTruthfulFor, Stage, first_stage}
 
 pub record DeskView : Type 0 where
@@ -23,7 +24,7 @@ new_desk job = record { job = job; history = []; stage = first_stage job; stoppe
 -- what a desk keeps: its job can be replayed, and its history is a legal and truthful one of the job that leads to its stage,
 -- in which each event has a text
 pub record IsKept (desk : DeskView) : Type 0 where
-  pub replayable : IsReplayable desk.job
+  pub sound : IsSoundJob desk.job
   pub legal : IsLegalFor desk.job desk.history
   pub truthful : IsTruthfulFor desk.job desk.history desk.stage
   pub texts : AllByRecursion IsEvent desk.history

@@ -3,6 +3,7 @@ use Rattle.std.specs.Prelude.{◌≡◌, ℕ, ◌+◌, ◌≤◌, ◌<◌, false
 use Rattle.std.specs.List.{AllByRecursion}
 use Rattle.desk_values.specs.declared.call.Reply.{Reply}
 use Rattle.desk_values.specs.declared.capture.Captured.{Captured}
+use Rattle.desk_schema.specs.Sound.{IsSoundStart}
 use Rattle.desk_schema.specs.Start.{StartView}
 use Rattle.machine_model.specs.Machine.{Running}
 use Rattle.machine_model.specs.State.{State, opening}
@@ -29,6 +30,7 @@ abbrev pub view_of : Inside → DeskView
 view_of a = record { job = seen a.job; history = a.history.items; stage = stage_of a; stopped = a.stopped }
 
 pub record IsDesk (a : Inside) : Type 0 where
+  pub target : IsSoundStart a.job.target
   pub truthful : IsTruthfulFor (seen a.job) a.history.items (stage_of a)
   pub texts : AllByRecursion IsEvent a.history.items
   pub own : a.map.own ≡ length (start_pairs a.job.start)

@@ -146,6 +146,7 @@ impl Desk {
             history,
             waiting,
         } = Parts::of(alloc, &job)?;
+        let _ = job.target.schema();
         Ok(Desk {
             job,
             gaps,

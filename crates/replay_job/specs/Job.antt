@@ -23,7 +23,7 @@ pub record JobView : Type 0 where
   -- what the captured services are sent as
   pub remap : List ServicePair
   pub mode : Mode
-  -- percentages of the time before a call: of a session's first one, and of each other
+  -- percentages of the time before a call: of each but a session's first one, and of that one
   pub think : ℕ
   pub connect : ℕ
 
@@ -31,8 +31,8 @@ pub record JobView : Type 0 where
 abbrev pub seen : Job → JobView
 seen job = record { start = job.start; target = job.target; calls = job.calls.items; facts = job.facts; remap = job.remap; mode = job.mode; think = job.think; connect = job.connect }
 
--- a replay may begin with the second start in the place of the first: its rows are the same, and it gives out no id that
--- stands in them
+-- a replay may begin with the second start in the place of the first: its rows and the number of its next row are the same, and no
+-- sequence is behind
 pub record IsTarget (start target : StartView) : Type 0 where
   pub rows : target.rows ≡ start.rows
   pub next_row : target.next_row ≡ start.next_row

@@ -5,10 +5,10 @@ use Rattle.replay_job.specs.Runs.{IsCompleteFor}
 use Rattle.report_runs.proofs.desks.whole_report.Goals as goal
 
 pub report_of-requires-clause-replayable : goal.report_of-requires-clause-replayable
-report_of-requires-clause-replayable c = subst IsReplayable (sym c.job.ensures) c.requires.kept.replayable
+report_of-requires-clause-replayable c = subst IsReplayable (sym c.job.ensures) c.requires.kept.sound.replayable
 
 pub report_of-requires-clause-complete : goal.report_of-requires-clause-complete
 report_of-requires-clause-complete c =
     let desk = c.args.desk.now in
     let whole = c.all_answered_is_complete.ensures desk c.requires.kept c.requires.all in
-    (desk.stage, subst (λ (h : List Event). IsCompleteFor (seen c.job.result.now) h desk.stage) (sym c.history.ensures) (subst (λ (j : JobView). IsCompleteFor j desk.history desk.stage) (sym c.job.ensures) whole))
+    (desk.stage, subst (λ (h : List Event). IsCompleteFor (seen c.job.result.now) h desk.stage) (sym c.history.ensures) (subst (λ (j : JobView). IsCompleteFor j desk.history desk.stage) (sym c.job.ensures) whole.complete))

@@ -23,7 +23,7 @@ pub invariant_of-self : goal.invariant_of-self
 invariant_of-self c =
     let is = c.self.invariant in
     let failed = c.in_err-reply.ensures in
-    record { truthful = rw (failed.engine, failed.map) is.truthful; texts = is.texts; own = c.executed.ensures.own ∙ is.own; gaps = is.gaps; gate = is.gate; room = is.room; steps = rw failed.engine is.steps }
+    record { target = is.target; truthful = rw (failed.engine, failed.map) is.truthful; texts = is.texts; own = c.executed.ensures.own ∙ is.own; gaps = is.gaps; gate = is.gate; room = is.room; steps = rw failed.engine is.steps }
 
 pub returns-in_err-reply-clause-ok : goal.returns-in_err-reply-clause-ok
 returns-in_err-reply-clause-ok c = let p = err_from_is_err_and c.from_residual.result c.from_residual.ensures.1 in rw p.1 tt
@@ -55,6 +55,7 @@ invariant_of-self-2 c =
     let longer = length-append a.history.items (Answer c.args.k reply ∷ []) in
     let follows = answer_follows is.gate c.args.k reply (rw (← c.self.view_is) at c.requires) in
     record {
+      target = is.target;
       truthful = rw grown (truthful_answer (Executes (seen a.job)) (first_stage (seen a.job)) (stage_of a) new a.history.items c.args.k reply is.truthful c.in_ok-reply.ensures.ok);
       texts = rw grown (all-push IsEvent a.history.items (Answer c.args.k reply) is.texts (c.ranges.k.fits, c.in_ok-reply.ensures.good));
       own = c.executed.ensures.own ∙ is.own;

@@ -32,6 +32,7 @@ invariant_of-self c =
     let longer = length-append a.history.items (Start c.args.k pause ∷ []) in
     let follows = start_follows is.gate c.args.k pause (rw (← c.self.view_is) at c.requires.ready) (rw (← c.self.view_is) at c.pause_before-pause.ensures) in
     record {
+      target = is.target;
       truthful = rw grown (truthful_start (Executes (seen a.job)) (first_stage (seen a.job)) (stage_of a) a.history.items c.args.k pause is.truthful);
       texts = rw grown (all-push IsEvent a.history.items (Start c.args.k pause) is.texts (c.ranges.k.fits, fits));
       own = is.own;
