@@ -1,4 +1,4 @@
-use Rattle.std.proofs.Common.{◌≡◌, ◌<◌, ◌^◌, ◌++◌, ◌∷◌, [], inl, ap, length, length-append, refl, arith}
+use Rattle.std.proofs.Common.{◌<◌, ◌^◌, ◌∷◌, [], inl, ap, length, length-append, refl, arith}
 use Rattle.desk_values.specs.declared.capture.Event.TheVariants.{Start}
 use Rattle.desk_schema.proofs.Distinct.{all-push}
 use Rattle.replay_job.specs.Events.{IsEvent}
