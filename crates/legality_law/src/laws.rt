@@ -1,17 +1,21 @@
 //! Laws of the verdict. A call does nothing: its clause is the law.
 
-ghost use Rattle.std.specs.Prelude.{◌≡◌, ◌≤◌, ◌↔◌, ℕ, List, length, take, None, Ok, Some};
+ghost use Rattle.std.specs.Prelude.{◌≡◌, ◌≤◌, ◌↔◌, ℕ, true, List, length, take, None, Ok, Some};
 ghost use Rattle.std.specs.List.Sorted.{IsPermutation};
 ghost use Rattle.desk_values.specs.declared.capture.Captured.{Captured};
+ghost use Rattle.desk_schema.specs.Schema.{SchemaView};
 ghost use Rattle.desk_schema.specs.Start.{StartView};
 ghost use Rattle.replay_history.specs.Capture.{commits_before, number_of};
 ghost use Rattle.replay_history.specs.Gap.{IsCallAt};
 ghost use Rattle.capture_verdict.specs.declared.refusal.Refusal.{Refusal};
 ghost use Rattle.capture_laws.specs.Sessions.{AreSessionsFrom};
 ghost use Rattle.capture_laws.specs.Stamps.{all_calls, by_stamp};
+ghost use Rattle.object_depends.specs.Facts.{has_table};
+ghost use Rattle.capture_verdict.specs.Facts.{fact_of};
 ghost use Rattle.capture_verdict.specs.Tests.{bad_stamp, commits_in, first_refused, right_number};
 ghost use Rattle.capture_verdict.specs.Verdict.{CanBeLegal, IsLegal, verdict};
 ghost use Rattle.legality_law.specs.First.{IsFirstRefused, IsNeverRefused, IsTaken, Test, plan_of};
+ghost use Rattle.legality_law.specs.Tables.{References, Writes};
 
 /// Where some order of the calls is a legal capture, the verdict takes them. That order is the one by stamp.
 pub fn legal_captures_are_taken()
@@ -36,4 +40,11 @@ pub fn first_refused_by_place()
 pub fn right_values_are_legal()
     ensures number { (calls : List Captured) (k : ℕ) (call : Captured) → right_number (take k calls) call ≡ number_of calls k call }
     ensures seen { (calls : List Captured) (k : ℕ) → commits_in (take k calls) ≡ commits_before calls k }
+{}
+
+/// The tables that are known of a call are those that it speaks of: a numbered commit wrote and references those of its images, any
+/// other call references the table that its statement names, also where it was refused.
+pub fn facts_tell_tables()
+    ensures writes { (schema : SchemaView) (call : Captured) (table : ℕ) → (has_table (fact_of schema call).writes table ≡ true) ↔ Writes call table }
+    ensures references { (schema : SchemaView) (call : Captured) (table : ℕ) → (has_table (fact_of schema call).refs table ≡ true) ↔ References schema call table }
 {}
