@@ -1,0 +1,138 @@
+//! What a desk is asked and told, and the lines of its answers.
+
+use crate::moves::{self, play, rest};
+use anyhow::anyhow;
+use case_desks::Board;
+use case_text::{line_of_bytes, numbers_text, stamp_text, stamps_of};
+use desk_values::{Bytes, Memory};
+use std::alloc::Global;
+
+/// What a command is answered, a line or several.
+pub fn answer(
+    alloc: Global,
+    board: &mut Board,
+    word: &str,
+    words: &str,
+    lines: &mut Vec<String>,
+) -> Result<(), anyhow::Error> {
+    match word {
+        "start" | "answer" | "play" => {
+            let stamps = stamps_of(alloc, words)?;
+            moved(alloc, board, word, stamps.as_slice(), lines)
+        }
+        "rest" => rest(alloc, board, lines),
+        "halt" => {
+            board.halt();
+            lines.push(String::from_str(alloc, "halted")?)?;
+            Ok(())
+        }
+        _ => {
+            let answer = said(alloc, board, word, words)?;
+            lines.push(format!(in alloc; "{word} {answer}")?)?;
+            Ok(())
+        }
+    }
+}
+
+// Starts or answers these calls.
+fn moved(
+    alloc: Global,
+    board: &mut Board,
+    word: &str,
+    stamps: &[u32],
+    lines: &mut Vec<String>,
+) -> Result<(), anyhow::Error> {
+    for k in stamps {
+        match word {
+            "start" => lines.push(moves::start(alloc, board, *k)?)?,
+            "answer" => lines.push(moves::answer(alloc, board, *k)?)?,
+            _ => play(alloc, board, *k, lines)?,
+        }
+    }
+    Ok(())
+}
+
+// What the desk says.
+fn said(
+    alloc: Global,
+    board: &mut Board,
+    word: &str,
+    words: &str,
+) -> Result<String, anyhow::Error> {
+    match word {
+        "ready" => ready(alloc, board),
+        "waiting" => waiting(alloc, board),
+        "open" => Ok(stamp_text(alloc, board.first_open())?),
+        "pick" => pick(alloc, board, words),
+        "done" => done(alloc, board, words),
+        "copy" => copy(alloc, board),
+        "commits" => commits(alloc, board),
+        _ => text(alloc, board, word),
+    }
+}
+
+fn ready(alloc: Global, board: &Board) -> Result<String, anyhow::Error> {
+    let mut stamps = Vec::new(alloc);
+    for k in 0..board.calls() {
+        if board.ready(k) {
+            stamps.push(k)?;
+        }
+    }
+    Ok(numbers_text(alloc, stamps.as_slice())?)
+}
+
+fn waiting(alloc: Global, board: &Board) -> Result<String, anyhow::Error> {
+    let mut stamps = Vec::new(alloc);
+    for k in 0..board.calls() {
+        if board.waiting(k) {
+            stamps.push(k)?;
+        }
+    }
+    Ok(numbers_text(alloc, stamps.as_slice())?)
+}
+
+fn pick(alloc: Global, board: &Board, words: &str) -> Result<String, anyhow::Error> {
+    let lane = stamps_of(alloc, words)?;
+    Ok(stamp_text(alloc, board.pick(lane.as_slice()))?)
+}
+
+fn done(alloc: Global, board: &Board, words: &str) -> Result<String, anyhow::Error> {
+    let lane = stamps_of(alloc, words)?;
+    truth(alloc, board.done(lane.as_slice()))
+}
+
+fn truth(alloc: Global, holds: bool) -> Result<String, anyhow::Error> {
+    Ok(String::from_str(alloc, if holds { "true" } else { "false" })?)
+}
+
+// Begins anew with a copy of the job, and says whether it is the same.
+fn copy(alloc: Global, board: &mut Board) -> Result<String, anyhow::Error> {
+    let (fresh, same) = board.copy(alloc)?;
+    *board = fresh;
+    truth(alloc, same)
+}
+
+fn commits(alloc: Global, board: &Board) -> Result<String, anyhow::Error> {
+    let commits = board.commits();
+    Ok(format!(in alloc; "{commits}")?)
+}
+
+// One of the texts, on one line.
+fn text(alloc: Global, board: &Board, word: &str) -> Result<String, anyhow::Error> {
+    match bytes(alloc, board, word)? {
+        Some(bytes) => Ok(line_of_bytes(alloc, bytes.as_slice())?),
+        None if word == "report" || word == "csv" => Ok(String::from_str(alloc, "open")?),
+        None => Err(anyhow!("no such command")),
+    }
+}
+
+fn bytes(alloc: Global, board: &Board, word: &str) -> Result<Option<Bytes>, Memory> {
+    match word {
+        "journal" => Ok(Some(board.journal(alloc)?)),
+        "report" => board.report(alloc),
+        "csv" => board.records(alloc),
+        "maps" => Ok(Some(board.maps()?)),
+        "tables" => Ok(Some(board.tables(alloc)?)),
+        _ => Ok(None),
+    }
+}
