@@ -3,7 +3,6 @@ use Rattle.std.proofs.Common.{◌≡◌, ◌∙◌, List, [], ◌∷◌, ℕ, le
 use Rattle.std.specs.Prelude.{false, nat_lt, true}
 use Rattle.std.specs.List.{AllByRecursion}
 use Rattle.desk_values.specs.declared.capture.Event.{Event}
-use Rattle.replay_history.specs.declared.mode.Mode.{Mode}
 use Rattle.replay_history.specs.declared.report.Line.{Line}
 use Rattle.replay_history.specs.declared.report.Report.{Report}
 use Rattle.replay_history.specs.Texts.{journal_text}
@@ -31,6 +30,7 @@ first_bytes [] = []
 first_bytes (write ∷ writes) = write.bytes
 
 pub plan_tells : PlansTellTheirHistory
+unfolding first_bytes
 plan_tells out job plan history other last later done also =
     let same : journal_text job.mode other ≡ journal_text job.mode history = ap first_bytes (sym also.2 ∙ done.2) in
     let told = (journal_tells out job plan history last done).1 job.mode other (subst (λ (bytes : List ℕ). IsJournal bytes job.mode other) same (is_journal job other also.0.texts)) in
