@@ -5,6 +5,7 @@ use crate::told;
 use desk_values::{Bytes, Event, Memory};
 use object_depends::Mode;
 use replay_core::Desk;
+use replay_history::Report;
 use replay_job::Job;
 use replay_report::{journal_text, tables_text};
 use std::alloc::Global;
@@ -128,14 +129,14 @@ impl Board {
         journal_text(alloc, self.mode(), self.desk.history())
     }
 
-    /// The text of the report, where all calls are answered.
-    pub fn report(&self, alloc: Global) -> Result<Option<Bytes>, Memory> {
+    /// The report, where all calls are answered.
+    pub fn report(&self, alloc: Global) -> Result<Option<Report>, Memory> {
         told::report_on(alloc, &self.desk)
     }
 
-    /// The records of the calls that differ, where all calls are answered.
-    pub fn records(&self, alloc: Global) -> Result<Option<Bytes>, Memory> {
-        told::records_on(alloc, &self.desk)
+    /// The records of the calls that differ, by the report.
+    pub fn records(&self, alloc: Global, report: &Report) -> Result<Bytes, Memory> {
+        told::records_of(alloc, &self.desk, report)
     }
 
     /// The pairs of ids so far.

@@ -8,7 +8,7 @@ use replay_core::Desk;
 use replay_core::laws::all_answered_is_complete;
 use replay_history::Report;
 use replay_job::Job;
-use replay_report::{report_csv, report_of, report_text};
+use replay_report::{report_csv, report_of};
 use std::alloc::Global;
 
 /// What is replayed.
@@ -24,28 +24,13 @@ pub(crate) fn anew(alloc: Global, desk: &Desk) -> Result<(Desk, bool), Memory> {
     Ok((Desk::setup(alloc, job)?, same))
 }
 
-/// The text of the report, where each call is answered.
-pub(crate) fn report_on(alloc: Global, desk: &Desk) -> Result<Option<Bytes>, Memory> {
-    match whole(alloc, desk)? {
-        Some(report) => Ok(Some(report_text(alloc, &report)?)),
-        None => Ok(None),
-    }
-}
-
-/// The records of the calls that differ, where each call is answered.
-pub(crate) fn records_on(alloc: Global, desk: &Desk) -> Result<Option<Bytes>, Memory> {
-    match whole(alloc, desk)? {
-        Some(report) => Ok(Some(records_of(alloc, desk, &report)?)),
-        None => Ok(None),
-    }
-}
-
-fn records_of(alloc: Global, desk: &Desk, report: &Report) -> Result<Bytes, Memory> {
+/// The records of the calls that differ, by the report.
+pub(crate) fn records_of(alloc: Global, desk: &Desk, report: &Report) -> Result<Bytes, Memory> {
     report_csv(alloc, desk.job(), desk.history(), report)
 }
 
-// The report, where each call is answered.
-fn whole(alloc: Global, desk: &Desk) -> Result<Option<Report>, Memory> {
+/// The report, where each call is answered.
+pub(crate) fn report_on(alloc: Global, desk: &Desk) -> Result<Option<Report>, Memory> {
     match desk.first_open() {
         Some(_) => Ok(None),
         None => {

@@ -4,7 +4,8 @@ use crate::moves::{self, play, rest};
 use anyhow::anyhow;
 use case_desks::Board;
 use case_text::{line_of_bytes, numbers_text, stamp_text, stamps_of};
-use desk_values::{Bytes, Memory};
+use desk_values::Bytes;
+use replay_report::report_text;
 use std::alloc::Global;
 
 /// What a command is answered, a line or several.
@@ -119,20 +120,24 @@ fn commits(alloc: Global, board: &Board) -> Result<String, anyhow::Error> {
 
 // One of the texts, on one line.
 fn text(alloc: Global, board: &Board, word: &str) -> Result<String, anyhow::Error> {
-    match bytes(alloc, board, word)? {
-        Some(bytes) => Ok(line_of_bytes(alloc, bytes.as_slice())?),
-        None if word == "report" || word == "csv" => Ok(String::from_str(alloc, "open")?),
-        None => Err(anyhow!("no such command")),
+    match word {
+        "report" | "csv" => reported(alloc, board, word == "csv"),
+        "journal" => line(alloc, &board.journal(alloc)?),
+        "maps" => line(alloc, &board.maps()?),
+        "tables" => line(alloc, &board.tables(alloc)?),
+        _ => Err(anyhow!("no such command")),
     }
 }
 
-fn bytes(alloc: Global, board: &Board, word: &str) -> Result<Option<Bytes>, Memory> {
-    match word {
-        "journal" => Ok(Some(board.journal(alloc)?)),
-        "report" => board.report(alloc),
-        "csv" => board.records(alloc),
-        "maps" => Ok(Some(board.maps()?)),
-        "tables" => Ok(Some(board.tables(alloc)?)),
-        _ => Ok(None),
+fn line(alloc: Global, text: &Bytes) -> Result<String, anyhow::Error> {
+    Ok(line_of_bytes(alloc, text.as_slice())?)
+}
+
+// The report or its records, where all calls are answered.
+fn reported(alloc: Global, board: &Board, records: bool) -> Result<String, anyhow::Error> {
+    match board.report(alloc)? {
+        None => Ok(String::from_str(alloc, "open")?),
+        Some(report) if records => line(alloc, &board.records(alloc, &report)?),
+        Some(report) => line(alloc, &report_text(alloc, &report)?),
     }
 }

@@ -6,6 +6,7 @@ use crate::pairs::{Pair, learn, of_rows};
 use crate::server::{answered, sent};
 use anyhow::anyhow;
 use capture_format::append_reply;
+use desk_schema::Start;
 use desk_values::{Bytes, Captured, Event, Images, List, Memory, Outcome, Reply, Same};
 use machine_model::PlainMachine;
 use replay_history::{Class, Line};
@@ -145,10 +146,14 @@ pub fn answer_to(answers: &[Answer], stamp: usize) -> Option<&Answer> {
     None
 }
 
-/// What came of the capture itself: whether a machine answers each call as captured, and the committed rows at the end.
-pub fn captured_again(alloc: Global, case: &Case) -> Result<(bool, Images), anyhow::Error> {
-    let mut machine = PlainMachine::load(alloc, &case.start)?;
-    let same = answers_again(&mut machine, case.calls.as_slice())?;
+/// What came of a capture itself: whether a machine answers each call as captured, and the committed rows at the end.
+pub fn captured_again(
+    alloc: Global,
+    start: &Start,
+    calls: &[Captured],
+) -> Result<(bool, Images), anyhow::Error> {
+    let mut machine = PlainMachine::load(alloc, start)?;
+    let same = answers_again(&mut machine, calls)?;
     Ok((same, machine.tables()?))
 }
 

@@ -1,7 +1,8 @@
 //! What a replay is of, in plain parts.
 
+use crate::tables::Tables;
 use desk_schema::Start;
-use desk_values::{CallList, Captured, Copied, Memory, Txt};
+use desk_values::{CallList, Captured, Copied, Images, Memory, Txt};
 use std::alloc::Global;
 
 /// What the captured service is sent as.
@@ -12,12 +13,20 @@ pub type Service = (Txt, Txt);
 pub struct Case {
     /// The start of the capture.
     pub start: Start,
-    /// The start of the replay.
-    pub target: Start,
     /// The calls by stamp.
     pub calls: Vec<Captured>,
+    /// The tables of each.
+    pub tables: Vec<Tables>,
+    /// Whether a machine answers each call as captured.
+    pub as_captured: bool,
+    /// The committed rows at the end.
+    pub end: Images,
+    /// The start of a replay.
+    pub target: Start,
     /// Which services are sent as others.
     pub services: Vec<Service>,
+    /// Whether these are the captured start and services.
+    pub again: bool,
 }
 
 /// The calls of sessions by stamp: for each number in turn, the first that has it.

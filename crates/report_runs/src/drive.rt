@@ -7,14 +7,17 @@ ghost use Rattle.replay_job.specs.Job.{seen};
 ghost use Rattle.replay_job.specs.Replays.{IsSoundJob};
 
 use crate::case::Service;
+use crate::history::Past;
+use crate::laws::{Laws, Place};
+use crate::said::{Said, look_at_said};
 use anyhow::anyhow;
+use case_desks::{Board, Started};
 use case_jobs::{Ways, job_of};
 use case_random::{Capture, Random};
 use desk_schema::Start;
 use desk_values::{Bytes, List, Memory};
 use object_depends::Mode;
 use remap_ids::Remap;
-use replay_core::Desk;
 use replay_job::Job;
 use std::alloc::Global;
 
@@ -25,13 +28,13 @@ pub fn desk_of(
     target: &Start,
     services: &[Service],
     mode: Mode,
-) -> Result<Desk, anyhow::Error>
+) -> Result<Board, anyhow::Error>
     requires sessions { length capture.now.sessions ≤ 64 }
     requires lists { AreSessionsFrom 0 (lists_of capture.now.sessions) }
 {
     let remap = remap_of(alloc, services)?;
     let job = job(alloc, capture, target, remap, mode)?;
-    Ok(Desk::setup(alloc, job)?)
+    Ok(Board::of(alloc, job)?)
 }
 
 fn job(
@@ -76,22 +79,25 @@ fn remap_of(alloc: Global, services: &[Service]) -> Result<Remap, anyhow::Error>
     Ok(Remap::read(alloc, file.as_slice())?)
 }
 
-/// Starts and answers calls, of which there are so many, in a random order until all are answered.
+/// Starts and answers calls in a random order until all are answered, where each of them waits for these. What the desk says
+/// is looked at before each event and behind the last one.
 pub fn drive(
     alloc: Global,
-    desk: &mut Desk,
-    calls: u32,
+    board: &mut Board,
+    waits: &[Vec<u32>],
     random: &mut Random,
+    place: Place,
+    laws: &mut Laws,
 ) -> Result<(), anyhow::Error> {
-    for _ in 0..u64::from(calls).saturating_mul(2) {
-        let ready = ready(alloc, desk, calls)?;
-        let waiting = waiting(alloc, desk, calls)?;
-        match chosen(ready.as_slice(), waiting.as_slice(), random) {
-            Some(Step::Start(k)) => start(desk, k)?,
-            Some(Step::Answer(k)) => answer(desk, k)?,
-            None => return Err(anyhow!("stuck")),
-        }
+    let mut past = Past::new(alloc, waits.len())?;
+    for _ in 0..waits.len().saturating_mul(2) {
+        let said = asked(alloc, board, waits.len())?;
+        look_at_said(&said, waits, &past, place, laws);
+        let step = chosen(said.ready.as_slice(), said.waiting.as_slice(), random);
+        take(board, &mut past, step.ok_or(anyhow!("stuck"))?)?;
     }
+    let last = asked(alloc, board, waits.len())?;
+    look_at_said(&last, waits, &past, place, laws);
     Ok(())
 }
 
@@ -102,48 +108,77 @@ enum Step {
     Answer(u32),
 }
 
-fn chosen(ready: &[u32], waiting: &[u32], random: &mut Random) -> Option<Step> {
-    if waiting.is_empty() || (!ready.is_empty() && random.below(2) == 0) {
-        let k = ready.get(random.place(ready.len()))?;
-        Some(Step::Start(*k))
+fn chosen(ready: &[bool], waiting: &[bool], random: &mut Random) -> Option<Step> {
+    let start = any_of(ready, random);
+    let answer = any_of(waiting, random);
+    if answer.is_none() || (start.is_some() && random.below(2) == 0) {
+        Some(Step::Start(start?))
     } else {
-        let k = waiting.get(random.place(waiting.len()))?;
-        Some(Step::Answer(*k))
+        Some(Step::Answer(answer?))
     }
 }
 
-fn ready(alloc: Global, desk: &Desk, calls: u32) -> Result<Vec<u32>, Memory> {
-    let mut stamps = Vec::new(alloc);
-    for k in 0..calls {
-        if desk.ready(k) {
-            stamps.push(k)?;
+// The stamp of a flag that is set, each as likely.
+fn any_of(flags: &[bool], random: &mut Random) -> Option<u32> {
+    let mut chosen = None;
+    let mut count = 0u32;
+    for (stamp, flag) in flags.iter().enumerate() {
+        count = count.saturating_add(u32::from(*flag));
+        if *flag && random.below(count) == 0 {
+            chosen = u32::try_from(stamp).ok();
         }
     }
-    Ok(stamps)
+    chosen
 }
 
-fn waiting(alloc: Global, desk: &Desk, calls: u32) -> Result<Vec<u32>, Memory> {
-    let mut stamps = Vec::new(alloc);
-    for k in 0..calls {
-        if desk.waiting(k) {
-            stamps.push(k)?;
+fn asked(alloc: Global, board: &Board, calls: usize) -> Result<Said, Memory> {
+    let stamps = u32::try_from(calls.saturating_add(2)).unwrap_or(u32::MAX);
+    Ok(Said {
+        ready: ready(alloc, board, stamps)?,
+        waiting: waiting(alloc, board, stamps)?,
+        first_open: board.first_open(),
+    })
+}
+
+fn ready(alloc: Global, board: &Board, stamps: u32) -> Result<Vec<bool>, Memory> {
+    let mut flags = Vec::new(alloc);
+    for k in 0..stamps {
+        flags.push(board.ready(k))?;
+    }
+    Ok(flags)
+}
+
+fn waiting(alloc: Global, board: &Board, stamps: u32) -> Result<Vec<bool>, Memory> {
+    let mut flags = Vec::new(alloc);
+    for k in 0..stamps {
+        flags.push(board.waiting(k))?;
+    }
+    Ok(flags)
+}
+
+fn take(board: &mut Board, past: &mut Past, step: Step) -> Result<(), anyhow::Error> {
+    match step {
+        Step::Start(k) => {
+            past.start(k);
+            start(board, k)
+        }
+        Step::Answer(k) => {
+            past.answer(k);
+            answer(board, k)
         }
     }
-    Ok(stamps)
 }
 
-fn start(desk: &mut Desk, k: u32) -> Result<(), anyhow::Error> {
-    if desk.ready(k) && !desk.stopped() {
-        let _pause = desk.start(k);
-        return Ok(());
+fn start(board: &mut Board, k: u32) -> Result<(), anyhow::Error> {
+    match board.start(k) {
+        Started::After(_pause) => Ok(()),
+        Started::NotReady | Started::Stopped => Err(anyhow!("a ready call does not start")),
     }
-    Err(anyhow!("a ready call does not start"))
 }
 
-fn answer(desk: &mut Desk, k: u32) -> Result<(), anyhow::Error> {
-    if desk.waiting(k) {
-        desk.answer(k)?;
-        return Ok(());
+fn answer(board: &mut Board, k: u32) -> Result<(), anyhow::Error> {
+    if !board.answer(k)? {
+        return Err(anyhow!("a started call does not wait"));
     }
-    Err(anyhow!("a started call does not wait"))
+    Ok(())
 }

@@ -13,7 +13,9 @@ pub struct Amount {
     pub seed: u64,
     /// How many captures.
     pub captures: u32,
-    /// How many calls of each.
+    /// How many replays of each; the four modes take turns.
+    pub replays: u32,
+    /// How many calls a capture has at most, beside those that close sessions; it has at least half as many.
     pub calls: u32,
     /// Of how many sessions.
     pub sessions: u32,
@@ -42,6 +44,7 @@ impl Input {
             amount: Amount {
                 seed: 0,
                 captures: 0,
+                replays: 0,
                 calls: 0,
                 sessions: 0,
             },
@@ -71,11 +74,13 @@ fn txt(alloc: Global, text: &str) -> Result<Txt, ReadErr> {
 
 fn amount_of(text: &str) -> Result<Amount, anyhow::Error> {
     let (seed, rest) = text.split_once(' ').ok_or(anyhow!("no captures"))?;
-    let (captures, rest) = rest.split_once(' ').ok_or(anyhow!("no calls"))?;
+    let (captures, rest) = rest.split_once(' ').ok_or(anyhow!("no replays"))?;
+    let (replays, rest) = rest.split_once(' ').ok_or(anyhow!("no calls"))?;
     let (calls, sessions) = rest.split_once(' ').ok_or(anyhow!("no sessions"))?;
     Ok(Amount {
         seed: seed.parse()?,
         captures: captures.parse()?,
+        replays: replays.parse()?,
         calls: calls.parse()?,
         sessions: sessions.parse()?,
     })

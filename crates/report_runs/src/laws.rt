@@ -9,6 +9,9 @@ pub enum Rule {
     Journal,
     Once,
     Turns,
+    Ready,
+    Waiting,
+    FirstOpen,
     Pairs,
     Served,
     Counts,
@@ -29,10 +32,13 @@ pub enum Rule {
 }
 
 /// What each law says.
-const NAMES: [&str; 20] = [
+const NAMES: [&str; 23] = [
     "the journal is read back with its mode and events",
     "each call is started and answered once",
     "a call starts behind the answers that its mode waits for",
+    "ready says of each stamp whether the call may start",
+    "waiting says of each stamp whether the call is started and not answered",
+    "first_open is the least stamp of a call that is not answered",
     "no id stands twice on one side",
     "each reply is that of a machine to the call with its ids exchanged",
     "the report counts each class as the plain computation does",
@@ -52,22 +58,35 @@ const NAMES: [&str; 20] = [
     "order, captured start, own services: the report has no line",
 ];
 
-/// Where a law is looked at: at which capture, in which mode, at which call.
+/// Where a law is looked at: at which capture, at which replay of it, at which call.
 #[derive(Clone, Copy)]
 pub struct Place {
     /// The capture's number.
     pub capture: u32,
-    /// The mode of its replay.
+    /// The number of its replay.
+    pub replay: u32,
+    /// The mode of that.
     pub mode: Mode,
     /// The stamp of the call, where it is of one.
     pub call: Option<u32>,
 }
 
 impl Place {
+    /// A replay of a capture.
+    pub fn of(capture: u32, replay: u32, mode: Mode) -> Place {
+        Place {
+            capture,
+            replay,
+            mode,
+            call: None,
+        }
+    }
+
     /// The same, at a call.
     pub fn at(self, stamp: u32) -> Place {
         Place {
             capture: self.capture,
+            replay: self.replay,
             mode: self.mode,
             call: Some(stamp),
         }
@@ -131,7 +150,7 @@ fn line_of(alloc: Global, name: &str, law: &Law) -> Result<String, anyhow::Error
 }
 
 fn place_text(alloc: Global, place: Place) -> Result<String, anyhow::Error> {
-    let capture = place.capture;
+    let (capture, replay) = (place.capture, place.replay);
     let mode = match place.mode {
         Mode::Off => "off",
         Mode::Scn => "scn",
@@ -139,7 +158,9 @@ fn place_text(alloc: Global, place: Place) -> Result<String, anyhow::Error> {
         Mode::Order => "order",
     };
     match place.call {
-        Some(call) => Ok(format!(in alloc; "capture {capture}, {mode}, call {call}")?),
-        None => Ok(format!(in alloc; "capture {capture}, {mode}")?),
+        Some(call) => Ok(format!(in alloc;
+            "capture {capture}, replay {replay}, {mode}, call {call}"
+        )?),
+        None => Ok(format!(in alloc; "capture {capture}, replay {replay}, {mode}")?),
     }
 }

@@ -9,26 +9,24 @@ use crate::pairs::{Pair, stand_once};
 use crate::texts;
 use crate::told::Told;
 use crate::totals::Totals;
-use desk_values::{Bytes, Captured, Event, Image, Images};
+use desk_values::{Bytes, Event, Image, Images};
 use object_depends::Mode;
 use replay_history::{Line, Report};
 use std::alloc::Global;
 
-/// Looks at a replay of the case, where these are the captured rows at the end. `again` says that it is from the captured
-/// start and by the captured services.
+/// Looks at a replay of the case, where the calls wait for these.
 pub fn look(
     alloc: Global,
     case: &Case,
-    tables: &Images,
+    waits: &[Vec<u32>],
     told: &Told,
-    again: bool,
     place: Place,
     laws: &mut Laws,
 ) -> Result<Totals, anyhow::Error> {
     laws.see(Rule::Journal, place, told.kept);
     let events = told.journal.history.as_slice();
     let calls = case.calls.as_slice();
-    look_at_events(alloc, calls, events, place, laws)?;
+    look_at_events(alloc, waits, events, place, laws)?;
     let replayed = replay_of(alloc, case, events)?;
     let answers = replayed.answers.as_slice();
     look_at_replies(answers, place, laws);
@@ -36,9 +34,9 @@ pub fn look(
     look_at_report(&told.report, answers, calls.len(), place, laws);
     look_at_texts(alloc, told, &replayed, calls.len(), place, laws)?;
     if matches!(place.mode, Mode::Scn | Mode::Order) {
-        look_at_commits(alloc, &replayed, tables, place, laws)?;
+        look_at_commits(alloc, &replayed, &case.end, place, laws)?;
     }
-    if again && place.mode == Mode::Order {
+    if case.again && place.mode == Mode::Order {
         look_at_again(answers, &told.report, place, laws);
     }
     Ok(Totals::of(answers))
@@ -46,14 +44,14 @@ pub fn look(
 
 fn look_at_events(
     alloc: Global,
-    calls: &[Captured],
+    waits: &[Vec<u32>],
     events: &[Event],
     place: Place,
     laws: &mut Laws,
 ) -> Result<(), anyhow::Error> {
-    let count = u32::try_from(calls.len()).unwrap_or(u32::MAX);
+    let count = u32::try_from(waits.len()).unwrap_or(u32::MAX);
     laws.see(Rule::Once, place, are_once(events, count));
-    let turns = take_turns(alloc, calls, place.mode, events)?;
+    let turns = take_turns(alloc, waits, events)?;
     laws.see(Rule::Turns, place, turns);
     Ok(())
 }

@@ -5,13 +5,14 @@ ghost use Rattle.capture_laws.specs.Sessions.{AreSessionsFrom};
 ghost use Rattle.prepare_plan.specs.Lists.{lists_of};
 
 use crate::answers::captured_again;
-use crate::case::{Case, Service, by_stamp};
+use crate::case::{Case, by_stamp};
 use crate::desks::tell;
 use crate::drive::{desk_of, drive};
+use crate::history::waits_of;
 use crate::input::Input;
 use crate::laws::{Laws, Place, Rule};
 use crate::looks::look;
-use crate::told::Told;
+use crate::tables::tables_of;
 use crate::totals::Totals;
 use anyhow::anyhow;
 use capture_format::read_start;
@@ -37,7 +38,7 @@ pub fn told(alloc: Global, input: &Input) -> Result<Vec<String>, anyhow::Error> 
     Ok(lines)
 }
 
-// A capture, and its replays.
+// A random capture, and its replays.
 fn round(
     alloc: Global,
     input: &Input,
@@ -46,17 +47,84 @@ fn round(
     laws: &mut Laws,
 ) -> Result<Totals, anyhow::Error> {
     let first = input.starts.first().ok_or(anyhow!("no start file"))?;
-    let target = random.place(input.starts.len());
-    let services = services_of(alloc, input.services.as_slice(), random)?;
-    let again = target == 0 && services.is_empty();
-    let target = start_of(alloc, input.starts.get(target).unwrap_or(first))?;
-    let amount = input.amount;
-    let kinds = input.kinds.as_slice();
     let file = first.as_slice();
-    let capture = random_capture(alloc, file, kinds, random, amount.calls, amount.sessions)?;
-    replays(
-        alloc, &capture, target, services, again, number, random, laws,
-    )
+    let kinds = input.kinds.as_slice();
+    let most = input.amount.calls;
+    let calls = most.saturating_sub(random.below(most / 2 + 1));
+    let capture = random_capture(alloc, file, kinds, random, calls, input.amount.sessions)?;
+    let mut case = case_of(alloc, &capture)?;
+    let place = Place::of(number, 0, Mode::Order);
+    laws.see(Rule::Capture, place, case.as_captured);
+    replays(alloc, input, &capture, &mut case, number, random, laws)
+}
+
+fn case_of(alloc: Global, capture: &Capture) -> Result<Case, anyhow::Error> {
+    let start = &capture.start;
+    let calls = by_stamp(alloc, capture.sessions.as_slice())?;
+    let tables = tables_of(alloc, start.schema().tables(), calls.as_slice())?;
+    let (as_captured, end) = captured_again(alloc, start, calls.as_slice())?;
+    Ok(Case {
+        start: start.copy()?,
+        calls,
+        tables,
+        as_captured,
+        end,
+        target: start.copy()?,
+        services: Vec::new(alloc),
+        again: true,
+    })
+}
+
+// The replays of a capture, each on another start, and with a service that is sent as another or none.
+fn replays(
+    alloc: Global,
+    input: &Input,
+    capture: &Capture,
+    case: &mut Case,
+    captured: u32,
+    random: &mut Random,
+    laws: &mut Laws,
+) -> Result<Totals, anyhow::Error>
+    requires sessions { length capture.now.sessions ≤ 64 }
+    requires lists { AreSessionsFrom 0 (lists_of capture.now.sessions) }
+{
+    let mut totals = Totals::new();
+    for number in 0..input.amount.replays {
+        choose(alloc, input, random, case)?;
+        let place = Place::of(captured, number, mode_of(number));
+        let more = replay(alloc, capture, case, place, random, laws)?;
+        totals.add(&more);
+    }
+    Ok(totals)
+}
+
+// The modes take turns.
+fn mode_of(replay: u32) -> Mode {
+    match replay % 4 {
+        0 => Mode::Off,
+        1 => Mode::Scn,
+        2 => Mode::Object,
+        _ => Mode::Order,
+    }
+}
+
+// Chooses the start that is replayed on, and a service and what it is sent as, or none.
+fn choose(
+    alloc: Global,
+    input: &Input,
+    random: &mut Random,
+    case: &mut Case,
+) -> Result<(), anyhow::Error> {
+    let start = random.place(input.starts.len());
+    let service = random.place(input.services.len().saturating_mul(2));
+    let file = input.starts.get(start).ok_or(anyhow!("no start file"))?;
+    case.target = start_of(alloc, file)?;
+    case.services.clear();
+    if let Some((captured, replayed)) = input.services.get(service) {
+        case.services.push((captured.copy()?, replayed.copy()?))?;
+    }
+    case.again = start == 0 && case.services.is_empty();
+    Ok(())
 }
 
 fn start_of(alloc: Global, file: &Bytes) -> Result<Start, anyhow::Error> {
@@ -66,83 +134,23 @@ fn start_of(alloc: Global, file: &Bytes) -> Result<Start, anyhow::Error> {
     }
 }
 
-// None of the services, or one of them.
-fn services_of(
-    alloc: Global,
-    services: &[Service],
-    random: &mut Random,
-) -> Result<Vec<Service>, anyhow::Error> {
-    let mut chosen = Vec::new(alloc);
-    let place = random.place(services.len().saturating_mul(2));
-    if let Some((captured, replayed)) = services.get(place) {
-        chosen.push((captured.copy()?, replayed.copy()?))?;
-    }
-    Ok(chosen)
-}
-
-fn case_of(
+// A replay of a capture in a random order, which is looked at.
+fn replay(
     alloc: Global,
     capture: &Capture,
-    target: Start,
-    services: Vec<Service>,
-) -> Result<Case, anyhow::Error> {
-    Ok(Case {
-        start: capture.start.copy()?,
-        target,
-        calls: by_stamp(alloc, capture.sessions.as_slice())?,
-        services,
-    })
-}
-
-// The replays of a capture.
-fn replays(
-    alloc: Global,
-    capture: &Capture,
-    target: Start,
-    services: Vec<Service>,
-    again: bool,
-    number: u32,
+    case: &Case,
+    place: Place,
     random: &mut Random,
     laws: &mut Laws,
 ) -> Result<Totals, anyhow::Error>
     requires sessions { length capture.now.sessions ≤ 64 }
     requires lists { AreSessionsFrom 0 (lists_of capture.now.sessions) }
 {
-    let case = case_of(alloc, capture, target, services)?;
-    let (as_captured, tables) = captured_again(alloc, &case)?;
-    laws.see(Rule::Capture, place_of(number, Mode::Order), as_captured);
-    let mut totals = Totals::new();
-    for mode in [Mode::Off, Mode::Scn, Mode::Order] {
-        let told = replay(alloc, capture, &case, mode, random)?;
-        let place = place_of(number, mode);
-        let more = look(alloc, &case, &tables, &told, again, place, laws)?;
-        totals.add(&more);
-    }
-    Ok(totals)
-}
-
-fn place_of(capture: u32, mode: Mode) -> Place {
-    Place {
-        capture,
-        mode,
-        call: None,
-    }
-}
-
-// A replay of a capture, as its desk tells it.
-fn replay(
-    alloc: Global,
-    capture: &Capture,
-    case: &Case,
-    mode: Mode,
-    random: &mut Random,
-) -> Result<Told, anyhow::Error>
-    requires sessions { length capture.now.sessions ≤ 64 }
-    requires lists { AreSessionsFrom 0 (lists_of capture.now.sessions) }
-{
     let services = case.services.as_slice();
-    let mut desk = desk_of(alloc, capture, &case.target, services, mode)?;
-    let calls = u32::try_from(case.calls.len()).unwrap_or(u32::MAX);
-    drive(alloc, &mut desk, calls, random)?;
-    tell(alloc, &desk)
+    let mut board = desk_of(alloc, capture, &case.target, services, place.mode)?;
+    let (calls, tables) = (case.calls.as_slice(), case.tables.as_slice());
+    let waits = waits_of(alloc, calls, tables, place.mode)?;
+    drive(alloc, &mut board, waits.as_slice(), random, place, laws)?;
+    let told = tell(alloc, &board)?;
+    look(alloc, case, waits.as_slice(), &told, place, laws)
 }
