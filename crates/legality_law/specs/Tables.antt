@@ -16,7 +16,7 @@ abbrev pub IsAmong : ℕ → List Image → Type 0
 IsAmong table [] = ⊥
 IsAmong table (image ∷ images) = (image.table ≡ table) ⊎ IsAmong table images
 
--- the call is a commit that wrote rows of the table
+-- the call is a commit that changed rows of the table
 abbrev pub Writes : Captured → ℕ → Type 0
 Writes call table = IsAmong table (committed_in call.reply.outcome)
 

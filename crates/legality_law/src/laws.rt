@@ -43,7 +43,8 @@ pub fn right_values_are_legal()
 {}
 
 /// The tables that are known of a call are those that it speaks of: a numbered commit wrote and references those of its images, any
-/// other call references the table that its statement names, also where it was refused.
+/// other call references the table that its statement names, where the schema has it, or all tables before reads of one moment, also
+/// where it was refused.
 pub fn facts_tell_tables()
     ensures writes { (schema : SchemaView) (call : Captured) (table : ℕ) → (has_table (fact_of schema call).writes table ≡ true) ↔ Writes call table }
     ensures references { (schema : SchemaView) (call : Captured) (table : ℕ) → (has_table (fact_of schema call).refs table ≡ true) ↔ References schema call table }
