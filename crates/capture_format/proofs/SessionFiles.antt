@@ -1,5 +1,6 @@
 -- Session files and calls, both ways.
 use Rattle.std.proofs.Common.{◌≡◌, ℕ, ◌+◌, ◌<◌, ◌≤◌, ◌^◌, true, false, List, [], ◌∷◌, ◌++◌, length, Result, Ok, Err, refl, ap, sym, subst, ◌∙◌, append_assoc, append-nil, length-append}
+use Rattle.std.proofs.lemmas.List.{append_cancel_left}
 use Rattle.std.specs.List.{AllByRecursion}
 use Rattle.desk_values.specs.declared.capture.Captured.{Captured}
 use Rattle.desk_values.specs.Room.{Room}
@@ -15,7 +16,7 @@ use Rattle.capture_format.specs.declared.session_line.SessionLine.TheVariants.{H
 use Rattle.capture_format.specs.declared.session.Stage.{Stage}
 use Rattle.capture_format.specs.declared.session.Stage.TheVariants.{Empty, Headed, Ended}
 use Rattle.capture_format.specs.SessionView.{SessionView}
-use Rattle.capture_format.specs.SessionFile.{IsCallLine, captured_of, line_of, last_lines, MayCome, with_line, new_view, is_last, is_ended, session_form, IsCallAt, AreCallsFrom, IsBadSession, IsSessionFile}
+use Rattle.capture_format.specs.SessionFile.{IsCallLine, captured_of, line_of, last_lines, MayCome, with_line, new_view, is_last, is_ended, session_form, session_line_text, IsCallAt, AreCallsFrom, IsBadSession, IsSessionFile}
 use Rattle.capture_format.proofs.SessionTexts.{lacks}
 use Rattle.capture_format.proofs.Texts.{session_reader}
 
@@ -111,14 +112,21 @@ read_file session bytes calls small is =
 abbrev Verdict : Type 0
 Verdict = Result SessionView ℕ
 
--- bytes are the file of at most one list of calls
-pub one_file : (session : ℕ) (bytes : List ℕ) (calls others : List Captured) → session < 2 ^ 32 → IsSessionFile session bytes calls → IsSessionFile session bytes others → calls ≡ others
-one_file session bytes calls others small is also =
-    let first = read_file session bytes calls small is in
-    let second = read_file session bytes others small also in
-    let both : ◌≡◌ {A = Verdict} (Ok first.0) (Ok second.0) = once (Comes session_form) is_ended (says_one session_form session_reader) (new_view session) 1 bytes (Ok first.0) (Ok second.0) first.1 second.1 in
-    let same : first.0 ≡ second.0 = cc in
-    sym first.2 ∙ ap (λ (s : SessionView). s.calls) same ∙ second.2
+abbrev calls_in : Verdict → List Captured
+calls_in (Ok s) = s.calls
+calls_in (Err n) = []
+
+-- bytes are the file of at most one list of calls: behind the first line they lead to one state
+pub one_file : (session : ℕ) (bytes : List ℕ) (calls others : List Captured) → IsSessionFile session bytes calls → IsSessionFile session bytes others → calls ≡ others
+one_file session bytes calls others is also =
+    let s = with_line (new_view session) (Head session) in
+    let led = leads_to s calls refl is.calls_are is.fit in
+    let other = leads_to s others refl also.calls_are also.fit in
+    let same = append_cancel_left (session_line_text (Head session) ++ 10 ∷ []) (text_of session_form (last_lines calls)) (text_of session_form (last_lines others)) (sym is.text ∙ also.text) in
+    let first = lines_are_file session_form is_ended sound s (last_lines calls) led.are led.ended in
+    let second = subst (λ (b : List ℕ). IsFile (Comes session_form) is_ended s b (state_after session_form s (last_lines others))) (sym same) (lines_are_file session_form is_ended sound s (last_lines others) other.are other.ended) in
+    let both = once (Comes session_form) is_ended (says_one session_form session_reader) s 1 (text_of session_form (last_lines calls)) (Ok (state_after session_form s (last_lines calls))) (Ok (state_after session_form s (last_lines others))) first second in
+    sym led.holds ∙ ap calls_in both ∙ other.holds
 
 -- bytes with a bad line are no file of the session
 pub bad_file : (session : ℕ) (bytes : List ℕ) (n : ℕ) → session < 2 ^ 32 → IsBadSession session bytes n → (calls : List Captured) → ¬ IsSessionFile session bytes calls

@@ -10,6 +10,7 @@ use Rattle.capture_format.specs.ReplyReading.{reply_of}
 use Rattle.capture_format.specs.declared.session_line.CallLine.{CallLine}
 use Rattle.capture_format.specs.declared.session_line.Exchange.{Exchange}
 use Rattle.capture_format.specs.declared.session_line.SessionLine.{SessionLine}
+use Rattle.capture_format.specs.declared.session_line.TheConstants.{LAST_MOMENT}
 use Rattle.capture_format.specs.declared.session_line.SessionLine.TheVariants.{Head, Call, End}
 
 -- a number up to this one, and what stands behind the space after it
@@ -57,8 +58,8 @@ exchange_of bytes = do
 unfoldable pub call_line_of : List ℕ → Option CallLine
 call_line_of bytes = do
   stamp ← number_at 4294967295 bytes
-  began ← number_at 1000000000000 stamp.1
-  ended ← number_at 1000000000000 began.1
+  began ← number_at LAST_MOMENT stamp.1
+  ended ← number_at LAST_MOMENT began.1
   seen ← number_at 18446744073709551615 ended.1
   number ← commit_number_at seen.1
   exchange ← exchange_of number.1

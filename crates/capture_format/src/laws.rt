@@ -2,7 +2,7 @@
 //!
 //! With the contracts of the readers and writers, each undoes the other.
 
-ghost use Rattle.std.specs.Prelude.{◌≡◌, ◌<◌, ◌^◌, ℕ, List};
+ghost use Rattle.std.specs.Prelude.{◌≡◌, ℕ, List};
 ghost use Rattle.desk_values.specs.declared.call.Call.{Call};
 ghost use Rattle.desk_values.specs.declared.call.Reply.{Reply};
 ghost use Rattle.desk_values.specs.declared.capture.Captured.{Captured};
@@ -19,7 +19,7 @@ pub fn one_start()
 
 /// Bytes are the file of a session with at most one list of calls.
 pub fn one_session()
-    ensures { (session : ℕ) (bytes : List ℕ) (calls others : List Captured) → session < 2 ^ 32 → IsSessionFile session bytes calls → IsSessionFile session bytes others → calls ≡ others }
+    ensures { (session : ℕ) (bytes : List ℕ) (calls others : List Captured) → IsSessionFile session bytes calls → IsSessionFile session bytes others → calls ≡ others }
 {}
 
 /// Bytes have at most one first line that is none of a start file.

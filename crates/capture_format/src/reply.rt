@@ -12,13 +12,10 @@ ghost use Rattle.capture_format.specs.ReplyReading.{ReadsAs, fault_of, filled_of
 use crate::pieces::{Piece, read_pieces};
 use desk_values::fields::{append_u64, cut, read_u32, read_u64};
 use desk_values::{
-    Bytes, Fault, Image, Images, List, Memory, Outcome, ReadErr, Reply, RowList, Values, all_draws,
-    read_values, rows_ascend, write_values,
+    Bytes, Fault, Image, Images, List, Memory, Outcome, ReadErr, Reply, RowList, TABLE_LIMIT,
+    Values, all_draws, read_values, rows_ascend, write_values,
 };
 use std::alloc::Global;
-
-/// How many tables a schema may have: their numbers are below it.
-const TABLE_LIMIT: u32 = 32;
 
 /// The reply that all the bytes spell: the outcome, the draws in brackets, and the made row behind `r` or `-`, with
 /// spaces between. The outcome is `connected`, `disconnected`, `rolledback` or `marked`; `rows` with each row in brackets,

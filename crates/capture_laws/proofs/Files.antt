@@ -5,9 +5,9 @@ use Rattle.std.specs.List.{AllByRecursion, range_with_len}
 use Rattle.std.proofs.lemmas.Bool.{cases_Bool, eqb-true}
 use Rattle.desk_values.specs.declared.capture.Captured.{Captured}
 use Rattle.capture_format.specs.SessionFile.{AreCallsFrom, AreCallsOf}
-use Rattle.replay_history.specs.Gap.{IsCallAt}
+use Rattle.replay_history.specs.Gap.{IsCallAt, IsStamped}
 use Rattle.capture_laws.specs.Sessions.{AreSessionsFrom, calls_of, is_of, session_lists}
-use Rattle.capture_laws.specs.Stamped.{ArePlaced, HasText, IsStamped}
+use Rattle.capture_laws.specs.Stamped.{ArePlaced, HasText}
 use Rattle.capture_laws.proofs.Counts.{count_cons}
 use Rattle.capture_laws.proofs.Members.{each_get}
 

@@ -6,7 +6,7 @@ use Rattle.std.specs.List.Sorted.{IsPermutation}
 use Rattle.std.proofs.lemmas.Bool.{eq-eqb, ne_eqb}
 use Rattle.std.proofs.lemmas.List.Sorted.{All-permutation, IsPermutation-sym, length_permutation, sum_by-IsPermutation}
 use Rattle.desk_values.specs.declared.capture.Captured.{Captured}
-use Rattle.capture_laws.specs.Stamped.{IsStamped}
+use Rattle.replay_history.specs.Gap.{IsStamped}
 use Rattle.capture_laws.specs.Stamps.{HasEach, by_stamp, count_at, has_stamp, stamps_for}
 use Rattle.capture_laws.proofs.Counts.{count_no, count_yes}
 use Rattle.capture_laws.proofs.Members.{found_holds, some_is}

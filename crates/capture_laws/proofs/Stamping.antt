@@ -5,7 +5,7 @@ use Rattle.std.specs.List.{filter_map, find, range_with_len}
 use Rattle.std.proofs.lemmas.Bool.{eqb-true}
 use Rattle.desk_values.proofs.Words.{find_passes}
 use Rattle.desk_values.specs.declared.capture.Captured.{Captured}
-use Rattle.capture_laws.specs.Stamped.{IsStamped}
+use Rattle.replay_history.specs.Gap.{IsStamped}
 use Rattle.capture_laws.specs.Stamps.{HasEach, by_stamp, call_at, count_at, has_stamp, stamps_for}
 use Rattle.capture_laws.proofs.Counts.{not_found}
 

@@ -1,4 +1,4 @@
--- Calls that stand by stamp, at their places, fit there, and have texts.
+-- Calls that stand at their places, fit there, and have texts.
 use Rattle.std.specs.Prelude.{◌≡◌, ◌≤◌, ℕ, List}
 use Rattle.desk_values.specs.declared.value.Image.{Image}
 use Rattle.desk_values.specs.declared.capture.Captured.{Captured}
@@ -6,10 +6,6 @@ use Rattle.desk_values.specs.Good.{IsGoodReply}
 use Rattle.capture_format.specs.declared.session_line.TheConstants.{LAST_MOMENT}
 use Rattle.replay_history.specs.Capture.{FitsIn, session_calls_before}
 use Rattle.replay_history.specs.Gap.{IsCallAt}
-
--- each call stands at its stamp
-abbrev pub IsStamped : List Captured → Type 0
-IsStamped calls = (k : ℕ) (call : Captured) → IsCallAt calls k call → call.stamp ≡ k
 
 -- each call stands behind as many of its session as its place says
 abbrev pub ArePlaced : List Captured → Type 0

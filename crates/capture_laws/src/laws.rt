@@ -11,7 +11,7 @@ ghost use Rattle.desk_values.specs.declared.capture.Captured.{Captured};
 ghost use Rattle.desk_values.specs.Good.{IsGoodReply};
 ghost use Rattle.capture_format.specs.SessionFile.{AreCallsOf};
 ghost use Rattle.replay_history.specs.Capture.{FitsIn, IsKnown, session_calls_before};
-ghost use Rattle.replay_history.specs.Gap.{IsCallAt, IsJustBefore};
+ghost use Rattle.replay_history.specs.Gap.{IsCallAt, IsJustBefore, IsStamped};
 ghost use Rattle.object_depends.specs.declared.fact.Fact.{Fact};
 ghost use Rattle.object_depends.specs.Facts.{AreSound};
 ghost use Rattle.capture_laws.specs.Known.{ids_known, is_stranger};
@@ -19,7 +19,7 @@ ghost use Rattle.capture_laws.specs.Moments.{ended_in};
 ghost use Rattle.capture_laws.specs.Numbered.{AreKnown, AreNumbered};
 ghost use Rattle.capture_laws.specs.Same.{same_reply, same_value};
 ghost use Rattle.capture_laws.specs.Sessions.{AreSessionsFrom, session_lists};
-ghost use Rattle.capture_laws.specs.Stamped.{AllFit, ArePlaced, HasText, IsStamped};
+ghost use Rattle.capture_laws.specs.Stamped.{AllFit, ArePlaced, HasText};
 ghost use Rattle.capture_laws.specs.Stamps.{HasEach, all_calls, by_stamp};
 
 /// The tests of two values and of two replies tell whether they are equal.

@@ -16,6 +16,7 @@ use Rattle.machine_model.specs.Step.{Gives, reply_in, step}
 use Rattle.capture_recorder.specs.declared.refusal.CallErr.{CallErr}
 use Rattle.capture_recorder.specs.declared.refusal.CallErr.TheVariants.{Stranger, Full, Memory}
 use Rattle.capture_recorder.specs.declared.recorder.TheConstants.{ACCEPTED_LIMIT}
+use Rattle.replay_history.specs.declared.limits.TheConstants.{CALL_LIMIT}
 
 pub record Recording : Type 0 where
   pub start : StartView
@@ -93,5 +94,5 @@ pub record IsRecording (r : Recording) : Type 0 where
   -- after which the server is in this state
   pub reached : IsRun Gives (opening r.start) r.calls r.state
   -- each session that is connected can still be disconnected
-  pub room : length r.calls + connected_count r.state ≤ 100000
+  pub room : length r.calls + connected_count r.state ≤ CALL_LIMIT
   pub texts : AllByRecursion HasText r.calls

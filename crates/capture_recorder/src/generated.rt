@@ -19,8 +19,7 @@ use desk_values::{Binds, Call, List, Memory, Txt, Value, Values};
 use std::alloc::Global;
 
 /// The recorder of the first calls of the generated capture, so many of them. Its start and the lists of its four sessions
-/// are the capture. A line of the start that broke a rule would be told as want of memory; that none does is shown by cases
-/// and not proved.
+/// are the capture. A line of the start that broke a rule would be told as want of memory; `generated_law` says that none does.
 pub fn generate(alloc: Global, calls: u32) -> Result<Recorder, Memory>
     requires least { 1 ≤ calls }
     requires most { calls ≤ 10000 }
@@ -76,7 +75,7 @@ fn tables(alloc: Global) -> Result<Draft, Memory>
     Ok(draft)
 }
 
-// A line that broke a rule would be told as want of memory here and below.
+// A line that broke a rule would be told as want of memory here and below; none does.
 fn nothing_declared(alloc: Global) -> Result<Draft, Memory>
     ensures { IfOk result (λ draft. draft ≡ added (added nothing StartLine.Head) (StartLine.Level 1)) }
 {

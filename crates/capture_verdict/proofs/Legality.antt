@@ -40,7 +40,7 @@ use Rattle.capture_laws.proofs.Following.{follows}
 use Rattle.capture_laws.proofs.Places.{place_is}
 use Rattle.capture_laws.proofs.Sameness.{reply_is}
 use Rattle.capture_laws.proofs.Strangers.{known_tells}
-use Rattle.capture_verdict.specs.declared.refusal.TheConstants.{CALL_LIMIT}
+use Rattle.replay_history.specs.declared.limits.TheConstants.{CALL_LIMIT}
 
 fit_calls : (session place least : ℕ) (calls : List Captured) → session < 64 → AreCallsFrom session place least calls → AllByRecursion IsFit calls
 fit_calls session place least [] lt are = tt

@@ -2,8 +2,9 @@
 use Rattle.std.specs.Prelude.{ℕ, ◌<◌}
 use Rattle.desk_values.specs.Good.{IsGoodReply}
 use Rattle.desk_values.specs.declared.capture.Captured.{Captured}
+use Rattle.replay_history.specs.declared.limits.TheConstants.{SESSIONS}
 
 -- a session that there is, and a reply that can be written
 pub record IsFit (call : Captured) : Type 0 where
-  pub session : call.session < 64
+  pub session : call.session < SESSIONS
   pub reply : IsGoodReply call.reply

@@ -10,7 +10,7 @@ use Rattle.machine_model.specs.State.{opening}
 use Rattle.machine_model.specs.Step.{reply_in, run}
 use Rattle.replay_history.specs.Capture.{binds_of, commits}
 use Rattle.capture_verdict.specs.declared.refusal.Refusal.{Refusal}
-use Rattle.capture_verdict.specs.declared.refusal.TheConstants.{CALL_LIMIT}
+use Rattle.replay_history.specs.declared.limits.TheConstants.{CALL_LIMIT}
 use Rattle.capture_verdict.specs.declared.refusal.Refusal.TheVariants.{TooMany, Stamp, Number, Seen, Times, Stranger, Reply as OtherReply}
 use Rattle.capture_laws.specs.Known.{ids_known, is_stranger}
 use Rattle.capture_laws.specs.Moments.{ended_in}

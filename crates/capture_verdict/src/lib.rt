@@ -7,4 +7,4 @@
 pub mod laws;
 mod refusal;
 
-pub use refusal::{CALL_LIMIT, Refusal};
+pub use refusal::Refusal;

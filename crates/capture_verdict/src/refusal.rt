@@ -3,25 +3,27 @@ ghost use Rattle.capture_verdict.specs.declared.refusal.Refusal.TheVariants.{Mem
 
 use desk_values::{Memory, Reply};
 use std::alloc::{AllocError, AllocFailed};
-
-/// How many calls a capture has at most.
-pub const CALL_LIMIT: usize = 100_000;
+use std::fmt;
+use thiserror::Error;
 
 /// Why calls are no capture that can be replayed. The tests are tried in this order, each over the whole capture, and
-/// each tells the least stamp where it fails.
-#[derive(Drop)]
+/// each but the first tells the least stamp where it fails.
+#[derive(Drop, Error)]
 pub enum Refusal {
     /// There are too many calls.
+    #[error("{calls} calls")]
     TooMany {
         /// How many there are.
         calls: u64,
     },
     /// A number below that of the calls is not the stamp of exactly one of them.
+    #[error("stamp {stamp}")]
     Stamp {
         /// That number.
         stamp: u32,
     },
     /// A call's number is not that of its commit.
+    #[error("stamp {stamp} has number {written}, not {right}")]
     Number {
         /// Its stamp.
         stamp: u32,
@@ -31,6 +33,7 @@ pub enum Refusal {
         right: u64,
     },
     /// A call did not see just the numbered commits before it.
+    #[error("stamp {stamp} saw {written}, not {right}")]
     Seen {
         /// Its stamp.
         stamp: u32,
@@ -40,16 +43,19 @@ pub enum Refusal {
         right: u64,
     },
     /// A call ended before it began, or began before its session's call before it ended.
+    #[error("times at stamp {stamp}")]
     Times {
         /// Its stamp.
         stamp: u32,
     },
     /// A bind is an id that nobody has given yet.
+    #[error("unknown id at stamp {stamp}")]
     Stranger {
         /// The call's stamp.
         stamp: u32,
     },
     /// The machine gives another reply.
+    #[error("another reply at stamp {stamp}")]
     Reply {
         /// The call's stamp.
         stamp: u32,
@@ -59,7 +65,14 @@ pub enum Refusal {
         right: Reply,
     },
     /// Want of memory.
+    #[error("out of memory")]
     Memory,
+}
+
+impl fmt::Debug for Refusal {
+    fn fmt<W: fmt::Write>(&self, f: &mut fmt::Formatter<W>) -> fmt::Result {
+        fmt::Display::fmt(self, f)
+    }
 }
 
 impl From<Memory> for Refusal {

@@ -9,8 +9,8 @@ mod target;
 ghost use Rattle.std.specs.Prelude.{◌≡◌, ◌≤◌, length, IfOk};
 ghost use Rattle.capture_laws.specs.Sessions.{AreSessionsFrom};
 ghost use Rattle.prepare_plan.specs.Lists.{lists_of};
-ghost use Rattle.job_laws.specs.Jobs.{HasMoments, IsLegalFrom};
-ghost use Rattle.replay_job.specs.Job.{AreKnownOf, IsTarget, seen};
+ghost use Rattle.capture_verdict.specs.Verdict.{IsLegal};
+ghost use Rattle.replay_job.specs.Job.{AreKnownOf, HasMoments, IsTarget, seen};
 ghost use Rattle.replay_job.specs.Replays.{IsSoundJob};
 
 use crate::target::may_begin;
@@ -79,7 +79,7 @@ pub fn job_of(
 fn tested(alloc: Global, start: &Start, sessions: &SessionLists) -> Result<Prepared, NoJob>
     requires sessions { length sessions.now ≤ 64 }
     requires lists { AreSessionsFrom 0 (lists_of sessions.now) }
-    ensures legal { IfOk result (λ prepared. IsLegalFrom start.now prepared.calls.items) }
+    ensures legal { IfOk result (λ prepared. IsLegal start.now prepared.calls.items) }
     ensures known { IfOk result (λ prepared. AreKnownOf prepared.calls.items prepared.facts) }
     ensures moments { IfOk result (λ prepared. HasMoments prepared.calls.items) }
 {
@@ -98,7 +98,7 @@ fn job_on(
     remap: Remap,
     ways: Ways,
 ) -> Result<Job, Memory>
-    requires legal { IsLegalFrom start.now prepared.calls.items }
+    requires legal { IsLegal start.now prepared.calls.items }
     requires known { AreKnownOf prepared.calls.items prepared.facts }
     requires moments { HasMoments prepared.calls.items }
     requires target { IsTarget start.now target.now }

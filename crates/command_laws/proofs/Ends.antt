@@ -38,14 +38,14 @@ plan_tells out job plan history other last later done also =
 
 pub again_quiet : RunsAgainAreQuiet
 again_quiet out job plan history last again done =
-    let clean = again_clean job history last done.0 again in (
+    let clean = again_clean job history last done.0.replay again in (
       done.1.differs ∙ ap (λ (r : Report). nat_lt 0 (length r.lines)) clean,
       done.1.line ∙ ap (λ (r : Report). replayed_line (length job.calls) (length r.lines)) clean,
-      again_as_captured job history last done.0 again,
+      again_as_captured job history last done.0.replay again,
     )
 
 pub carried : TablesAreCarried
-carried out job plan history last captured waits done none came = tables_carried job history last captured done.0 waits none came
+carried out job plan history last captured waits done none came = tables_carried job history last captured done.0.replay waits none came
 
 no_lines : (lines : List Line) → nat_lt 0 (length lines) ≡ false → lines ≡ []
 no_lines [] none = refl
@@ -55,5 +55,5 @@ no_lines (line ∷ lines) none =
 
 pub quiet_carried : QuietRunsCarryTables
 quiet_carried out job plan history last captured waits done quiet came =
-    let none = no_line_none job history last done.0 (no_lines _ (sym done.1.differs ∙ quiet)) in
-    tables_carried job history last captured done.0 waits none came
+    let none = no_line_none job history last done.0.replay (no_lines _ (sym done.1.differs ∙ quiet)) in
+    tables_carried job history last captured done.0.replay waits none came

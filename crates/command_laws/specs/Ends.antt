@@ -5,11 +5,11 @@ use Rattle.machine_model.specs.State.{State}
 use Rattle.replay_history.specs.declared.mode.Mode.{Mode}
 use Rattle.replay_history.specs.Texts.{journal_text}
 use Rattle.replay_job.specs.Job.{JobView}
-use Rattle.replay_job.specs.Runs.{Stage}
+use Rattle.replay_job.specs.Runs.{Stage, end_tables}
 use Rattle.replay_report.specs.JournalFile.{IsJournal}
 use Rattle.end_law.specs.Answers.{HasNoWriteDivergence, IsAgain, WaitsForCommits}
 use Rattle.end_law.specs.Laws.{IsAsCaptured}
-use Rattle.end_law.specs.Tables.{AreCarried, CameTo, end_tables}
+use Rattle.end_law.specs.Tables.{AreCarried, CameTo}
 use Rattle.replay_cli.specs.declared.plan.Plan.{Plan}
 use Rattle.replay_cli.specs.Done.{IsDoneBy, IsQuiet}
 use Rattle.replay_cli.specs.Lines.{replayed_line}

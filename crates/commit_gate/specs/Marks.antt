@@ -6,6 +6,7 @@ use Rattle.commit_gate.specs.declared.mark.Watch.{Watch}
 use Rattle.commit_gate.specs.declared.mark.Watch.TheVariants.{Every, Commits, Table}
 use Rattle.commit_gate.specs.declared.mark.Mark.{Mark}
 use Rattle.commit_gate.specs.Heads.{is_in}
+use Rattle.desk_values.specs.declared.value.TheConstants.{TABLE_LIMIT}
 
 -- whether a call is of the kind that is watched: every call, the numbered commits, those that wrote a table
 abbrev pub watches : Watch → Fact → Bool
@@ -14,7 +15,7 @@ watches Commits fact = is_commit fact
 watches (Table table) fact = is_commit fact && has_table fact.writes table
 
 abbrev pub IsWatch : Watch → Type 0
-IsWatch (Table table) = table < 32
+IsWatch (Table table) = table < TABLE_LIMIT
 IsWatch other = Unit {0}
 
 -- each watched call below `at` is answered, and there are `count` of them
@@ -41,4 +42,4 @@ AreTableMarks facts answered marks n = (table : ℕ) → table < n → IsMark (T
 
 -- the marks of all tables in a set have come to a call
 abbrev pub AreTablesPassed : List Mark → ℕ → ℕ → Type 0
-AreTablesPassed marks refs k = (table : ℕ) → table < 32 → has_table refs table ≡ true → k ≤ (mark_at marks table).at
+AreTablesPassed marks refs k = (table : ℕ) → table < TABLE_LIMIT → has_table refs table ≡ true → k ≤ (mark_at marks table).at

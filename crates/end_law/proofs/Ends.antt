@@ -30,9 +30,9 @@ use Rattle.renaming_law.specs.Twins.{AreSets}
 use Rattle.renaming_law.proofs.Rising.{rising_bags}
 use Rattle.divergence.specs.Class.{is_write_divergence}
 use Rattle.replay_job.specs.Job.{JobView}
-use Rattle.replay_job.specs.Runs.{Executes, Stage, first_stage}
+use Rattle.replay_job.specs.Runs.{Executes, Stage, end_tables, first_stage}
 use Rattle.end_law.specs.Answers.{HasNoWriteDivergence, IsReplay, WaitsForCommits}
-use Rattle.end_law.specs.Tables.{AreCarried, CameTo, end_tables}
+use Rattle.end_law.specs.Tables.{AreCarried, CameTo}
 use Rattle.end_law.proofs.Truth.{Both, step_at, with_each, without}
 use Rattle.end_law.proofs.Stages.{captured_sound, more_pairs, replayed_sound, run_sound, stays_sound}
 use Rattle.end_law.proofs.Order.{answered, recorded, same_order, tested}

@@ -11,9 +11,9 @@ use Rattle.replay_history.specs.Gap.{IsCallAt}
 use Rattle.replay_history.specs.History.{AnswersAt}
 use Rattle.id_pairs.specs.Pairs.{IdPair, IsIdMap}
 use Rattle.replay_job.specs.Job.{IsReplayable, JobView}
-use Rattle.replay_job.specs.Runs.{IsCompleteFor, IsLegalFor, IsTruthfulFor, Stage}
+use Rattle.replay_job.specs.Runs.{IsCompleteFor, IsLegalFor, IsTruthfulFor, Stage, end_tables}
 use Rattle.end_law.specs.Answers.{HasNoWriteDivergence, IsAgain, IsAnsweredAt, IsReplay, WaitsForCommits, class_after}
-use Rattle.end_law.specs.Tables.{AreCarried, CameTo, end_tables}
+use Rattle.end_law.specs.Tables.{AreCarried, CameTo}
 use Rattle.end_law.specs.Twins.{CameBefore, IsTwinCall}
 
 -- ---- answers

@@ -1,8 +1,8 @@
 -- The tables of a capture as a replay has them.
-use Rattle.std.specs.Prelude.{List, length}
+use Rattle.std.specs.Prelude.{List}
 use Rattle.desk_values.specs.declared.value.Image.{Image}
 use Rattle.machine_model.specs.Rows.{IsRising}
-use Rattle.machine_model.specs.State.{State, opening, tables}
+use Rattle.machine_model.specs.State.{State, opening}
 use Rattle.machine_model.specs.Step.{Gives}
 use Rattle.replay_history.specs.Capture.{IsRun}
 use Rattle.id_pairs.specs.Pairs.{IdPair}
@@ -13,10 +13,6 @@ use Rattle.replay_job.specs.Job.{JobView}
 -- the state that the captured server came to
 abbrev pub CameTo : JobView → State → Type 0
 CameTo job state = IsRun Gives (opening job.start) job.calls state
-
--- the tables after all commits
-abbrev pub end_tables : State → List Image
-end_tables state = tables state (length state.commits)
 
 -- the rows of the one list are those of the other with each row number and each id replaced by its image, by ascending row
 pub record AreCarried (pairs : List IdPair) (captured replayed : List Image) : Type 0 where

@@ -3,13 +3,16 @@ ghost use Rattle.file_lines.specs.File.{Says};
 use crate::file::LineFile;
 use desk_values::ReadErr;
 use desk_values::fields::cut;
+use thiserror::Error;
 
 /// Why a file was not read.
-#[derive(Clone, Copy, Debug, PartialEq, Eq)]
+#[derive(Clone, Copy, Debug, PartialEq, Eq, Error)]
 pub enum FormErr {
     /// The number of the first line, from 1, that is not a whole line that may come after those before it.
+    #[error("line {line} is not whole or may not come there")]
     Bad { line: u64 },
     /// Want of memory.
+    #[error("out of memory")]
     Memory,
 }
 

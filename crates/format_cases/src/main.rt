@@ -12,7 +12,7 @@ use capture_format::{
     write_session, write_start,
 };
 use case_text::bytes_of_line;
-use desk_values::{Bytes, Memory, ReadErr};
+use desk_values::{Bytes, ReadErr};
 use std::alloc::Global;
 
 fn main(rt: HostRuntime) -> Result<(), anyhow::Error> {
@@ -44,14 +44,14 @@ fn answered(alloc: Global, wanted: &str, bytes: &[u8]) -> Result<String, anyhow:
 fn refused(alloc: Global, error: FormErr) -> Result<String, anyhow::Error> {
     match error {
         FormErr::Bad { line } => Ok(format!(in alloc; "bad {line}")?),
-        FormErr::Memory => Err(Memory.into()),
+        FormErr::Memory => Err(error.into()),
     }
 }
 
 fn bad(alloc: Global, error: ReadErr) -> Result<String, anyhow::Error> {
     match error {
         ReadErr::Bad => Ok(String::from_str(alloc, "bad")?),
-        ReadErr::Memory => Err(Memory.into()),
+        ReadErr::Memory => Err(error.into()),
     }
 }
 

@@ -21,7 +21,8 @@ use Rattle.history_laws.proofs.Extended.{answer_is, answered_in, answered_kept, 
 use Rattle.history_laws.proofs.Items.{item_there, last_at, some}
 use Rattle.history_laws.proofs.Places.{one_gap}
 use Rattle.replay_job.specs.Job.{IsReplayable, JobView}
-use Rattle.replay_job.specs.Runs.{IsLegalFor, IsPauseIn, IsWaiting, MayStart, Requires}
+use Rattle.replay_job.specs.Runs.{IsLegalFor, IsPauseIn, MayStart, Requires}
+use Rattle.replay_history.specs.History.{IsWaiting}
 use Rattle.gate_law.specs.Following.{IsGateOf, size}
 use Rattle.gate_law.proofs.Turns.{before_is_just, just_is_before}
 

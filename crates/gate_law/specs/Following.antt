@@ -1,11 +1,11 @@
 -- A gate that has just the starts and the answers of a history.
 use Rattle.std.specs.Prelude.{◌≡◌, ◌↔◌, ℕ, ◌+◌, Bool, true, ◌&&◌, not, List, length, count_by}
 use Rattle.desk_values.specs.declared.capture.Event.{Event}
-use Rattle.replay_history.specs.History.{IsAnswered}
+use Rattle.replay_history.specs.History.{IsAnswered, IsStarted}
 use Rattle.commit_gate.specs.Gates.{GateView}
 use Rattle.commit_gate.specs.Heads.{is_in}
 use Rattle.replay_job.specs.Job.{IsReplayable, JobView}
-use Rattle.replay_job.specs.Runs.{IsLegalFor, IsStarted}
+use Rattle.replay_job.specs.Runs.{IsLegalFor}
 
 -- how many stamps stand in a set
 abbrev pub size : List Bool → ℕ

@@ -6,8 +6,8 @@ use Rattle.desk_values.specs.declared.capture.Captured.{Captured}
 use Rattle.desk_values.specs.declared.capture.Event.{Event}
 use Rattle.desk_values.specs.declared.capture.Event.TheVariants.{Start, Answer}
 use Rattle.replay_history.specs.Gap.{IsCallAt}
-use Rattle.replay_history.specs.History.{AnswersAt, IsAnswered, IsAnsweredBefore, IsLegalHistory, IsStartedBefore, StartsAt}
-use Rattle.history_laws.specs.Going.{IsStarted, MayAnswer, MayGo}
+use Rattle.replay_history.specs.History.{AnswersAt, IsAnswered, IsAnsweredBefore, IsLegalHistory, IsStarted, IsStartedBefore, IsWaiting, StartsAt}
+use Rattle.history_laws.specs.Going.{MayGo}
 use Rattle.history_laws.proofs.Items.{at_push, kept_at, last_at}
 
 pub none_started : (k : ℕ) → IsStarted [] k → ⊥
@@ -161,7 +161,7 @@ module _ (calls : List Captured) (required : ℕ → ℕ → Type 0) (paused : C
     old : (i l q : ℕ) → StartsAt (history ++ Answer k reply ∷ []) i l q → StartsAt history i l q
     old i l q e = elim (at_push history (Answer k reply) i (Start l q) e) [ inl before ↦ before | inr last ↦ absurd (cc (last.1)) ]
 
-  pub answer_legal : (k : ℕ) (reply : Reply) → IsLegal (history ++ Answer k reply ∷ []) → MayAnswer history k
+  pub answer_legal : (k : ℕ) (reply : Reply) → IsLegal (history ++ Answer k reply ∷ []) → IsWaiting history k
   answer_legal k reply legal = (
     start_before history (Answer k reply) k (legal.answer_started (length history) k reply (last_at history (Answer k reply))),
     λ there.

@@ -6,7 +6,7 @@ use Rattle.std.proofs.lemmas.Bool.Decides.{eqb_tells}
 use Rattle.std.proofs.lemmas.List.Sums.{count_by_more_yes, count_by_more_no}
 use Rattle.std.proofs.lemmas.Option.{slice_get_within, slice_get-get_or, get_or_from_slice_get}
 use Rattle.desk_values.specs.declared.capture.Captured.{Captured}
-use Rattle.replay_history.specs.Gap.{IsCallAt, IsGap, IsJustBefore}
+use Rattle.replay_history.specs.Gap.{IsCallAt, IsJustBefore}
 use Rattle.replay_history.specs.Capture.{session_calls_before}
 use Rattle.history_laws.specs.Laws.{IsOneBefore, IsOneGap}
 use Rattle.history_laws.specs.Places.{AreInPlace}

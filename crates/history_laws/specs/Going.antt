@@ -3,10 +3,7 @@ use Rattle.std.specs.Prelude.{ℕ, List}
 use Rattle.desk_values.specs.declared.capture.Captured.{Captured}
 use Rattle.desk_values.specs.declared.capture.Event.{Event}
 use Rattle.replay_history.specs.Gap.{IsCallAt, IsJustBefore}
-use Rattle.replay_history.specs.History.{IsAnswered, StartsAt}
-
-abbrev pub IsStarted : List Event → ℕ → Type 0
-IsStarted history k = (i : ℕ) × (pause : ℕ) × StartsAt history i k pause
+use Rattle.replay_history.specs.History.{IsAnswered, IsStarted}
 
 -- call k may start now, with this pause
 pub record MayGo (calls : List Captured) (required : ℕ → ℕ → Type 0) (paused : Captured → ℕ → Type 0) (history : List Event) (k pause : ℕ) : Type 0 where
@@ -14,7 +11,3 @@ pub record MayGo (calls : List Captured) (required : ℕ → ℕ → Type 0) (pa
   pub fresh : IsStarted history k → ⊥
   pub turn : (call before : Captured) (j : ℕ) → IsCallAt calls k call → IsCallAt calls j before → IsJustBefore before call → IsAnswered history j
   pub needs : (j : ℕ) → required k j → IsAnswered history j
-
--- call k is started and not answered
-abbrev pub MayAnswer : List Event → ℕ → Type 0
-MayAnswer history k = IsStarted history k × (IsAnswered history k → ⊥)

@@ -5,8 +5,8 @@ use Rattle.desk_values.specs.declared.capture.Captured.{Captured}
 use Rattle.desk_values.specs.declared.capture.Event.{Event}
 use Rattle.desk_values.specs.declared.capture.Event.TheVariants.{Start, Answer}
 use Rattle.replay_history.specs.Gap.{IsCallAt, IsGap, IsJustBefore}
-use Rattle.replay_history.specs.History.{IsLegalHistory, IsTruthfulHistory}
-use Rattle.history_laws.specs.Going.{MayAnswer, MayGo}
+use Rattle.replay_history.specs.History.{IsLegalHistory, IsTruthfulHistory, IsWaiting}
+use Rattle.history_laws.specs.Going.{MayGo}
 use Rattle.history_laws.specs.Places.{AreInPlace}
 
 -- ---- one event more: `required` and `paused` are as in `IsLegalHistory`, `executes` as in `IsTruthfulHistory`
@@ -17,7 +17,7 @@ LegalWithAStart required paused = (calls : List Captured) (history : List Event)
 
 abbrev pub LegalWithAnAnswer : (ℕ → ℕ → Type 0) → (Captured → ℕ → Type 0) → Type 0
 LegalWithAnAnswer required paused = (calls : List Captured) (history : List Event) (k : ℕ) (reply : Reply) → IsLegalHistory calls required paused history
-    → IsLegalHistory calls required paused (history ++ Answer k reply ∷ []) ↔ MayAnswer history k
+    → IsLegalHistory calls required paused (history ++ Answer k reply ∷ []) ↔ IsWaiting history k
 
 abbrev pub TruthfulWithAStart : {S : Type 0} → (S → ℕ → Reply → S → Type 0) → Type 0
 TruthfulWithAStart {S} executes = (first last : S) (history : List Event) (k pause : ℕ) → IsTruthfulHistory executes first (history ++ Start k pause ∷ []) last ↔ IsTruthfulHistory executes first history last

@@ -22,7 +22,7 @@ use Rattle.capture_laws.proofs.Permuted.{stamped_are_all}
 use Rattle.capture_verdict.specs.declared.refusal.Refusal.{Refusal}
 use Rattle.capture_verdict.specs.Facts.{fact_of, facts_of}
 use Rattle.capture_verdict.specs.Tests.{bad_stamp, too_many}
-use Rattle.capture_verdict.specs.Verdict.{Plan, fault_of, or_else, verdict, verdict_of}
+use Rattle.capture_verdict.specs.Verdict.{IsLegal, Plan, fault_of, or_else, verdict, verdict_of}
 use Rattle.capture_verdict.proofs.Legality.{all_stamped, plan_legal, plan_sound}
 use Rattle.desk_schema.specs.File.{IsStart}
 use Rattle.desk_schema.specs.Sound.{IsSoundStart}
@@ -30,9 +30,9 @@ use Rattle.desk_schema.proofs.Files.{sound_start}
 use Rattle.remap_ids.specs.Services.{ServicePair}
 use Rattle.replay_history.specs.declared.mode.Mode.{Mode}
 use Rattle.replay_history.specs.declared.mode.Mode.TheVariants.{Order}
-use Rattle.replay_job.specs.Job.{AreKnownOf, IsKnownOf, IsTarget, JobView}
+use Rattle.replay_job.specs.Job.{AreKnownOf, HasMoments, IsKnownOf, IsTarget, JobView}
 use Rattle.replay_job.specs.Replays.{IsSoundJob}
-use Rattle.job_laws.specs.Jobs.{HasMoments, IsLegalFrom, IsTrial, job_of, plain_fact}
+use Rattle.job_laws.specs.Jobs.{IsTrial, job_of, plain_fact}
 
 some_is : {X : Type 0} (a b : X) → ◌≡◌ {A = Option X} (Some a) (Some b) → a ≡ b
 some_is a b e = cc
@@ -158,7 +158,7 @@ same_target start = record { rows = refl; next_row = refl; sequences = refl; nex
 
 -- a job on a start that it may be replayed on
 pub sound_on : (start target : StartView) (calls : List Captured) (facts : List Fact) (remap : List ServicePair) (mode : Mode) (think connect : ℕ)
-    → IsSoundStart start → IsSoundStart target → IsTarget start target → IsLegalFrom start calls → AreKnownOf calls facts → HasMoments calls → think ≤ 1000 → connect ≤ 1000
+    → IsSoundStart start → IsSoundStart target → IsTarget start target → IsLegal start calls → AreKnownOf calls facts → HasMoments calls → think ≤ 1000 → connect ≤ 1000
     → IsSoundJob (record { start = start; target = target; calls = calls; facts = facts; remap = remap; mode = mode; think = think; connect = connect })
 sound_on start target calls facts remap mode think connect sound target_sound may legal known moments few_think few_connect = record {
   replayable = record { sound = sound; legal = legal; known = known; moments = moments; target = may; think = few_think; connect = few_connect };
@@ -173,7 +173,7 @@ plan_sound_job start target lists plan remap mode think connect are count is sou
 
 -- a job on its own start can be replayed
 pub sound_job : (start target : StartView) (calls : List Captured) (facts : List Fact) (remap : List ServicePair) (mode : Mode) (think connect : ℕ)
-    → IsStart start → target ≡ start → IsLegalFrom start calls → AreKnownOf calls facts → HasMoments calls → think ≤ 1000 → connect ≤ 1000
+    → IsStart start → target ≡ start → IsLegal start calls → AreKnownOf calls facts → HasMoments calls → think ≤ 1000 → connect ≤ 1000
     → IsSoundJob (record { start = start; target = target; calls = calls; facts = facts; remap = remap; mode = mode; think = think; connect = connect })
 sound_job start target calls facts remap mode think connect is same legal known moments few_think few_connect =
     let sound = sound_start start is in
@@ -183,16 +183,16 @@ plain_known : (call : Captured) → IsKnownOf call (plain_fact call)
 plain_known call = record { session = refl; seen = refl; number = refl }
 
 -- what a trial knows of legal calls is sound
-known_plainly : (start : StartView) (recorded : List Captured) → IsLegalFrom start recorded → AreKnownOf recorded (map plain_fact recorded)
+known_plainly : (start : StartView) (recorded : List Captured) → IsLegal start recorded → AreKnownOf recorded (map plain_fact recorded)
 known_plainly start recorded legal = are_known plain_fact plain_known recorded (map plain_fact recorded) refl (are_sound plain_fact plain_known start.rows recorded legal.each)
 
 -- so can that of a trial
-pub trial_sound : (captured begins target : StartView) (recorded copies : List Captured) (facts : List Fact) (remap : List ServicePair) → IsStart captured → begins ≡ captured → target ≡ captured → copies ≡ recorded → facts ≡ map plain_fact recorded → IsLegalFrom captured recorded → HasMoments recorded
+pub trial_sound : (captured begins target : StartView) (recorded copies : List Captured) (facts : List Fact) (remap : List ServicePair) → IsStart captured → begins ≡ captured → target ≡ captured → copies ≡ recorded → facts ≡ map plain_fact recorded → IsLegal captured recorded → HasMoments recorded
     → IsSoundJob (record { start = begins; target = target; calls = copies; facts = facts; remap = remap; mode = Order; think = 0; connect = 0 })
 trial_sound captured begins target recorded copies facts remap is begins_is target_is copies_are facts_are legal moments =
     rw (begins_is, target_is, copies_are, facts_are) (sound_job captured captured recorded (map plain_fact recorded) remap Order 0 0 is refl legal (known_plainly captured recorded legal) moments (omega arith) (omega arith))
 
-pub trial_sound_job : (captured : StartView) (recorded : List Captured) (job : JobView) → IsSoundStart captured → IsLegalFrom captured recorded → HasMoments recorded → IsTrial captured recorded job → job.facts ≡ map plain_fact recorded → IsSoundJob job
+pub trial_sound_job : (captured : StartView) (recorded : List Captured) (job : JobView) → IsSoundStart captured → IsLegal captured recorded → HasMoments recorded → IsTrial captured recorded job → job.facts ≡ map plain_fact recorded → IsSoundJob job
 trial_sound_job captured recorded job sound legal moments is facts_are = record {
   replayable = record {
     sound = subst IsSoundStart (sym is.start) sound;

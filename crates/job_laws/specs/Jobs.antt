@@ -1,25 +1,13 @@
--- What makes calls a job: they are legal and begin in time; the job of a plan, and that of a trial.
-use Rattle.std.specs.Prelude.{◌≡◌, ℕ, ◌≤◌, List, []}
+-- The job of a plan, and that of a trial.
+use Rattle.std.specs.Prelude.{◌≡◌, ℕ, List, []}
 use Rattle.desk_values.specs.declared.capture.Captured.{Captured}
 use Rattle.desk_schema.specs.Start.{StartView}
 use Rattle.replay_history.specs.declared.mode.Mode.{Mode}
 use Rattle.replay_history.specs.declared.mode.Mode.TheVariants.{Order}
-use Rattle.replay_history.specs.Capture.{IsLegalCapture}
-use Rattle.replay_history.specs.Gap.{IsCallAt}
-use Rattle.machine_model.specs.State.{opening}
-use Rattle.machine_model.specs.Step.{Gives}
 use Rattle.object_depends.specs.declared.fact.Fact.{Fact}
 use Rattle.capture_verdict.specs.Verdict.{Plan}
 use Rattle.remap_ids.specs.Services.{ServicePair}
 use Rattle.replay_job.specs.Job.{JobView}
-
--- the calls are a legal capture from this start
-abbrev pub IsLegalFrom : StartView → List Captured → Type 0
-IsLegalFrom start calls = IsLegalCapture start.rows Gives (opening start) calls
-
--- the moments at which calls begin are within those of a capture
-abbrev pub HasMoments : List Captured → Type 0
-HasMoments calls = (k : ℕ) (call : Captured) → IsCallAt calls k call → call.began ≤ 1000000000000
 
 -- a plan of a capture from the first start that is replayed on the second
 abbrev pub job_of : StartView → StartView → Plan → List ServicePair → Mode → ℕ → ℕ → JobView

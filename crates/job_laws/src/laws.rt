@@ -7,10 +7,10 @@ ghost use Rattle.desk_schema.specs.Start.{StartView};
 ghost use Rattle.replay_history.specs.declared.mode.Mode.{Mode};
 ghost use Rattle.remap_ids.specs.Services.{ServicePair};
 ghost use Rattle.capture_laws.specs.Sessions.{AreSessionsFrom};
-ghost use Rattle.capture_verdict.specs.Verdict.{Plan, verdict};
-ghost use Rattle.replay_job.specs.Job.{IsTarget, JobView};
+ghost use Rattle.capture_verdict.specs.Verdict.{IsLegal, Plan, verdict};
+ghost use Rattle.replay_job.specs.Job.{HasMoments, IsTarget, JobView};
 ghost use Rattle.replay_job.specs.Replays.{IsSoundJob};
-ghost use Rattle.job_laws.specs.Jobs.{HasMoments, IsLegalFrom, IsTrial, job_of, plain_fact};
+ghost use Rattle.job_laws.specs.Jobs.{IsTrial, job_of, plain_fact};
 
 /// The plan that the verdict gives on files of sessions can be replayed: on each target that a replay may begin with, as any
 /// services, in every mode, and with percentages to 1000. Every start keeps its rules.
@@ -20,5 +20,5 @@ pub fn plans_can_be_replayed()
 
 /// So can a trial of legal calls that begin in time, of which no more is known than the captured order needs.
 pub fn trials_can_be_replayed()
-    ensures { (captured : StartView) (recorded : List Captured) (job : JobView) → IsSoundStart captured → IsLegalFrom captured recorded → HasMoments recorded → IsTrial captured recorded job → job.facts ≡ map plain_fact recorded → IsSoundJob job }
+    ensures { (captured : StartView) (recorded : List Captured) (job : JobView) → IsSoundStart captured → IsLegal captured recorded → HasMoments recorded → IsTrial captured recorded job → job.facts ≡ map plain_fact recorded → IsSoundJob job }
 {}

@@ -7,8 +7,8 @@ use Rattle.desk_values.specs.declared.capture.Captured.{Captured}
 use Rattle.desk_schema.specs.Start.{StartView}
 use Rattle.capture_verdict.specs.declared.refusal.Refusal.{Refusal}
 use Rattle.capture_verdict.specs.declared.refusal.Refusal.TheVariants.{Stamp}
-use Rattle.capture_verdict.specs.declared.refusal.TheConstants.{CALL_LIMIT}
-use Rattle.capture_laws.specs.Stamped.{IsStamped}
+use Rattle.replay_history.specs.declared.limits.TheConstants.{CALL_LIMIT}
+use Rattle.replay_history.specs.Gap.{IsStamped}
 use Rattle.capture_laws.specs.Stamps.{all_calls, by_stamp}
 use Rattle.capture_laws.proofs.Ordered.{len, none_bad, order_is_by_stamp}
 use Rattle.capture_verdict.specs.Tests.{bad_stamp, too_many}

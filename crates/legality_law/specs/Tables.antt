@@ -10,6 +10,7 @@ use Rattle.sql_tree.specs.Plain.{Name, Plan, set_read_only}
 use Rattle.machine_model.specs.Request.{table_named}
 use Rattle.machine_model.specs.Step.{committed_in}
 use Rattle.replay_history.specs.Capture.{commits}
+use Rattle.desk_values.specs.declared.value.TheConstants.{TABLE_LIMIT}
 
 -- some of the images is of the table
 abbrev pub IsAmong : ℕ → List Image → Type 0
@@ -22,7 +23,7 @@ Writes call table = IsAmong table (committed_in call.reply.outcome)
 
 -- a statement speaks of the one table that it names, where the schema has it; reads of one moment speak of all
 abbrev pub SpeaksOf : SchemaView → Plan Name → ℕ → Type 0
-SpeaksOf schema set_read_only table = table < 32
+SpeaksOf schema set_read_only table = table < TABLE_LIMIT
 SpeaksOf schema statement table = table_named schema statement ≡ Some table
 
 -- the call asks for a statement that speaks of the table, whatever came of it

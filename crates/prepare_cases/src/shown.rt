@@ -35,23 +35,9 @@ fn known(alloc: Global, fact: &Fact) -> Result<String, anyhow::Error> {
     Ok(format!(in alloc; "\n{session} {seen} {number} {refs} {writes}")?)
 }
 
-/// A refusal.
+/// A refusal; that of a reply with both replies.
 pub fn refusal(alloc: Global, refusal: Refusal) -> Result<String, anyhow::Error> {
     match refusal {
-        Refusal::TooMany { calls } => Ok(format!(in alloc; "{calls} calls")?),
-        Refusal::Stamp { stamp } => Ok(format!(in alloc; "stamp {stamp}")?),
-        Refusal::Number {
-            stamp,
-            written,
-            right,
-        } => Ok(format!(in alloc; "stamp {stamp} has number {written}, not {right}")?),
-        Refusal::Seen {
-            stamp,
-            written,
-            right,
-        } => Ok(format!(in alloc; "stamp {stamp} saw {written}, not {right}")?),
-        Refusal::Times { stamp } => Ok(format!(in alloc; "times at stamp {stamp}")?),
-        Refusal::Stranger { stamp } => Ok(format!(in alloc; "unknown id at stamp {stamp}")?),
         Refusal::Reply {
             stamp,
             written,
@@ -61,7 +47,8 @@ pub fn refusal(alloc: Global, refusal: Refusal) -> Result<String, anyhow::Error>
             let right = reply(alloc, &right)?;
             Ok(format!(in alloc; "stamp {stamp} replied {written}, not {right}")?)
         }
-        Refusal::Memory => Err(anyhow!("out of memory")),
+        Refusal::Memory => Err(refusal.into()),
+        other => Ok(format!(in alloc; "{other}")?),
     }
 }
 

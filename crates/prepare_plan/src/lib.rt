@@ -15,5 +15,6 @@ mod recorded;
 mod replies;
 mod seats;
 
-pub use capture_verdict::{CALL_LIMIT, Refusal};
+pub use capture_verdict::Refusal;
 pub use prepared::{Prepared, prepare};
+pub use replay_history::CALL_LIMIT;

@@ -15,10 +15,11 @@ use crate::known::judge_ids;
 use crate::recorded::{judge_numbers, judge_seen, judge_times};
 use crate::replies::judge_replies;
 use crate::seats::ordered;
-use capture_verdict::{CALL_LIMIT, Refusal};
+use capture_verdict::Refusal;
 use desk_schema::Start;
 use desk_values::{CallList, Captured, SessionLists};
 use object_depends::FactList;
+use replay_history::CALL_LIMIT;
 use std::alloc::Global;
 
 /// What a replay needs of a capture.

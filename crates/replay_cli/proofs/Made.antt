@@ -14,7 +14,8 @@ use Rattle.replay_cli.specs.declared.plan.Plan.{Plan}
 use Rattle.replay_cli.specs.Decision.{ToMake, ToTry}
 use Rattle.replay_cli.specs.Done.{IsDone, IsQuiet, IsTried, all_commits, made_calls, made_lists, made_start, session_files}
 use Rattle.replay_cli.specs.Lines.{generated_line, trial_line}
-use Rattle.job_laws.specs.Jobs.{HasMoments, IsLegalFrom}
+use Rattle.replay_job.specs.Job.{HasMoments}
+use Rattle.capture_verdict.specs.Verdict.{IsLegal}
 use Rattle.replay_cli.specs.Words.{start_name}
 use Rattle.job_laws.proofs.Jobs.{at_each}
 use Rattle.replay_cli.proofs.Sessions.{count_lists}
@@ -61,9 +62,9 @@ plan_made (Ok plan) n out start lists start_is lists_is line quiet writes =
     (line, quiet, writes ∙ ap (λ (ls : List (List Captured)). session_files out 0 ls ++ record { name = start_name out; bytes = start_text start 4 } ∷ []) lists_is ∙ ap (λ (s : StartView). session_files out 0 (made_lists n) ++ record { name = start_name out; bytes = start_text s 4 } ∷ []) start_is)
 plan_made (Err error) n out start lists start_is lists_is line quiet writes = line
 
-pub legal_made : (recording : Recording) (start : StartView) (calls : List Captured) → IsRecording recording → start ≡ recording.start → calls ≡ recording.calls → IsLegalFrom start calls
+pub legal_made : (recording : Recording) (start : StartView) (calls : List Captured) → IsRecording recording → start ≡ recording.start → calls ≡ recording.calls → IsLegal start calls
 legal_made recording start calls is start_is calls_is =
-    subst (λ (s : StartView). IsLegalFrom s calls) (sym start_is) (subst (λ (cs : List Captured). IsLegalFrom recording.start cs) (sym calls_is) is.legal)
+    subst (λ (s : StartView). IsLegal s calls) (sym start_is) (subst (λ (cs : List Captured). IsLegal recording.start cs) (sym calls_is) is.legal)
 
 pub moments_made : (recording : Recording) (calls : List Captured) → IsRecording recording → calls ≡ recording.calls → HasMoments calls
 moments_made recording calls is calls_is k call at = (at_each HasText recording.calls k call is.texts (subst (λ (cs : List Captured). slice_get cs k ≡ Some call) calls_is at)).began

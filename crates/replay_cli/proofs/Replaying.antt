@@ -5,12 +5,12 @@ use Rattle.std.proofs.Math.Dec.{ltb}
 use Rattle.desk_values.specs.declared.call.Reply.{Reply}
 use Rattle.desk_values.specs.declared.capture.Event.{Event}
 use Rattle.desk_values.specs.declared.capture.Event.TheVariants.{Start, Answer}
-use Rattle.replay_history.specs.History.{AnswersAll, IsAnswered}
+use Rattle.replay_history.specs.History.{AnswersAll, IsAnswered, IsStarted, IsWaiting}
 use Rattle.history_laws.proofs.Extended.{answered_kept, none_started, start_is, started_in}
 use Rattle.history_laws.proofs.Items.{last_at}
 use Rattle.replay_job.specs.Job.{JobView}
-use Rattle.replay_job.specs.Replays.{IsReplay, IsSoundJob}
-use Rattle.replay_job.specs.Runs.{IsFirstOpen, IsStarted, IsWaiting, MayStart}
+use Rattle.replay_job.specs.Replays.{IsSoundJob, IsToldReplay}
+use Rattle.replay_job.specs.Runs.{IsFirstOpen, MayStart}
 use Rattle.replay_core.specs.Desk.{DeskView, IsAnswer, IsKept, new_desk, with_start}
 
 -- after so many turns so many calls are answered, and every call that is started is
@@ -91,9 +91,8 @@ module _ (job : JobView) (desk : DeskView) (turn : ℕ) (behind : IsBehind job d
       behind_more k pause answer.0 first new (ap (λ (d : DeskView). d.job) whole ∙ ap (λ (d : DeskView). d.job) is) (ap (λ (d : DeskView). d.stopped) whole ∙ ap (λ (d : DeskView). d.stopped) is)
       (ap (λ (d : DeskView). d.history) whole ∙ ap (λ (d : DeskView). d.history ++ Answer k answer.0 ∷ []) is)
 
-  pub behind_done : IsSoundJob job → IsKept desk → length job.calls ≤ turn → IsReplay desk.job desk.history desk.stage
+  pub behind_done : IsSoundJob job → IsKept desk → length job.calls ≤ turn → IsToldReplay desk.job desk.history desk.stage
   behind_done sound kept all = record {
-    sound = subst IsSoundJob (sym behind.job_is) sound;
-    complete = record { legal = kept.legal; truthful = kept.truthful; whole = λ j below. behind.front j (let same = ap (λ (job : JobView). length job.calls) behind.job_is in omega (arith, below, all, same)) };
+    replay = record { sound = subst IsSoundJob (sym behind.job_is) sound; complete = record { legal = kept.legal; truthful = kept.truthful; whole = λ j below. behind.front j (let same = ap (λ (job : JobView). length job.calls) behind.job_is in omega (arith, below, all, same)) } };
     texts = kept.texts;
   }

@@ -7,7 +7,7 @@ use Rattle.desk_files.specs.Outside.{FileMap, Told}
 use Rattle.replay_cli.specs.declared.failure.Refusal.{Refusal}
 use Rattle.replay_cli.specs.declared.failure.Failure.{Failure}
 use Rattle.replay_cli.specs.declared.failure.Failure.TheVariants.{BadCommand, Refused, DeviceFault, OutOfMemory}
-use Rattle.replay_cli.specs.Steps.{Answers, Faults, FailedAt, FaultFree, Step, Stops, Is, Reading, Then, file_in}
+use Rattle.replay_cli.specs.Steps.{Answered, Faults, FailedAt, FaultFree, Step, Stops, Is, Reading, Then, file_in}
 
 -- ---- what is told
 
@@ -40,7 +40,7 @@ stops_then want next x (Refused refusal) is h = inr (x, is, h)
 stops_then want next x DeviceFault is h = tt
 stops_then want next x OutOfMemory is h = tt
 
-pub answers_then : {X Y : Type 0} (want : Result X Refusal → Type 0) (next : X → Result Y Refusal → Type 0) (x : X) (result : Result Y Failure) → want (Ok x) → Answers (next x) result → Answers (Then want next) result
+pub answers_then : {X Y : Type 0} (want : Result X Refusal → Type 0) (next : X → Result Y Refusal → Type 0) (x : X) (result : Result Y Failure) → want (Ok x) → Answered (next x) result → Answered (Then want next) result
 answers_then want next x (Ok y) is h = (x, is, h)
 answers_then want next x (Err failure) is h = stops_then want next x failure is h
 
@@ -61,7 +61,7 @@ step_then {want = want} next c0 c1 c2 f0 f1 f2 x result s t = record {
 }
 
 -- a step that touches no file
-pub step_pure : {X : Type 0} (want : FileMap → Result X Refusal → Type 0) (c : Option FileMap) (f : ℕ) (result : Result X Failure) → ((files : FileMap) → Answers (want files) result) → FaultFree result → Step want c c f f result
+pub step_pure : {X : Type 0} (want : FileMap → Result X Refusal → Type 0) (c : Option FileMap) (f : ℕ) (result : Result X Failure) → ((files : FileMap) → Answered (want files) result) → FaultFree result → Step want c c f f result
 step_pure want c f result h free = record { says = told c (λ files u. h files) (always c); content = refl; faults = faults result free } where
   always : {T : Type 0} (c : Option T) → Told c (λ x. Unit {0})
   always None = tt

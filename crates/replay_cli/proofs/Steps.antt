@@ -6,7 +6,7 @@ use Rattle.replay_cli.specs.declared.failure.Failure.{Failure}
 use Rattle.replay_cli.specs.declared.failure.Refusal.{Refusal}
 use Rattle.replay_cli.specs.declared.options.Ways.{Ways}
 use Rattle.replay_cli.specs.Decision.{LegalOf, PrepareIn, Read, ReadIn, RemapIn, RunIn, Task, ToReplay, ToTell, job_of}
-use Rattle.replay_cli.specs.Steps.{Answers, FaultFree, Is, Step, Then}
+use Rattle.replay_cli.specs.Steps.{Answered, FaultFree, Is, Step, Then}
 use Rattle.replay_cli.proofs.StepLaws.{step_pure, step_stops, step_then}
 
 module _ (capture out : List ℕ) (read : Read) (c0 c1 : Option FileMap) (f0 f1 : ℕ) (reads : Step (λ files. ReadIn files capture) c0 c1 f0 f1 (Ok read)) where
@@ -14,7 +14,7 @@ module _ (capture out : List ℕ) (read : Read) (c0 c1 : Option FileMap) (f0 f1 
   abbrev Told : Read → Result Task Refusal → Type 0
   Told r = Then (LegalOf r.start r.sessions) (λ legal. Is (Ok (ToTell out legal.facts)))
 
-  pub told_tested : (answer : Result Task Failure) → Answers (Told read) answer → FaultFree answer → Step (λ files. PrepareIn files capture out) c0 c1 f0 f1 answer
+  pub told_tested : (answer : Result Task Failure) → Answered (Told read) answer → FaultFree answer → Step (λ files. PrepareIn files capture out) c0 c1 f0 f1 answer
   told_tested answer says free = step_then (λ files. Told) _ _ _ _ _ _ read answer reads (step_pure (λ files. Told read) _ _ answer (λ files. says) free)
 
   module _ (ways : Ways) where
@@ -29,6 +29,6 @@ module _ (capture out : List ℕ) (read : Read) (c0 c1 : Option FileMap) (f0 f1 
     run_cut c2 f2 failure stops = step_then Remapped _ _ _ _ _ _ read (Err failure) reads (step_stops (λ files. Tested read) _ _ _ _ failure stops)
 
     pub run_tested : (c2 : Option FileMap) (f2 : ℕ) (remap : List ServicePair) → Step (λ files. RemapIn files ways.remap) c1 c2 f1 f2 (Ok remap)
-        → (answer : Result Task Failure) → Answers (Tested read remap) answer → FaultFree answer → Step (λ files. RunIn files capture out ways) c0 c2 f0 f2 answer
+        → (answer : Result Task Failure) → Answered (Tested read remap) answer → FaultFree answer → Step (λ files. RunIn files capture out ways) c0 c2 f0 f2 answer
     run_tested c2 f2 remap remaps answer says free =
         step_then Remapped _ _ _ _ _ _ read answer reads (step_then (λ files. Tested read) _ _ _ _ _ _ remap answer remaps (step_pure (λ files. Tested read remap) _ _ answer (λ files. says) free))

@@ -1,9 +1,8 @@
 -- The verdict of the words and the files is one.
-use Rattle.std.proofs.Common.{◌≡◌, ℕ, ◌+◌, ◌-◌, ◌<◌, ◌≤◌, ◌^◌, List, [], ◌∷◌, length, Option, None, Some, Result, Ok, Err, inl, inr, sym, ap, subst, ◌∙◌, arith}
+use Rattle.std.proofs.Common.{◌≡◌, ℕ, ◌+◌, ◌-◌, List, [], ◌∷◌, length, Option, None, Some, Result, Ok, Err, inl, inr, sym, ap, subst, ◌∙◌}
 use Rattle.desk_values.specs.declared.capture.Captured.{Captured}
 use Rattle.desk_files.specs.Outside.{FileMap}
 use Rattle.desk_schema.specs.Start.{StartView}
-use Rattle.desk_schema.specs.declared.line.TheConstants.{SESSION_LIMIT}
 use Rattle.capture_format.specs.declared.start.StartFile.{StartFile}
 use Rattle.capture_format.specs.StartFile.{IsBadStart, IsStartFile}
 use Rattle.capture_format.specs.SessionFile.{IsBadSession, IsSessionFile}
@@ -21,7 +20,6 @@ use Rattle.replay_cli.specs.declared.words.Command.{Command}
 use Rattle.replay_cli.specs.declared.words.Command.TheVariants.{Run, Prepare, Generate, Trial}
 use Rattle.replay_cli.specs.Command.{command_of}
 use Rattle.replay_cli.specs.Words.{session_names, start_name}
-use Rattle.replay_cli.proofs.Sessions.{count_names}
 use Rattle.desk_files.specs.declared.files.TheConstants.{FILE_LIMIT}
 use Rattle.remap_ids.specs.Services.{ServicePair, services_of}
 use Rattle.replay_cli.specs.declared.options.Ways.{Ways}
@@ -71,14 +69,14 @@ reads_one name IsFileOf IsFirstBad one_file one_bad (Err r) (Err s) h k = ap (λ
 start_one : (name bytes : List ℕ) → IsOne (StartOf name bytes)
 start_one name bytes = reads_one name (IsStartFile bytes) (IsBadStart bytes) (start.one_file bytes) (start.one_bad bytes)
 
-session_one : (place : ℕ) (name bytes : List ℕ) → place < 2 ^ 32 → IsOne (SessionOf place name bytes)
-session_one place name bytes small = reads_one name (IsSessionFile place bytes) (IsBadSession place bytes) (λ a b. session.one_file place bytes a b small) (session.one_bad place bytes)
+session_one : (place : ℕ) (name bytes : List ℕ) → IsOne (SessionOf place name bytes)
+session_one place name bytes = reads_one name (IsSessionFile place bytes) (IsBadSession place bytes) (session.one_file place bytes) (session.one_bad place bytes)
 
-reading_one : (files : FileMap) (room place : ℕ) (names : List (List ℕ)) → place + length names ≤ 2 ^ 32 → IsOne (Reading SessionOf files room place names)
-reading_one files room place [] small = is_one (Ok [])
-reading_one files room place (name ∷ names) small =
-    then_one (Is (file_in files room name)) (λ bytes. Then (SessionOf place name bytes) (λ item. Then (Reading SessionOf files (room - length bytes) (place + 1) names) (λ items. Is (Ok (item ∷ items))))) (is_one (file_in files room name)) (λ bytes held. then_one (SessionOf place name bytes) (λ item. Then (Reading SessionOf files (room - length bytes) (place + 1) names) (λ items. Is (Ok (item ∷ items)))) (session_one place name bytes (omega (arith, small))) (λ item read.
-    then_one (Reading SessionOf files (room - length bytes) (place + 1) names) (λ items. Is (Ok (item ∷ items))) (reading_one files (room - length bytes) (place + 1) names (omega (arith, small))) (λ items all. is_one (Ok (item ∷ items)))))
+reading_one : (files : FileMap) (room place : ℕ) (names : List (List ℕ)) → IsOne (Reading SessionOf files room place names)
+reading_one files room place [] = is_one (Ok [])
+reading_one files room place (name ∷ names) =
+    then_one (Is (file_in files room name)) (λ bytes. Then (SessionOf place name bytes) (λ item. Then (Reading SessionOf files (room - length bytes) (place + 1) names) (λ items. Is (Ok (item ∷ items))))) (is_one (file_in files room name)) (λ bytes held. then_one (SessionOf place name bytes) (λ item. Then (Reading SessionOf files (room - length bytes) (place + 1) names) (λ items. Is (Ok (item ∷ items)))) (session_one place name bytes) (λ item read.
+    then_one (Reading SessionOf files (room - length bytes) (place + 1) names) (λ items. Is (Ok (item ∷ items))) (reading_one files (room - length bytes) (place + 1) names) (λ items all. is_one (Ok (item ∷ items)))))
 
 -- ---- a capture
 
@@ -92,17 +90,6 @@ opened_one : (files : FileMap) (capture : List ℕ) → IsOne (OpenedIn files ca
 opened_one files capture =
     then_one (Is (file_in files ROOM (start_name capture))) (start_in capture) (is_one (file_in files ROOM (start_name capture))) (λ bytes held.
     then_one (StartOf (start_name capture) bytes) (opened_of bytes) (start_one (start_name capture) bytes) (λ file read. is_one (Ok (record { file = file; left = ROOM - length bytes }))))
-
-abbrev ok_opened : Opened → Result Opened Refusal
-ok_opened opened = Ok opened
-
-few_sessions : (files : FileMap) (capture : List ℕ) (opened : Opened) → OpenedIn files capture (Ok opened) → opened.file.sessions ≤ SESSION_LIMIT
-few_sessions files capture opened h =
-    let same : record { file = h.2.0; left = ROOM - length h.0 } ≡ opened = same_opened _ opened h.2.2 in
-    subst (λ (o : Opened). o.file.sessions ≤ SESSION_LIMIT) same h.2.1.sessions
-  where
-    same_opened : (a b : Opened) → ok_opened a ≡ ok_opened b → a ≡ b
-    same_opened a b e = cc
 
 abbrev ok_plan : plan.Plan → Result plan.Plan Illegal
 ok_plan p = Ok p
@@ -135,10 +122,7 @@ sessions_in files capture opened = Then (Reading SessionOf files opened.left 0 (
 
 read_one : (files : FileMap) (capture : List ℕ) → IsOne (ReadIn files capture)
 read_one files capture = then_one (OpenedIn files capture) (sessions_in files capture) (opened_one files capture) (λ opened is.
-    let few = few_sessions files capture opened is in
-    let names = count_names capture opened.file.sessions in
-    let small : 0 + length (session_names capture opened.file.sessions) ≤ 2 ^ 32 = omega (arith, few, names) in
-    then_one (Reading SessionOf files opened.left 0 (session_names capture opened.file.sessions)) (all_read opened) (reading_one files opened.left 0 (session_names capture opened.file.sessions) small) (λ sessions read. is_one (Ok (record { start = opened.file.start; sessions = sessions }))))
+    then_one (Reading SessionOf files opened.left 0 (session_names capture opened.file.sessions)) (all_read opened) (reading_one files opened.left 0 (session_names capture opened.file.sessions)) (λ sessions read. is_one (Ok (record { start = opened.file.start; sessions = sessions }))))
 
 remap_one : (files : FileMap) (name : Option (List ℕ)) → IsOne (RemapIn files name)
 remap_one files None = is_one (Ok [])

@@ -7,10 +7,11 @@ use Rattle.replay_cli.specs.declared.words.Command.{Command}
 use Rattle.replay_cli.specs.declared.words.Command.TheVariants.{Run, Prepare, Generate, Trial}
 use Rattle.replay_cli.specs.Options.{HasWays, ways_of}
 use Rattle.replay_cli.specs.Path.{is_path}
+use Rattle.replay_cli.specs.declared.words.TheConstants.{GENERATED_LIMIT, PATH_LIMIT}
 
 abbrev pub within_limits : Option ℕ → Option ℕ
 within_limits None = None
-within_limits (Some n) = if nat_le 1 n && nat_le n 10000 then Some n else None
+within_limits (Some n) = if nat_le 1 n && nat_le n GENERATED_LIMIT then Some n else None
 
 -- how many calls a word says: 1 to 10,000 in digits, without a leading zero
 abbrev pub calls_of : List ℕ → Option ℕ
@@ -47,11 +48,11 @@ command_of [] = None
 command_of (word ∷ others) = command_with word others
 
 abbrev pub IsCallCount : ℕ → Type 0
-IsCallCount n = (1 ≤ n) × (n ≤ 10000)
+IsCallCount n = (1 ≤ n) × (n ≤ GENERATED_LIMIT)
 
 -- the folders that a command names are short, and its numbers within their limits
 abbrev pub IsWithinLimits : Command → Type 0
-IsWithinLimits (Run capture out ways) = (length capture ≤ 900) × (length out ≤ 900) × HasWays ways
-IsWithinLimits (Prepare capture out) = (length capture ≤ 900) × (length out ≤ 900)
-IsWithinLimits (Generate n out) = IsCallCount n × (length out ≤ 900)
+IsWithinLimits (Run capture out ways) = (length capture ≤ PATH_LIMIT) × (length out ≤ PATH_LIMIT) × HasWays ways
+IsWithinLimits (Prepare capture out) = (length capture ≤ PATH_LIMIT) × (length out ≤ PATH_LIMIT)
+IsWithinLimits (Generate n out) = IsCallCount n × (length out ≤ PATH_LIMIT)
 IsWithinLimits (Trial n) = IsCallCount n

@@ -11,8 +11,8 @@ use Rattle.replay_history.specs.Texts.{journal_text, report_text, tables_text}
 use Rattle.object_depends.specs.Csv.{requires_text}
 use Rattle.remap_ids.specs.MapsText.{maps_text}
 use Rattle.replay_job.specs.Job.{JobView, seen}
-use Rattle.replay_job.specs.Runs.{Stage, learnt_in}
-use Rattle.replay_job.specs.Replays.{IsReplay, IsSoundJob}
+use Rattle.replay_job.specs.Runs.{Stage, end_tables, learnt_in}
+use Rattle.replay_job.specs.Replays.{IsSoundJob, IsToldReplay}
 use Rattle.replay_report.specs.Report.{report_in}
 use Rattle.replay_report.specs.Differences.{csv_text}
 use Rattle.capture_recorder.specs.Generated.{generated}
@@ -29,8 +29,9 @@ use Rattle.replay_cli.specs.Command.{IsCallCount}
 use Rattle.replay_cli.specs.Decision.{Legal, Read, Task, ToReplay, ToTell, ToMake, ToTry}
 use Rattle.replay_cli.specs.Lines.{generated_line, prepared_line, replayed_line, trial_line}
 use Rattle.job_laws.specs.Jobs.{IsTrial}
-use Rattle.replay_cli.specs.Replay.{end_tables}
 use Rattle.replay_cli.specs.Words.{journal_name, maps_name, report_name, requires_name, session_name, start_name, table_of_report_name, tables_name}
+use Rattle.replay_cli.specs.declared.words.TheConstants.{PATH_LIMIT}
+use Rattle.replay_history.specs.declared.limits.TheConstants.{CALL_LIMIT}
 
 abbrev pub all_commits : List Captured → ℕ
 all_commits calls = commits_before calls (length calls)
@@ -42,7 +43,7 @@ replayed_files out job history last =
     record { name = journal_name out; bytes = journal_text job.mode history }
     ∷ record { name = report_name out; bytes = report_text (report_in job history) }
     ∷ record { name = table_of_report_name out; bytes = csv_text job.calls history (report_in job history).lines }
-    ∷ record { name = tables_name out; bytes = tables_text (end_tables last) }
+    ∷ record { name = tables_name out; bytes = tables_text (end_tables last.state) }
     ∷ record { name = maps_name out; bytes = maps_text (learnt_in job.calls history) } ∷ []
 
 -- the files of sessions from this number on
@@ -72,11 +73,11 @@ pub record IsReported (job : JobView) (history : List Event) (plan : Plan) : Typ
 
 -- the line and the files are those of this replay
 abbrev pub IsDoneBy : List ℕ → JobView → Plan → List Event → Stage → Type 0
-IsDoneBy out job plan history last = IsReplay job history last × IsReported job history plan × (plan.writes ≡ replayed_files out job history last)
+IsDoneBy out job plan history last = IsToldReplay job history last × IsReported job history plan × (plan.writes ≡ replayed_files out job history last)
 
 -- a capture was replayed as it is
 abbrev pub IsTried : StartView → List Captured → Type 0
-IsTried start calls = (job : JobView) × (history : List Event) × (last : Stage) × IsTrial start calls job × IsReplay job history last
+IsTried start calls = (job : JobView) × (history : List Event) × (last : Stage) × IsTrial start calls job × IsToldReplay job history last
 
 -- nothing differs
 abbrev pub IsQuiet : Plan → Type 0
@@ -109,9 +110,9 @@ task_of (Trying n) = ToTry n
 
 -- what the code holds is within the limits, and a job can be replayed
 abbrev pub IsWork : Work → Type 0
-IsWork (Replaying out job) = (length out ≤ 900) × IsSoundJob (seen job)
-IsWork (Telling out facts) = (length out ≤ 900) × (length facts ≤ 100000)
-IsWork (Making n out) = IsCallCount n × (length out ≤ 900)
+IsWork (Replaying out job) = (length out ≤ PATH_LIMIT) × IsSoundJob (seen job)
+IsWork (Telling out facts) = (length out ≤ PATH_LIMIT) × (length facts ≤ CALL_LIMIT)
+IsWork (Making n out) = IsCallCount n × (length out ≤ PATH_LIMIT)
 IsWork (Trying n) = IsCallCount n
 
 -- ---- by the words alone

@@ -4,7 +4,6 @@ pub mod Words
 pub mod Command
 pub mod Steps
 pub mod Lines
-pub mod Replay
 pub mod Decision
 pub mod Done
 pub mod Ending

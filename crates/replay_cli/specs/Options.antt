@@ -10,19 +10,20 @@ use Rattle.replay_history.specs.Mode.{all_modes, mode_word}
 use Rattle.replay_cli.specs.declared.options.Ways.{Ways}
 use Rattle.replay_cli.specs.declared.options.Options.{Options}
 use Rattle.replay_cli.specs.Path.{is_path}
+use Rattle.replay_cli.specs.declared.options.TheConstants.{PERCENT_LIMIT}
 
 abbrev pub no_options : Options
 no_options = record { mode = None; think = None; connect = None; remap = None }
 
 -- ---- what the value of an option says
 
-abbrev pub at_most_1000 : Option ℕ → Option ℕ
-at_most_1000 None = None
-at_most_1000 (Some n) = if nat_le n 1000 then Some n else None
+abbrev pub within_percents : Option ℕ → Option ℕ
+within_percents None = None
+within_percents (Some n) = if nat_le n PERCENT_LIMIT then Some n else None
 
 -- a percentage: 0 to 1,000 in digits, without a leading zero
 abbrev pub percent_of : List ℕ → Option ℕ
-percent_of word = at_most_1000 (number_of word)
+percent_of word = within_percents (number_of word)
 
 abbrev pub mode_of : List ℕ → Option Mode
 mode_of word = member_with_word mode_word all_modes word
@@ -76,9 +77,9 @@ ways_of words = option_map whole (options_from no_options words)
 -- ---- limits
 
 pub record HasLimits (options : Options) : Type 0 where
-  pub think : IfSome options.think (λ percent. percent ≤ 1000)
-  pub connect : IfSome options.connect (λ percent. percent ≤ 1000)
+  pub think : IfSome options.think (λ percent. percent ≤ PERCENT_LIMIT)
+  pub connect : IfSome options.connect (λ percent. percent ≤ PERCENT_LIMIT)
 
 pub record HasWays (ways : Ways) : Type 0 where
-  pub think : ways.think ≤ 1000
-  pub connect : ways.connect ≤ 1000
+  pub think : ways.think ≤ PERCENT_LIMIT
+  pub connect : ways.connect ≤ PERCENT_LIMIT

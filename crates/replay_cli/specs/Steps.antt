@@ -27,9 +27,9 @@ Stops want DeviceFault = ⊤
 Stops want OutOfMemory = ⊤
 
 -- the answer is one of these, or a fault or want of memory
-abbrev pub Answers : {X : Type 0} → (Result X Refusal → Type 0) → Result X Failure → Type 0
-Answers want (Ok x) = want (Ok x)
-Answers want (Err failure) = Stops want failure
+abbrev pub Answered : {X : Type 0} → (Result X Refusal → Type 0) → Result X Failure → Type 0
+Answered want (Ok x) = want (Ok x)
+Answered want (Err failure) = Stops want failure
 
 -- the count rose at a fault, and stands otherwise
 abbrev pub FailedAt : Failure → ℕ → ℕ → Type 0
@@ -57,7 +57,7 @@ seen_as view (Err error) = Err error
 
 -- a step that reads: its answer by the files, which stay as they are
 pub record Step {X : Type 0} (want : FileMap → Result X Refusal → Type 0) (before after : Option FileMap) (faults_before faults_after : ℕ) (result : Result X Failure) : Type 0 where
-  pub says : Told before (λ files. Answers (want files) result)
+  pub says : Told before (λ files. Answered (want files) result)
   pub content : after ≡ before
   pub faults : Faults result faults_before faults_after
 

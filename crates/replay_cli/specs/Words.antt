@@ -1,11 +1,6 @@
 -- The words that a program is called with, and the names of files.
-use Rattle.std.specs.Prelude.{ℕ, zero, suc, ◌≤◌, ◌/◌, ◌%◌, List, [], ◌∷◌, ◌++◌, length, codes}
+use Rattle.std.specs.Prelude.{ℕ, zero, suc, ◌/◌, ◌%◌, List, [], ◌∷◌, ◌++◌, codes}
 use Rattle.std.specs.Fmt.{decimal}
-use Rattle.std.specs.Str.{IsUtf8}
-
--- the bytes are a text: at most 1,000 of UTF-8
-abbrev pub IsTextOf : List ℕ → Type 0
-IsTextOf bytes = (length bytes ≤ 1000) × IsUtf8 bytes
 
 -- ---- the files of a capture, and those that a command writes, in a folder
 

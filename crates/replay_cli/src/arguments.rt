@@ -1,7 +1,7 @@
 //! The words that a program is called with.
 
 ghost use Rattle.std.specs.Prelude.{◌≡◌, [], IfOk};
-ghost use Rattle.replay_cli.specs.Words.{IsTextOf};
+ghost use Rattle.desk_values.specs.Good.{IsTxt};
 
 use desk_values::{List, Memory, TEXT_LIMIT, Txt, TxtErr};
 use std::alloc::Global;
@@ -38,8 +38,8 @@ fn argument_at<E: Env>(
 
 /// The word that the bytes are: their text, or the empty text where they are over 1,000 or are not UTF-8.
 pub fn word_of(alloc: Global, bytes: &[u8]) -> Result<Txt, Memory>
-    ensures text { IfOk result (λ word. IsTextOf bytes.now → word ≡ bytes.now) }
-    ensures other { IfOk result (λ word. ¬ IsTextOf bytes.now → word ≡ []) }
+    ensures text { IfOk result (λ word. IsTxt bytes.now → word ≡ bytes.now) }
+    ensures other { IfOk result (λ word. ¬ IsTxt bytes.now → word ≡ []) }
 {
     match Txt::from_bytes(alloc, bytes) {
         Ok(word) => Ok(word),

@@ -2,11 +2,11 @@
 
 ghost use Rattle.std.specs.Prelude.{◌≡◌, ◌≤◌, length, IfErr, IfOk};
 ghost use Rattle.desk_files.specs.Outside.{Told};
-ghost use Rattle.replay_job.specs.Job.{AreKnownOf};
+ghost use Rattle.replay_job.specs.Job.{AreKnownOf, HasMoments};
 ghost use Rattle.replay_cli.specs.Decision.{IsOfCapture, LegalOf, OpenedIn, ReadIn, SessionOf};
 ghost use Rattle.replay_cli.specs.Done.{legal_of, read_of};
-ghost use Rattle.job_laws.specs.Jobs.{HasMoments, IsLegalFrom};
-ghost use Rattle.replay_cli.specs.Steps.{Answers, FaultFree, Step, Reading, seen_as};
+ghost use Rattle.capture_verdict.specs.Verdict.{IsLegal};
+ghost use Rattle.replay_cli.specs.Steps.{Answered, FaultFree, Step, Reading, seen_as};
 ghost use Rattle.replay_cli.specs.Words.{session_names};
 ghost use Rattle.capture_laws.specs.Sessions.{AreSessionsFrom};
 ghost use Rattle.prepare_plan.specs.Lists.{lists_of};
@@ -107,9 +107,9 @@ fn load_sessions<F: Files>(
 pub fn test(alloc: Global, read: Read) -> Result<Legal, Failure>
     requires count { length read.sessions ≤ 64 }
     requires lists { AreSessionsFrom 0 (lists_of read.sessions) }
-    ensures says { Answers (LegalOf read.start (lists_of read.sessions)) (seen_as legal_of result) }
+    ensures says { Answered (LegalOf read.start (lists_of read.sessions)) (seen_as legal_of result) }
     ensures free { FaultFree result }
-    ensures legal { IfOk result (λ legal. IsLegalFrom legal.start legal.calls.items) }
+    ensures legal { IfOk result (λ legal. IsLegal legal.start legal.calls.items) }
     ensures known { IfOk result (λ legal. AreKnownOf legal.calls.items legal.facts) }
     ensures moments { IfOk result (λ legal. HasMoments legal.calls.items) }
     ensures facts { IfOk result (λ legal. length legal.facts ≤ 100000) }

@@ -11,10 +11,10 @@ ghost use Rattle.replay_cli.specs.Command.{IsCallCount};
 ghost use Rattle.replay_cli.specs.Decision.{ToMake, ToReplay, ToTell, ToTry};
 ghost use Rattle.replay_cli.specs.Done.{IsDone, IsQuiet, IsTried, IsWork, all_commits, made_calls, made_lists, made_start, replayed_files, session_files, task_of};
 ghost use Rattle.replay_cli.specs.Lines.{counted, counted_line, done_status, generated_line, replayed_line, trial_line};
-ghost use Rattle.replay_job.specs.Job.{seen};
-ghost use Rattle.replay_job.specs.Replays.{IsReplay, IsSoundJob};
+ghost use Rattle.replay_job.specs.Job.{HasMoments, seen};
+ghost use Rattle.replay_job.specs.Replays.{IsSoundJob, IsToldReplay};
 ghost use Rattle.replay_report.specs.Report.{report_in};
-ghost use Rattle.job_laws.specs.Jobs.{HasMoments, IsLegalFrom};
+ghost use Rattle.capture_verdict.specs.Verdict.{IsLegal};
 ghost use Rattle.replay_cli.specs.Words.{start_name};
 
 use crate::replay::{replay, trial_of};
@@ -82,7 +82,7 @@ fn replaying(alloc: Global, out: &Txt, job: Job) -> Result<Plan, Memory>
 /// What is told of a replay.
 fn reported(alloc: Global, out: &Txt, desk: &Desk) -> Result<Plan, Memory>
     requires out { length out.now ≤ 900 }
-    requires replay { IsReplay desk.now.job desk.now.history desk.now.stage }
+    requires replay { IsToldReplay desk.now.job desk.now.history desk.now.stage }
     ensures { IfOk result (λ plan. IsDone (ToReplay out.now desk.now.job) plan) }
 {
     let report = report_on(alloc, desk)?;
@@ -98,7 +98,7 @@ fn reported(alloc: Global, out: &Txt, desk: &Desk) -> Result<Plan, Memory>
 
 /// The report on a replay.
 fn report_on(alloc: Global, desk: &Desk) -> Result<Report, Memory>
-    requires replay { IsReplay desk.now.job desk.now.history desk.now.stage }
+    requires replay { IsToldReplay desk.now.job desk.now.history desk.now.stage }
     ensures { IfOk result (λ report. report ≡ report_in desk.now.job desk.now.history) }
 {
     report_of(alloc, desk.job(), desk.history())
@@ -120,7 +120,7 @@ fn replayed_files(
 ) -> Result<List<Write>, Memory>
     requires out { length out.now ≤ 900 }
     requires report { report.now ≡ report_in desk.now.job desk.now.history }
-    requires replay { IsReplay desk.now.job desk.now.history desk.now.stage }
+    requires replay { IsToldReplay desk.now.job desk.now.history desk.now.stage }
     ensures { IfOk result (λ writes. writes ≡ replayed_files out.now desk.now.job desk.now.history desk.now.stage) }
 {
     let (job, history) = (desk.job(), desk.history());
@@ -248,7 +248,7 @@ fn trying(alloc: Global, calls: u32) -> Result<Plan, Memory>
 
 /// A replay of these calls without pauses.
 fn tried(alloc: Global, n: u32, start: &Start, calls: &CallList) -> Result<Plan, Memory>
-    requires legal { IsLegalFrom start.now calls.now.items }
+    requires legal { IsLegal start.now calls.now.items }
     requires moments { HasMoments calls.now.items }
     ensures line { IfOk result (λ plan. plan.line ≡ trial_line n (length calls.now.items) (all_commits calls.now.items)) }
     ensures replay { IfOk result (λ plan. IsTried start.now calls.now.items) }

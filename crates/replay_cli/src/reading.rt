@@ -6,7 +6,7 @@ ghost use Rattle.capture_laws.specs.Sessions.{AreSessionsFrom};
 ghost use Rattle.prepare_plan.specs.Lists.{lists_of};
 ghost use Rattle.remap_ids.specs.Services.{services_of};
 ghost use Rattle.replay_cli.specs.Decision.{IsOfCapture, RemapIn, SessionOf, StartOf, remap_of};
-ghost use Rattle.replay_cli.specs.Steps.{Answers, FaultFree, Is, Reading, Step, file_in, seen_as};
+ghost use Rattle.replay_cli.specs.Steps.{Answered, FaultFree, Is, Reading, Step, file_in, seen_as};
 
 use crate::failure::{Failure, Refusal};
 use capture_format::{FormErr, StartFile, read_session, read_start};
@@ -33,7 +33,7 @@ pub fn read_file<F: Files>(name: &Txt, room: usize, files: &mut F) -> Result<Byt
 
 /// What the bytes of the start file of this name say.
 pub fn parse_start(alloc: Global, name: &Txt, bytes: &Bytes) -> Result<StartFile, Failure>
-    ensures says { Answers (StartOf name.now bytes.now) result }
+    ensures says { Answered (StartOf name.now bytes.now) result }
     ensures free { FaultFree result }
     ensures kind { IfErr result IsOfCapture }
 {
@@ -51,7 +51,7 @@ pub fn parse_session(
     name: &Txt,
     bytes: &Bytes,
 ) -> Result<CallList, Failure>
-    ensures says { Answers (SessionOf session name.now bytes.now) (seen_as (λ calls. calls.items) result) }
+    ensures says { Answered (SessionOf session name.now bytes.now) (seen_as (λ calls. calls.items) result) }
     ensures free { FaultFree result }
     ensures kind { IfErr result IsOfCapture }
 {
@@ -81,7 +81,7 @@ pub fn read_remap<F: Files>(
 }
 
 fn parse_remap(alloc: Global, bytes: &Bytes) -> Result<Remap, Failure>
-    ensures says { Answers (Is (remap_of (services_of bytes.now))) result }
+    ensures says { Answered (Is (remap_of (services_of bytes.now))) result }
     ensures free { FaultFree result }
 {
     match Remap::read(alloc, bytes.as_slice()) {

@@ -1,9 +1,10 @@
 //! The replay of a job, call after call.
 
 ghost use Rattle.std.specs.Prelude.{◌≡◌, IfOk, map, [], ◌≤◌, length};
-ghost use Rattle.replay_job.specs.Job.{seen};
-ghost use Rattle.replay_job.specs.Replays.{IsReplay, IsSoundJob};
-ghost use Rattle.job_laws.specs.Jobs.{HasMoments, IsLegalFrom, IsTrial, plain_fact};
+ghost use Rattle.replay_job.specs.Job.{HasMoments, seen};
+ghost use Rattle.replay_job.specs.Replays.{IsSoundJob, IsToldReplay};
+ghost use Rattle.job_laws.specs.Jobs.{IsTrial, plain_fact};
+ghost use Rattle.capture_verdict.specs.Verdict.{IsLegal};
 
 use desk_schema::Start;
 use desk_values::{CallList, Captured, Copied, List, Memory};
@@ -17,7 +18,7 @@ use std::alloc::Global;
 pub fn replay(alloc: Global, job: Job) -> Result<Desk, Memory>
     requires { IsSoundJob (seen job) }
     ensures job { IfOk result (λ desk. desk.job ≡ seen job) }
-    ensures replay { IfOk result (λ desk. IsReplay desk.job desk.history desk.stage) }
+    ensures replay { IfOk result (λ desk. IsToldReplay desk.job desk.history desk.stage) }
 {
     let count = job.calls.len();
     let mut desk = Desk::setup(alloc, job)?;
@@ -33,7 +34,7 @@ pub fn replay(alloc: Global, job: Job) -> Result<Desk, Memory>
 
 /// The job of replaying a capture as it is, in its order and without pauses.
 pub fn trial_of(alloc: Global, start: &Start, calls: &CallList) -> Result<Job, Memory>
-    requires legal { IsLegalFrom start.now calls.now.items }
+    requires legal { IsLegal start.now calls.now.items }
     requires moments { HasMoments calls.now.items }
     ensures trial { IfOk result (λ job. IsTrial start.now calls.now.items (seen job)) }
     ensures sound { IfOk result (λ job. IsSoundJob (seen job)) }

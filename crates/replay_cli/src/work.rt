@@ -2,14 +2,14 @@
 
 ghost use Rattle.std.specs.Prelude.{◌≡◌, ◌≤◌, IfOk, IfErr, length};
 ghost use Rattle.desk_files.specs.Outside.{Told};
-ghost use Rattle.replay_job.specs.Job.{AreKnownOf, seen};
+ghost use Rattle.replay_job.specs.Job.{AreKnownOf, HasMoments, seen};
 ghost use Rattle.replay_job.specs.Replays.{IsSoundJob};
 ghost use Rattle.replay_cli.specs.declared.words.Command.TheVariants.{Run as TheRun, Prepare as ThePrepare};
 ghost use Rattle.replay_cli.specs.Command.{IsWithinLimits};
 ghost use Rattle.replay_cli.specs.Decision.{Decides, MayRefuse, PrepareIn, RunIn, job_of};
 ghost use Rattle.replay_cli.specs.Done.{IsTaskOf, IsWork, legal_of, task_of};
 ghost use Rattle.replay_cli.specs.Options.{HasWays};
-ghost use Rattle.job_laws.specs.Jobs.{HasMoments, IsLegalFrom};
+ghost use Rattle.capture_verdict.specs.Verdict.{IsLegal};
 ghost use Rattle.replay_cli.specs.Steps.{Step, seen_as};
 
 use crate::capture::{Legal, read_capture, test};
@@ -77,7 +77,7 @@ fn decide_run<F: Files>(
 
 /// The job of a legal capture that is replayed so, on its own start.
 fn job_of(legal: Legal, remap: Remap, ways: &Ways) -> Result<Job, Memory>
-    requires legal { IsLegalFrom legal.start legal.calls.items }
+    requires legal { IsLegal legal.start legal.calls.items }
     requires known { AreKnownOf legal.calls.items legal.facts }
     requires moments { HasMoments legal.calls.items }
     requires ways { HasWays ways.now }

@@ -4,10 +4,8 @@ ghost use Rattle.history_laws.specs.Places.{AreInPlace};
 ghost use Rattle.replay_clock.specs.Gaps.{AreGaps, gap_after};
 
 use desk_values::{CallList, Captured, Copied, List, Memory};
+use replay_history::SESSIONS;
 use std::alloc::Global;
-
-/// The sessions of a capture have numbers below this.
-const SESSIONS: usize = 64;
 
 /// The time before a call of a capture.
 #[derive(Clone, Copy, Debug, PartialEq, Eq)]

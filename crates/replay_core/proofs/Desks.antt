@@ -15,7 +15,8 @@ use Rattle.remap_ids.specs.Services.{ServicePair}
 use Rattle.replay_clock.specs.declared.gap.Gap.{Gap}
 use Rattle.replay_clock.specs.Gaps.{AreGaps, IsGapOf}
 use Rattle.replay_job.specs.Job.{JobView, IsReplayable, seen}
-use Rattle.replay_job.specs.Runs.{Executes, IsWaiting, MayStart, Stage, first_stage}
+use Rattle.replay_job.specs.Runs.{Executes, MayStart, Stage, first_stage}
+use Rattle.replay_history.specs.History.{IsWaiting}
 use Rattle.history_laws.proofs.Items.{item_at}
 use Rattle.history_laws.proofs.Places.{one_gap, same_call}
 use Rattle.history_laws.proofs.Truth.{truthful_answer}

@@ -22,6 +22,7 @@ use Rattle.gate_law.specs.Following.{IsGateOf}
 use Rattle.replay_core.specs.declared.desk.Desk.TheInside.{Inside}
 use Rattle.replay_core.specs.declared.desk.Parts.{Parts}
 use Rattle.replay_core.specs.Desk.{DeskView}
+use Rattle.replay_history.specs.declared.limits.TheConstants.{SESSIONS}
 
 abbrev pub stage_of : Inside → Stage
 stage_of a = record { state = a.engine.state; pairs = a.map.pairs }
@@ -43,7 +44,7 @@ pub record IsDesk (a : Inside) : Type 0 where
 -- the call can be executed: it can be sent, and whatever reply comes brings new ids on both sides
 pub record MayExecute (job : JobView) (stage : Stage) (k : ℕ) (call : Captured) : Type 0 where
   pub at : IsCallAt job.calls k call
-  pub session : call.session < 64
+  pub session : call.session < SESSIONS
   pub low : HasLowIds call.call
   pub few : length call.reply.draws ≤ 16
   pub new_ids : (reply : Reply) (next : State) → Gives stage.state call.session (sent stage.pairs job.remap call.call) reply next → HasNoIdTwice (stage.pairs ++ learnt call.reply reply)

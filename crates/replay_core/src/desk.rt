@@ -5,11 +5,11 @@ ghost use Rattle.machine_model.specs.Sound.{AreStanding};
 ghost use Rattle.machine_model.specs.State.{tables};
 ghost use Rattle.commit_gate.specs.Gates.{new_gate};
 ghost use Rattle.replay_history.specs.Gap.{IsCallAt};
-ghost use Rattle.replay_history.specs.History.{AnswersAll};
+ghost use Rattle.replay_history.specs.History.{AnswersAll, IsWaiting};
 ghost use Rattle.remap_ids.specs.IdMap.{start_pairs};
 ghost use Rattle.replay_clock.specs.Gaps.{AreGaps};
 ghost use Rattle.replay_job.specs.Job.{IsReplayable, seen};
-ghost use Rattle.replay_job.specs.Runs.{Executes, IsDone, IsFirstOpen, IsPauseIn, IsPick, IsWaiting, MayStart, NoneMayStart};
+ghost use Rattle.replay_job.specs.Runs.{Executes, IsDone, IsFirstOpen, IsPauseIn, IsPick, MayStart, NoneMayStart};
 ghost use Rattle.replay_core.specs.Desk.{IsAnswer, IsKept, new_desk, with_start};
 ghost use Rattle.replay_core.specs.Inside.{AreParts, HasOpened, MayExecute};
 

@@ -6,6 +6,10 @@ use Rattle.desk_values.specs.declared.capture.Captured.{Captured}
 abbrev pub IsCallAt : List Captured → ℕ → Captured → Type 0
 IsCallAt calls k call = slice_get calls k ≡ Some call
 
+-- each call stands at its stamp
+abbrev pub IsStamped : List Captured → Type 0
+IsStamped calls = (k : ℕ) (call : Captured) → IsCallAt calls k call → call.stamp ≡ k
+
 -- the first is the call just before the second in one session
 pub record IsJustBefore (first second : Captured) : Type 0 where
   pub session : first.session ≡ second.session

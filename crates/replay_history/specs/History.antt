@@ -25,6 +25,13 @@ IsAnswered history k = (i : ℕ) × (reply : Reply) × AnswersAt history i k rep
 abbrev pub IsStartedBefore : List Event → ℕ → ℕ → Type 0
 IsStartedBefore history i k = (j : ℕ) × (pause : ℕ) × (j < i) × StartsAt history j k pause
 
+abbrev pub IsStarted : List Event → ℕ → Type 0
+IsStarted history k = (i : ℕ) × (pause : ℕ) × StartsAt history i k pause
+
+-- it is started and not answered
+abbrev pub IsWaiting : List Event → ℕ → Type 0
+IsWaiting history k = IsStarted history k × (IsAnswered history k → ⊥)
+
 -- The history of a replay of these calls, which stand by stamp. `required k j` says that call k requires the answer of call j,
 -- and `paused call pause` that this is the pause of a call.
 pub record IsLegalHistory (calls : List Captured) (required : ℕ → ℕ → Type 0) (paused : Captured → ℕ → Type 0) (history : List Event) : Type 0 where

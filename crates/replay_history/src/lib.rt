@@ -6,8 +6,10 @@
 //! Leaves: the words of modes and classes. It touches nothing.
 #![tactic(auto)]
 
+mod limits;
 mod mode;
 mod report;
 
+pub use limits::{CALL_LIMIT, SESSIONS};
 pub use mode::Mode;
 pub use report::{Class, Line, Lines, Report};

@@ -1,4 +1,4 @@
-use desk_values::{List, Word};
+use desk_values::{Copied, List, Memory, Word};
 
 /// How a replayed reply differs from the captured one: the first that fits, in this order but for `Same`. Oracle's
 /// Database Testing Guide parts error divergence (an error that is new, gone or mutated) from data divergence (other
@@ -81,6 +81,12 @@ pub struct Line {
     pub place: u32,
     /// How its reply differs.
     pub class: Class,
+}
+
+impl Copied for Line {
+    fn copy(&self) -> Result<Line, Memory> {
+        Ok(*self)
+    }
 }
 
 /// The calls whose replies differ, by stamp.

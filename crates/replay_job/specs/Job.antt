@@ -50,13 +50,17 @@ pub record AreKnownOf (calls : List Captured) (facts : List Fact) : Type 0 where
   pub each : (k : ℕ) (call : Captured) → IsCallAt calls k call → IsKnownOf call (fact_at facts k)
   pub sound : AreSound facts
 
+-- the moments at which calls begin are within those of a capture
+abbrev pub HasMoments : List Captured → Type 0
+HasMoments calls = (k : ℕ) (call : Captured) → IsCallAt calls k call → call.began ≤ 1000000000000
+
 -- the job is a legal capture over a start that keeps its rules, as every start does, with what is known of its calls, a start
 -- to begin with, and moments and percentages within their limits
 pub record IsReplayable (job : JobView) : Type 0 where
   pub sound : IsSoundStart job.start
   pub legal : IsLegalCapture job.start.rows Gives (opening job.start) job.calls
   pub known : AreKnownOf job.calls job.facts
-  pub moments : (k : ℕ) (call : Captured) → IsCallAt job.calls k call → call.began ≤ 1000000000000
+  pub moments : HasMoments job.calls
   pub target : IsTarget job.start job.target
   pub think : job.think ≤ 1000
   pub connect : job.connect ≤ 1000

@@ -13,8 +13,12 @@ pub record IsSoundJob (job : JobView) : Type 0 where
   pub target : IsSoundStart job.target
 
 -- The job's calls are a legal capture. The history is legal, each call that is sent is answered as one server answers it there, and
--- every call is answered; each event has a text; the server and the pairs of ids come to this stage.
+-- every call is answered; the server and the pairs of ids come to this stage.
 pub record IsReplay (job : JobView) (history : List Event) (last : Stage) : Type 0 where
   pub sound : IsSoundJob job
   pub complete : IsCompleteFor job history last
+
+-- and each of its events has a text
+pub record IsToldReplay (job : JobView) (history : List Event) (last : Stage) : Type 0 where
+  pub replay : IsReplay job history last
   pub texts : AllByRecursion IsEvent history

@@ -4,10 +4,11 @@ use Rattle.desk_values.specs.declared.capture.Captured.{Captured}
 use Rattle.desk_values.specs.declared.capture.Event.{Event}
 use Rattle.desk_values.specs.declared.capture.Event.TheVariants.{Start, Answer}
 use Rattle.desk_values.specs.declared.call.Reply.{Reply}
-use Rattle.machine_model.specs.State.{State, opening}
+use Rattle.desk_values.specs.declared.value.Image.{Image}
+use Rattle.machine_model.specs.State.{State, opening, tables}
 use Rattle.machine_model.specs.Step.{Gives}
 use Rattle.replay_history.specs.Gap.{IsCallAt, IsPause}
-use Rattle.replay_history.specs.History.{IsAnswered, IsCompleteRun, IsLegalHistory, IsTruthfulHistory, StartsAt}
+use Rattle.replay_history.specs.History.{IsAnswered, IsCompleteRun, IsLegalHistory, IsTruthfulHistory}
 use Rattle.object_depends.specs.Required.{is_required}
 use Rattle.id_pairs.specs.Pairs.{IdPair, learnt}
 use Rattle.remap_ids.specs.IdMap.{start_pairs}
@@ -33,13 +34,6 @@ abbrev pub MayStart : JobView → List Event → ℕ → Type 0
 MayStart job history k = (pause : ℕ) × IsLegalFor job (history ++ Start k pause ∷ [])
 
 -- ---- where a replay stands
-
-abbrev pub IsStarted : List Event → ℕ → Type 0
-IsStarted history k = (i : ℕ) × (pause : ℕ) × StartsAt history i k pause
-
--- the call is started and not answered
-abbrev pub IsWaiting : List Event → ℕ → Type 0
-IsWaiting history k = IsStarted history k × (IsAnswered history k → ⊥)
 
 -- the call with this stamp is one of the session's
 abbrev pub IsCallOf : JobView → ℕ → ℕ → Type 0
@@ -69,6 +63,10 @@ pub record IsFirstOpen (job : JobView) (history : List Event) (k : ℕ) : Type 0
 pub record Stage : Type 0 where
   pub state : State
   pub pairs : List IdPair
+
+-- the tables after all commits
+abbrev pub end_tables : State → List Image
+end_tables state = tables state (length state.commits)
 
 -- the server has just begun with the target, and each id of the captured start stands for itself
 abbrev pub first_stage : JobView → Stage

@@ -20,7 +20,7 @@ use Rattle.replay_job.specs.Runs.{learnt_in}
 use Rattle.divergence.specs.Class.{class_between}
 use Rattle.replay_report.specs.Last.{last_of}
 use Rattle.replay_report.specs.Report.{class_at, class_by, class_of, counts_of, difference, gained, marked, report_in}
-use Rattle.replay_report.specs.Laws.{HasOwnStamps}
+use Rattle.replay_history.specs.Gap.{IsStamped}
 use Rattle.replay_report.specs.Written.{differences, noted, noted_on, walked}
 use Rattle.replay_report.proofs.Lasts.{map_same, map_set, or_assoc, or_none}
 
@@ -55,7 +55,7 @@ once_front ps qs once = record {
 
 -- ---- the classes
 
-module _ (calls : List Captured) (stamps : HasOwnStamps calls) (pairs : List IdPair) (f : Captured → Option Class) where
+module _ (calls : List Captured) (stamps : IsStamped calls) (pairs : List IdPair) (f : Captured → Option Class) where
   module _ (k : ℕ) (reply : Reply) where
     abbrev next : Captured → Option Class
     next call = option_or (class_by call (Answer k reply) pairs) (f call)
@@ -75,7 +75,7 @@ module _ (calls : List Captured) (stamps : HasOwnStamps calls) (pairs : List IdP
   by_event (Start k pause) = refl
   by_event (Answer k reply) = by_answer k reply (slice_get calls k) refl
 
-pub walk_is : (calls : List Captured) → HasOwnStamps calls → (pairs : List IdPair) (events : List Event) (f : Captured → Option Class) → walked calls pairs events (map f calls) ≡ map (λ call. option_or (last_of (class_at call) (marked calls pairs events)) (f call)) calls
+pub walk_is : (calls : List Captured) → IsStamped calls → (pairs : List IdPair) (events : List Event) (f : Captured → Option Class) → walked calls pairs events (map f calls) ≡ map (λ call. option_or (last_of (class_at call) (marked calls pairs events)) (f call)) calls
 walk_is calls stamps pairs [] f = refl
 walk_is calls stamps pairs (event ∷ events) f =
     let known = pairs ++ gained calls event in
@@ -102,7 +102,7 @@ none_yet : (calls : List Captured) → replicate (length calls) no_class ≡ map
 none_yet [] = refl
 none_yet (call ∷ calls) = ap (λ (os : List (Option Class)). no_class ∷ os) (none_yet calls)
 
-module _ (job : JobView) (history : List Event) (stamps : HasOwnStamps job.calls) where
+module _ (job : JobView) (history : List Event) (stamps : IsStamped job.calls) where
   classes_are : walked job.calls (start_pairs job.start) history (replicate (length job.calls) None) ≡ map (class_of job history) job.calls
   classes_are =
       ap (walked job.calls (start_pairs job.start) history) (none_yet job.calls) ∙ walk_is job.calls stamps (start_pairs job.start) history (λ (call : Captured). no_class)

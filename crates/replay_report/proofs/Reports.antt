@@ -19,13 +19,13 @@ use Rattle.replay_history.specs.declared.report.Class.{Class}
 use Rattle.replay_history.specs.declared.report.Class.TheVariants.{Same, NewError, GoneError, MutatedError, RowsModified, RowsFetched, RowContents, Images, Shape}
 use Rattle.replay_history.specs.declared.report.Line.{Line}
 use Rattle.replay_history.specs.Class.{class_number}
-use Rattle.replay_history.specs.Gap.{IsCallAt}
+use Rattle.replay_history.specs.Gap.{IsCallAt, IsStamped}
 use Rattle.replay_history.specs.History.{AnswersAll, AnswersAt}
 use Rattle.replay_job.specs.Job.{JobView}
 use Rattle.replay_job.specs.Runs.{IsLegalFor, learnt_in}
 use Rattle.divergence.specs.Class.{class_between}
 use Rattle.replay_report.specs.Last.{last_of}
-use Rattle.replay_report.specs.Laws.{HasOwnStamps, IsLineOf, StampsRise}
+use Rattle.replay_report.specs.Laws.{IsLineOf, StampsRise}
 use Rattle.replay_report.specs.Report.{class_at, class_by, class_of, counts_of, difference, gained, is_class, marked, pairs_after, report_in}
 use Rattle.replay_report.proofs.Classes.{known_more}
 
@@ -99,7 +99,7 @@ all_classed : (f : Captured → Option Class) (calls : List Captured) → ((k : 
 all_classed f [] each = refl
 all_classed f (call ∷ calls) each = let rest = all_classed f calls (λ k. each (suc k)) in rw (each 0 call refl).1 rest
 
-pub add_up : (job : JobView) (history : List Event) → HasOwnStamps job.calls → IsLegalFor job history → AnswersAll job.calls history → sum (report_in job history).counts ≡ length job.calls
+pub add_up : (job : JobView) (history : List Event) → IsStamped job.calls → IsLegalFor job history → AnswersAll job.calls history → sum (report_in job history).counts ≡ length job.calls
 add_up job history stamps legal all =
     let classed = all_classed (class_of job history) job.calls (λ k call at.
     let answer = all k (slice_get_within job.calls k call at) in
@@ -149,7 +149,7 @@ rising job history (call ∷ calls) n least stamps le =
       | inr one ↦ subst (λ (ls : List Line). StampsRise least (ls ++ rest)) (sym one.3) (omega arith, later (call.stamp + 1) (omega arith))
     ]
 
-pub by_stamp : (job : JobView) (history : List Event) → HasOwnStamps job.calls → StampsRise 0 (report_in job history).lines
+pub by_stamp : (job : JobView) (history : List Event) → IsStamped job.calls → StampsRise 0 (report_in job history).lines
 unfolding lines_from
 by_stamp job history stamps = rising job history job.calls 0 0 (λ k call at. stamps k call at ∙ omega arith) (omega arith)
 
@@ -182,7 +182,7 @@ module _ (job : JobView) (history : List Event) (l : Line) where
   placed (first ∷ calls) zero call at h = Contains-append_left (difference first (class_of job history first)) (lines_from job history calls) l (subst (λ (c : Captured). Contains (difference c (class_of job history c)) l) (same_Some call first (sym at)) h)
   placed (first ∷ calls) (suc k) call at h = Contains-append_right (difference first (class_of job history first)) (lines_from job history calls) l (placed calls k call at h)
 
-  shown : HasOwnStamps job.calls → (is : IsLineOf job history l) → Contains (difference is.call (class_of job history is.call)) l
+  shown : IsStamped job.calls → (is : IsLineOf job history l) → Contains (difference is.call (class_of job history is.call)) l
   shown stamps is = elim (cases_difference is.call (class_of job history is.call)) [
     | inl none ↦ absurd (is.differs (none.1 l.class is.class))
     | inr one ↦
@@ -191,7 +191,7 @@ module _ (job : JobView) (history : List Event) (l : Line) where
         subst (λ (ls : List Line). Contains ls l) (sym one.3) (0, omega arith, line_is is.call l (sym (stamps l.stamp is.call is.at)) is.session is.place one.0 class_is)
   ]
 
-  pub stand_where : HasOwnStamps job.calls → Contains (report_in job history).lines l ↔ IsLineOf job history l
+  pub stand_where : IsStamped job.calls → Contains (report_in job history).lines l ↔ IsLineOf job history l
   unfolding lines_from
   stand_where stamps = (
     found job.calls (λ k call at. subst (λ (m : ℕ). IsCallAt job.calls m call) (sym (stamps k call at)) at),

@@ -8,10 +8,6 @@ use Rattle.replay_history.specs.Gap.{IsCallAt}
 use Rattle.replay_job.specs.Job.{JobView}
 use Rattle.replay_report.specs.Report.{class_of}
 
--- each call has its place as its stamp
-abbrev pub HasOwnStamps : List Captured → Type 0
-HasOwnStamps calls = (k : ℕ) (call : Captured) → IsCallAt calls k call → call.stamp ≡ k
-
 -- the line is that of a call of this class, which is not `Same`
 pub record IsLineOf (job : JobView) (history : List Event) (l : Line) : Type 0 where
   pub call : Captured

@@ -13,13 +13,13 @@ ghost use Rattle.file_lines.specs.declared.reader.FormErr.TheVariants.{Memory};
 ghost use Rattle.replay_history.specs.declared.mode.Mode.{Mode};
 ghost use Rattle.replay_history.specs.Texts.{journal_text};
 ghost use Rattle.replay_history.specs.declared.report.Line.{Line};
-ghost use Rattle.replay_history.specs.Gap.{IsCallAt};
+ghost use Rattle.replay_history.specs.Gap.{IsCallAt, IsStamped};
 ghost use Rattle.replay_history.specs.History.{AnswersAll, AnswersAt};
 ghost use Rattle.replay_job.specs.Events.{IsEvent};
 ghost use Rattle.replay_job.specs.Job.{JobView};
 ghost use Rattle.replay_job.specs.Runs.{IsLegalFor};
 ghost use Rattle.divergence.specs.Class.{class_between};
-ghost use Rattle.replay_report.specs.Laws.{HasOwnStamps, IsLineOf, StampsRise};
+ghost use Rattle.replay_report.specs.Laws.{IsLineOf, StampsRise};
 ghost use Rattle.replay_report.specs.Report.{class_of, pairs_after, report_in};
 ghost use Rattle.replay_report.specs.declared.journal.Journal.{Journal};
 ghost use Rattle.replay_report.specs.JournalFile.{IsBadJournal, IsJournal};
@@ -46,15 +46,15 @@ pub fn class_is_by_the_own_answer()
 
 /// Where all calls are answered, each is counted in one class.
 pub fn counts_add_up()
-    ensures { (job : JobView) (history : List Event) → HasOwnStamps job.calls → IsLegalFor job history → AnswersAll job.calls history → sum (report_in job history).counts ≡ length job.calls }
+    ensures { (job : JobView) (history : List Event) → IsStamped job.calls → IsLegalFor job history → AnswersAll job.calls history → sum (report_in job history).counts ≡ length job.calls }
 {}
 
 /// A line stands for a call exactly where its class is not `Same`.
 pub fn lines_stand_where_calls_differ()
-    ensures { (job : JobView) (history : List Event) (line : Line) → HasOwnStamps job.calls → Contains (report_in job history).lines line ↔ IsLineOf job history line }
+    ensures { (job : JobView) (history : List Event) (line : Line) → IsStamped job.calls → Contains (report_in job history).lines line ↔ IsLineOf job history line }
 {}
 
 /// The lines stand by rising stamp.
 pub fn lines_stand_by_stamp()
-    ensures { (job : JobView) (history : List Event) → HasOwnStamps job.calls → StampsRise 0 (report_in job history).lines }
+    ensures { (job : JobView) (history : List Event) → IsStamped job.calls → StampsRise 0 (report_in job history).lines }
 {}

@@ -10,10 +10,9 @@ use Rattle.replay_history.specs.declared.report.Class.{Class}
 use Rattle.replay_history.specs.declared.report.Class.TheVariants.{Same, NewError, GoneError, MutatedError, RowsModified, RowsFetched, RowContents, Images, Shape}
 use Rattle.replay_history.specs.declared.report.Line.{Line}
 use Rattle.replay_history.specs.Class.{all_classes, class_number}
-use Rattle.replay_history.specs.Gap.{IsCallAt}
+use Rattle.replay_history.specs.Gap.{IsCallAt, IsStamped}
 use Rattle.divergence.specs.Class.{is_committed}
 use Rattle.replay_report.specs.Report.{class_of, counts_of, difference, is_class, report_in}
-use Rattle.replay_report.specs.Laws.{HasOwnStamps}
 use Rattle.replay_report.proofs.Reports.{stand_where}
 use Rattle.end_law.specs.Answers.{class_after}
 use Rattle.end_law.proofs.Stages.{one_call}
@@ -27,7 +26,7 @@ pub lines_name : LinesNameWhatDiffers
 lines_name job history last replay i k call reply before after there =
     let class = class_after after call reply in
     let classed = each_classed job history last replay i k call reply before after there in
-    let stamps : HasOwnStamps job.calls = λ n c at. (replay.sound.replayable.legal.each n c at).stamp in
+    let stamps : IsStamped job.calls = λ n c at. (replay.sound.replayable.legal.each n c at).stamp in
     let stamp = stamps k call there.is_call in (
       λ named same.
           let t = (stand_where job history named.0 stamps).0 named.1 in

@@ -11,4 +11,4 @@ pub report_of-requires-clause-complete : goal.report_of-requires-clause-complete
 report_of-requires-clause-complete c =
     let desk = c.args.desk.now in
     let whole = c.all_answered_is_complete.ensures desk c.requires.kept c.requires.all in
-    (desk.stage, subst (λ (h : List Event). IsCompleteFor (seen c.job.result.now) h desk.stage) (sym c.history.ensures) (subst (λ (j : JobView). IsCompleteFor j desk.history desk.stage) (sym c.job.ensures) whole.complete))
+    (desk.stage, subst (λ (h : List Event). IsCompleteFor (seen c.job.result.now) h desk.stage) (sym c.history.ensures) (subst (λ (j : JobView). IsCompleteFor j desk.history desk.stage) (sym c.job.ensures) whole.replay.complete))

@@ -7,12 +7,12 @@ use Rattle.replay_report.specs.Report.{report_in}
 use Rattle.replay_cli.proofs.plan.report_on.Goals as goal
 
 pub report_of-requires-clause-replayable : goal.report_of-requires-clause-replayable
-report_of-requires-clause-replayable c = subst IsReplayable (sym c.job.ensures) c.requires.replay.sound.replayable
+report_of-requires-clause-replayable c = subst IsReplayable (sym c.job.ensures) c.requires.replay.replay.sound.replayable
 
 pub report_of-requires-clause-complete : goal.report_of-requires-clause-complete
 report_of-requires-clause-complete c =
     let last = c.args.desk.now.stage in
-    (last, subst (λ (h : List Event). IsCompleteFor (seen c.job.result.now) h last) (sym c.history.ensures) (subst (λ (j : JobView). IsCompleteFor j c.args.desk.now.history last) (sym c.job.ensures) c.requires.replay.complete))
+    (last, subst (λ (h : List Event). IsCompleteFor (seen c.job.result.now) h last) (sym c.history.ensures) (subst (λ (j : JobView). IsCompleteFor j c.args.desk.now.history last) (sym c.job.ensures) c.requires.replay.replay.complete))
 
 pub returns : goal.returns
 returns c =

@@ -1,0 +1,28 @@
+//! The law that of the faults that apply to a call the server tells the one of the lowest rank.
+//!
+//! Enters and leaves nothing, and touches nothing: its calls are laws over the definitions of `machine_model` and of the ranks
+//! in `desk_values`. A law is a call that does nothing, whose contract is the law. That the checks of statements tell the lowest
+//! rank is a law of `sql_eval`.
+#![tactic(auto)]
+
+ghost use Rattle.rank_law.specs.Ranks.{CausesByRank, ConnectionsByRank, PartsByRank, StatementsByRank};
+
+/// Of what may be wrong with the rows that a statement touches.
+pub fn causes_by_rank()
+    ensures { CausesByRank }
+{}
+
+/// Of what a session's rights and its transaction have against a statement.
+pub fn statements_by_rank()
+    ensures { StatementsByRank }
+{}
+
+/// Of what may be wrong with a connection.
+pub fn connections_by_rank()
+    ensures { ConnectionsByRank }
+{}
+
+/// Of the faults of the parts of an expression.
+pub fn parts_by_rank()
+    ensures { PartsByRank }
+{}
