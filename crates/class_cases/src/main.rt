@@ -1,6 +1,6 @@
 //! Cases of how a replayed reply differs from the captured one, as lines: `PAIRS CAPTURED = REPLAYED`. The pairs of ids
 //! that are known by then are such as `r1=r2,d0.10=d0.11`, captured and replayed, or `-` for none; then come the texts of
-//! the two replies. For each line it prints the word of the class.
+//! the two replies. For each line it prints the word of the class, as a copy of the report's line has it.
 //!
 //! Enters: lines of the standard input. Leaves: as many lines. It touches the standard input and output alone. The expected
 //! words were worked out by hand from the rules, and again by a program of its own.
@@ -10,9 +10,10 @@ use anyhow::anyhow;
 use capture_format::read_reply;
 use case_text::first_word;
 use desk_schema::Draft;
-use desk_values::{List, Outcome, Reply, Value, Word, read_value};
+use desk_values::{Copied, List, Outcome, Reply, Value, Word, read_value};
 use divergence::{Class, class_of};
 use remap_ids::IdMap;
+use replay_history::{Line, Lines};
 use std::alloc::Global;
 
 fn main(rt: HostRuntime) -> Result<(), anyhow::Error> {
@@ -20,7 +21,7 @@ fn main(rt: HostRuntime) -> Result<(), anyhow::Error> {
     for line in rt.lines(alloc) {
         let line = line?;
         let class = class(alloc, line.as_str())?;
-        println!(rt; "{}", class.word())?;
+        println!(rt; "{}", copied(alloc, class)?.word())?;
     }
     Ok(())
 }
@@ -33,6 +34,21 @@ fn class(alloc: Global, line: &str) -> Result<Class, anyhow::Error> {
     let replayed = read_reply(alloc, replayed.as_bytes())?;
     let map = map_of(alloc, pairs)?;
     Ok(class_of(alloc, &map, &captured, &replayed)?)
+}
+
+// The class of a report's line, by a copy of the lines.
+fn copied(alloc: Global, class: Class) -> Result<Class, anyhow::Error> {
+    let mut lines = Lines::new(alloc);
+    lines.push(Line {
+        stamp: 0,
+        session: 0,
+        place: 0,
+        class,
+    })?;
+    match lines.copy()?.as_slice() {
+        [line] => Ok(line.class),
+        _ => Err(anyhow!("no one line")),
+    }
 }
 
 // The map of these pairs, over a start without rows.
