@@ -1,8 +1,8 @@
-//! The law that of the faults that apply to a call the server tells the one of the lowest rank.
+//! The laws that within each stage of a call the server tells, of the faults that apply, the one of the lowest rank.
 //!
-//! Enters and leaves nothing, and touches nothing: its calls are laws over the definitions of `machine_model` and of the ranks
-//! in `desk_values`. A law is a call that does nothing, whose contract is the law. That the checks of statements tell the lowest
-//! rank is a law of `sql_eval`.
+//! Enters and leaves nothing, and touches nothing: its calls are laws over the definitions of `machine_model` and `sql_eval` and
+//! of the ranks in `desk_values`. A law is a call that does nothing, whose contract is the law. The stage of the checks has its
+//! law in `sql_eval`. That the stages follow one another by rank is read off `answer` of `machine_model`, and no law.
 #![tactic(auto)]
 
 ghost use Rattle.rank_law.specs.Ranks.{CausesByRank, ConnectionsByRank, PartsByRank, StatementsByRank};
