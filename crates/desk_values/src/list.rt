@@ -67,6 +67,13 @@ impl<T> List<T> {
         List { items }
     }
 
+    /// An empty list with room for so many items.
+    pub fn with_capacity(alloc: Global, capacity: usize) -> Result<Self, Memory>
+        ensures { IfOk result (λ list. list ≡ []) }
+    {
+        Ok(List::from_vec(Vec::with_capacity(alloc, capacity)?))
+    }
+
     /// The allocator that the items are kept by.
     pub fn allocator(&self) -> Global {
         *self.items.allocator()
@@ -127,7 +134,7 @@ impl<T: Copied> List<T> {
     pub fn from_slice(alloc: Global, items: &[T]) -> Result<Self, Memory>
         ensures { IfOk result (λ list. list ≡ items.now) }
     {
-        let mut list = List::from_vec(Vec::with_capacity(alloc, items.len())?);
+        let mut list = List::with_capacity(alloc, items.len())?;
         for item in items {
             list.push(item.copy()?)?;
         }

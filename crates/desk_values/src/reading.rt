@@ -1,6 +1,6 @@
 //! Values from their texts.
 
-ghost use Rattle.std.specs.Prelude.{◌≡◌, List, Some, IfOk};
+ghost use Rattle.std.specs.Prelude.{◌≡◌, ◌≤◌, List, Some, IfOk};
 ghost use Rattle.std.specs.Option.{option_copied};
 ghost use Rattle.desk_values.specs.declared.value.Value.{Value};
 ghost use Rattle.desk_values.specs.Good.{IsValue, IsValues};
@@ -83,7 +83,7 @@ fn inside(bytes: &[u8]) -> Option<&[u8]>
 fn items(alloc: Global, bytes: &[u8]) -> Result<Values, ReadErr>
     ensures { Reads result (items_of bytes.now) }
 {
-    let mut values = List::new(alloc);
+    let mut values = List::with_capacity(alloc, room_for(bytes))?;
     let mut rest = bytes;
     while let Some((item, after)) = cut(rest, b',') {
         values.push(value(alloc, item)?)?;
@@ -91,4 +91,12 @@ fn items(alloc: Global, bytes: &[u8]) -> Result<Values, ReadErr>
     }
     values.push(value(alloc, rest)?)?;
     Ok(values)
+}
+
+// The room to begin with: that of all values, but never more than 16, so that a field of many commas takes little.
+fn room_for(bytes: &[u8]) -> usize
+    ensures { result ≤ 16 }
+{
+    let commas = bytes.iter().filter(|byte| **byte == b',').take(15).count();
+    commas + 1
 }

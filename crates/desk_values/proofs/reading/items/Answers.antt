@@ -6,11 +6,11 @@ use Rattle.desk_values.proofs.reading.items.Goals as goal
 
 pub loop-item-init : goal.loop-item-init
 unfolding items_of
-loop-item-init c = each_none value_of 44 c.args.bytes.now c.new-values.result c.new-values.ensures
+loop-item-init c = each_none value_of 44 c.args.bytes.now c.in_ok-values.values c.in_ok-values.ensures
 
 pub returns-in_err-value : goal.returns-in_err-value
 returns-in_err-value c =
-    let p = err_from_is_err_and c.from_residual.result c.from_residual.ensures.1 in
+    let p = err_from_is_err_and c.from_residual-in_err-value.result c.from_residual-in_err-value.ensures.1 in
     rw (p.1, p.2) (each_bad value_of 44 c.loop-item.rest.now c.in-Some.item.now c.in-Some.after.now c.loop-item.values (items_of c.args.bytes.now) c.in_err-value.field-0.0 (sym c.in-Some.ensures.value) c.in_err-value.ensures c.loop-item.invariant)
 
 pub loop-item-preserved : goal.loop-item-preserved
