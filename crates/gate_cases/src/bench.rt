@@ -4,7 +4,7 @@ use crate::parts::{mode_of, number_of};
 use crate::play::Play;
 use anyhow::anyhow;
 use desk_values::List;
-use object_depends::{Fact, FactList};
+use object_depends::{Fact, FactList, Mode};
 use std::alloc::Global;
 
 const SESSIONS: u32 = 64;
@@ -14,16 +14,27 @@ const WINDOW: usize = 64;
 /// How many events there were.
 pub fn told(alloc: Global, rest: &str) -> Result<String, anyhow::Error> {
     let (mode, calls) = rest.split_once(' ').ok_or(anyhow!("no number of calls"))?;
+    let mode = mode_of(mode)?;
     let facts = capture(alloc, number_of(calls)?)?;
-    let Some(mut play) = Play::new(alloc, &facts, mode_of(mode)?)? else {
-        return Err(anyhow!("too many calls"));
-    };
+    let events = events_of(alloc, &facts, mode)?;
+    Ok(format!(in alloc; "{events} events")?)
+}
+
+// How many events the calls take. The gate is made last, so that nothing can fail beside it.
+fn events_of(alloc: Global, facts: &FactList, mode: Mode) -> Result<u64, anyhow::Error> {
+    let lane = sessions(alloc)?;
+    match Play::new(alloc, facts, mode)? {
+        Some(mut play) => driven(alloc, &mut play, lane.as_slice(), facts.len()),
+        None => Err(anyhow!("too many calls")),
+    }
+}
+
+fn sessions(alloc: Global) -> Result<Vec<u32>, anyhow::Error> {
     let mut lane = Vec::new(alloc);
     for session in 0..SESSIONS {
         lane.push(session)?;
     }
-    let events = driven(alloc, &mut play, lane.as_slice(), facts.len())?;
-    Ok(format!(in alloc; "{events} events")?)
+    Ok(lane)
 }
 
 // Calls of which every third is a numbered commit on one table, and the others read one table.

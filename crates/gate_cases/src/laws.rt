@@ -1,10 +1,12 @@
 //! Laws over random calls: what a gate says is what it means, by scanning.
 
+ghost use Rattle.std.specs.Prelude.{◌<◌, ◌≤◌, length};
+
 use crate::plain::{Plain, needs_call};
 use crate::play::Play;
 use crate::random::{Random, any, sound};
 use anyhow::anyhow;
-use object_depends::{FactList, Mode, Needs};
+use object_depends::{Fact, FactList, Mode, Needs};
 use std::alloc::Global;
 
 /// A law, and what came of it.
@@ -108,15 +110,25 @@ pub fn told(alloc: Global, rounds: u32) -> Result<String, anyhow::Error> {
         let mode = random.mode();
         let wild = any(alloc, &mut random)?;
         needed(alloc, &wild, mode, &mut laws)?;
-        let facts = sound(alloc, &mut random)?;
-        needed(alloc, &facts, mode, &mut laws)?;
-        let Some(mut play) = Play::new(alloc, &facts, mode)? else {
-            return Err(anyhow!("facts that are not sound"));
-        };
-        let mut plain = Plain::new(alloc, facts.as_slice(), mode)?;
-        round(alloc, &mut play, &mut plain, &mut random, &mut laws)?;
+        played(alloc, mode, &mut random, &mut laws)?;
     }
     laws.lines(alloc)
+}
+
+// Random calls that a gate is for, played to their end.
+fn played(
+    alloc: Global,
+    mode: Mode,
+    random: &mut Random,
+    laws: &mut Laws,
+) -> Result<(), anyhow::Error> {
+    let facts = sound(alloc, random)?;
+    needed(alloc, &facts, mode, laws)?;
+    let mut plain = Plain::new(alloc, facts.as_slice(), mode)?;
+    match Play::new(alloc, &facts, mode)? {
+        Some(mut play) => round(alloc, &mut play, &mut plain, random, laws),
+        None => Err(anyhow!("facts that are not sound")),
+    }
 }
 
 // What each call requires.
@@ -131,18 +143,34 @@ fn needed(
     }
     let needs = Needs::of(alloc, facts, mode)?;
     for k in 0..facts.len() {
-        let mut stamps = Vec::new(alloc);
-        for j in 0..facts.len() {
-            if needs_call(mode, facts.as_slice(), k, j) {
-                stamps.push(j as u32)?;
-            }
-        }
-        let required = needs.required(k as u32)?;
-        laws.required.see(required.as_slice() == stamps.as_slice());
-        let (count, last) = needs.count_last(k as u32);
-        laws.counted.see(count as usize == stamps.len() && last == stamps.last().copied());
+        let stamps = required(alloc, facts.as_slice(), mode, k)?;
+        compare(&needs, k as u32, stamps.as_slice(), laws)?;
     }
     Ok(())
+}
+
+// Compares what is said of a call with the stamps that it requires.
+fn compare(needs: &Needs, k: u32, stamps: &[u32], laws: &mut Laws) -> Result<(), anyhow::Error>
+    requires { k < length needs.now.facts }
+{
+    let required = needs.required(k)?;
+    laws.required.see(required.as_slice() == stamps);
+    let (count, last) = needs.count_last(k);
+    laws.counted.see(count as usize == stamps.len() && last == stamps.last().copied());
+    Ok(())
+}
+
+// The stamps that a call requires, by looking at each.
+fn required(alloc: Global, facts: &[Fact], mode: Mode, k: usize) -> Result<Vec<u32>, anyhow::Error>
+    requires { length facts.now ≤ 100000 }
+{
+    let mut stamps = Vec::new(alloc);
+    for j in 0..facts.len() {
+        if needs_call(mode, facts, k, j) {
+            stamps.push(j as u32)?;
+        }
+    }
+    Ok(stamps)
 }
 
 // Plays the calls to their end, in a random order.

@@ -50,36 +50,54 @@ fn main(rt: HostRuntime) -> Result<(), anyhow::Error> {
     Ok(())
 }
 
-// What a line is answered; the lines of calls are not.
+// What a line is answered; the lines of calls are not. Each word has a function of its own, so that nothing else is at
+// hand where it fails.
 fn told(alloc: Global, case: &mut Case, line: &str) -> Result<Option<String>, anyhow::Error> {
     let (word, rest) = line.split_once(' ').unwrap_or((line, ""));
     match word {
         "case" => {
             case.facts = List::new(alloc);
             case.play = None;
-            Ok(Some(String::from_str(alloc, line)?))
+            some(String::from_str(alloc, line)?)
         }
-        "fact" => {
-            case.facts.push(fact_of(alloc, rest)?)?;
-            Ok(None)
-        }
-        "csv" => Ok(Some(csv(alloc, &case.facts)?)),
-        "required" => Ok(Some(required(alloc, &case.facts, rest)?)),
-        "random" => Ok(Some(laws::told(alloc, number_of(rest)?)?)),
-        "bench" => Ok(Some(bench::told(alloc, rest)?)),
-        "gate" => {
-            case.play = Play::new(alloc, &case.facts, mode_of(rest)?)?;
-            let made = if case.play.is_some() {
-                "gate"
-            } else {
-                "not sound"
-            };
-            Ok(Some(format!(in alloc; "{made} {rest}")?))
-        }
-        _ => {
-            let play = case.play.as_mut().ok_or(anyhow!("no gate"))?;
-            Ok(Some(played(alloc, play, word, rest)?))
-        }
+        "fact" => noted(alloc, &mut case.facts, rest),
+        "csv" => some(csv(alloc, &case.facts)?),
+        "required" => some(required(alloc, &case.facts, rest)?),
+        "random" => some(laws::told(alloc, number_of(rest)?)?),
+        "bench" => some(bench::told(alloc, rest)?),
+        "gate" => gated(alloc, case, rest),
+        _ => some(played_on(alloc, &mut case.play, word, rest)?),
+    }
+}
+
+fn some(answer: String) -> Result<Option<String>, anyhow::Error> {
+    Ok(Some(answer))
+}
+
+fn noted(alloc: Global, facts: &mut FactList, rest: &str) -> Result<Option<String>, anyhow::Error> {
+    facts.push(fact_of(alloc, rest)?)?;
+    Ok(None)
+}
+
+fn gated(alloc: Global, case: &mut Case, rest: &str) -> Result<Option<String>, anyhow::Error> {
+    case.play = Play::new(alloc, &case.facts, mode_of(rest)?)?;
+    let made = if case.play.is_some() {
+        "gate"
+    } else {
+        "not sound"
+    };
+    some(format!(in alloc; "{made} {rest}")?)
+}
+
+fn played_on(
+    alloc: Global,
+    play: &mut Option<Play>,
+    word: &str,
+    rest: &str,
+) -> Result<String, anyhow::Error> {
+    match play {
+        Some(play) => played(alloc, play, word, rest),
+        None => Err(anyhow!("no gate")),
     }
 }
 

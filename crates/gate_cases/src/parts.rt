@@ -28,11 +28,12 @@ pub fn numbers_of(alloc: Global, text: &str) -> Result<Vec<u32>, anyhow::Error> 
 
 /// A call: its session, how many commits it saw, its number, the tables that it references and those that it wrote.
 pub fn fact_of(alloc: Global, text: &str) -> Result<Fact, anyhow::Error> {
-    let mut parts = Vec::new(alloc);
-    for part in text.split(' ') {
-        parts.push(part)?;
-    }
-    let [session, seen, number, refs, writes] = parts.as_slice() else {
+    let parts: Vec<&str> = text.split(' ').collect(alloc)?;
+    fact_of_parts(alloc, parts.as_slice())
+}
+
+fn fact_of_parts(alloc: Global, parts: &[&str]) -> Result<Fact, anyhow::Error> {
+    let [session, seen, number, refs, writes] = parts else {
         return Err(anyhow!("no call"));
     };
     Ok(Fact {
@@ -49,12 +50,13 @@ fn tables_of(alloc: Global, text: &str) -> Result<u32, anyhow::Error> {
     if text == "all" {
         return Ok(u32::MAX);
     }
-    let mut tables = 0;
-    for table in numbers_of(alloc, text)?.as_slice() {
-        if *table >= 32 {
-            return Err(anyhow!("no such table"));
-        }
-        tables |= 1 << *table;
+    set_of(numbers_of(alloc, text)?.as_slice()).ok_or(anyhow!("no such table"))
+}
+
+fn set_of(tables: &[u32]) -> Option<u32> {
+    let mut set = 0;
+    for table in tables {
+        set |= 1u32.checked_shl(*table)?;
     }
-    Ok(tables)
+    Some(set)
 }

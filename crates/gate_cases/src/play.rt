@@ -31,10 +31,9 @@ impl Play {
         if facts.len() > 100_000 || !are_sound(facts.as_slice()) {
             return Ok(None);
         }
-        Ok(Some(Play {
-            gate: Gate::new(alloc, facts, mode)?,
-            open: vec![in alloc; false; facts.len()]?,
-        }))
+        let open = vec![in alloc; false; facts.len()]?;
+        let gate = Gate::new(alloc, facts, mode)?;
+        Ok(Some(Play { gate, open }))
     }
 
     /// Its gate.
