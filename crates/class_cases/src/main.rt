@@ -6,13 +6,14 @@
 //! words were worked out by hand from the rules, and again by a program of its own.
 #![tactic(auto)]
 
+mod known;
+
 use anyhow::anyhow;
 use capture_format::read_reply;
 use case_text::first_word;
-use desk_schema::Draft;
-use desk_values::{Copied, List, Outcome, Reply, Value, Word, read_value};
-use divergence::{Class, class_of};
-use remap_ids::IdMap;
+use desk_values::{Copied, Reply, Word};
+use divergence::Class;
+use known::Known;
 use replay_history::{Line, Lines};
 use std::alloc::Global;
 
@@ -29,11 +30,24 @@ fn main(rt: HostRuntime) -> Result<(), anyhow::Error> {
 // The class of a line.
 fn class(alloc: Global, line: &str) -> Result<Class, anyhow::Error> {
     let (pairs, replies) = first_word(line);
+    let known = Known::of_pairs(alloc, pairs)?;
+    class_of_two(alloc, &known, replies)
+}
+
+fn class_of_two(alloc: Global, known: &Known, replies: &str) -> Result<Class, anyhow::Error> {
     let (captured, replayed) = replies.split_once(" = ").ok_or(anyhow!("no two replies"))?;
     let captured = read_reply(alloc, captured.as_bytes())?;
+    class_against(alloc, known, &captured, replayed)
+}
+
+fn class_against(
+    alloc: Global,
+    known: &Known,
+    captured: &Reply,
+    replayed: &str,
+) -> Result<Class, anyhow::Error> {
     let replayed = read_reply(alloc, replayed.as_bytes())?;
-    let map = map_of(alloc, pairs)?;
-    Ok(class_of(alloc, &map, &captured, &replayed)?)
+    Ok(known.class(alloc, captured, &replayed)?)
 }
 
 // The class of a report's line, by a copy of the lines.
@@ -49,40 +63,4 @@ fn copied(alloc: Global, class: Class) -> Result<Class, anyhow::Error> {
         [line] => Ok(line.class),
         _ => Err(anyhow!("no one line")),
     }
-}
-
-// The map of these pairs, over a start without rows.
-fn map_of(alloc: Global, pairs: &str) -> Result<IdMap, anyhow::Error> {
-    let start = Draft::new(alloc, 1)?.finish(1)?;
-    let mut map = IdMap::from_start(alloc, &start)?;
-    if pairs != "-" {
-        learn(alloc, pairs, &mut map)?;
-    }
-    Ok(map)
-}
-
-// Learns the pairs between the commas.
-fn learn(alloc: Global, pairs: &str, map: &mut IdMap) -> Result<(), anyhow::Error> {
-    for pair in pairs.split(',') {
-        let (captured, replayed) = pair.split_once('=').ok_or(anyhow!("no pair"))?;
-        map.learn_fresh(&giving(alloc, captured)?, &giving(alloc, replayed)?)?;
-    }
-    Ok(())
-}
-
-// A reply that gives just this id.
-fn giving(alloc: Global, text: &str) -> Result<Reply, anyhow::Error> {
-    let mut draws = List::new(alloc);
-    let made = match read_value(alloc, text.as_bytes())? {
-        Value::Row(row) => Some(row),
-        draw => {
-            draws.push(draw)?;
-            None
-        }
-    };
-    Ok(Reply {
-        outcome: Outcome::Count(1),
-        draws,
-        made,
-    })
 }

@@ -3,13 +3,14 @@
 use crate::server::{Mode, Seen, Server};
 use desk_values::{Fault, Image, Outcome, Same, Value, Values};
 use std::alloc::Global;
+use std::marker::Model;
 
 /// The numbers of faults are below this.
 pub const FAULT_NUMBERS: u32 = 40;
 
 /// A law, and what came of it.
 #[derive(Drop)]
-pub struct Law {
+struct Law {
     name: &'static str,
     times: u64,
     /// The first call where it did not hold.
@@ -32,8 +33,8 @@ impl Law {
         }
     }
 
-    /// What came of it, as a line.
-    pub fn line(&self, alloc: Global) -> Result<String, anyhow::Error> {
+    // What came of it, as a line.
+    fn line(&self, alloc: Global) -> Result<String, anyhow::Error> {
         let (name, times) = (self.name, self.times);
         match self.failed {
             None => Ok(format!(in alloc; "law {name}: {times} times, held")?),
@@ -44,7 +45,7 @@ impl Law {
     }
 }
 
-/// All laws.
+/// All laws. Contracts see nothing of them.
 #[derive(Drop)]
 pub struct Laws {
     calls: u64,
@@ -58,6 +59,12 @@ pub struct Laws {
     held: Law,
     free: Law,
     refused: Law,
+}
+
+impl Model for Laws {
+    ghost Value = { Unit {0} };
+
+    ghost view = { λ laws. tt };
 }
 
 impl Laws {
@@ -91,9 +98,9 @@ impl Laws {
         self.faults.get(number as usize).copied().unwrap_or(0)
     }
 
-    /// The laws in order.
-    pub fn all(&self) -> [&Law; 8] {
-        [
+    /// Pushes a line for each law, in order.
+    pub fn push_lines(&self, alloc: Global, lines: &mut Vec<String>) -> Result<(), anyhow::Error> {
+        for law in [
             &self.kept,
             &self.ended,
             &self.drawn,
@@ -102,7 +109,10 @@ impl Laws {
             &self.held,
             &self.free,
             &self.refused,
-        ]
+        ] {
+            lines.push(law.line(alloc)?)?;
+        }
+        Ok(())
     }
 
     /// Looks at each law after a call, from which the server has not learnt yet.
@@ -127,11 +137,11 @@ impl Laws {
 
     // No committed row is other than before.
     fn look_at_rows(&mut self, seen: &Seen) {
-        let same = same_rows(seen);
+        let same = seen.before.same_rows(&seen.after);
         self.kept.see(self.calls, same);
         match &seen.reply.outcome {
             Outcome::RolledBack => {
-                let undone = shows_all(&seen.after.view, seen.after.rows.as_slice());
+                let undone = shows_all(seen.after.view(), seen.after.rows());
                 self.ended.see(self.calls, same && undone);
             }
             Outcome::Disconnected => self.ended.see(self.calls, same),
@@ -161,7 +171,7 @@ impl Laws {
         if let Some(times) = self.faults.get_mut(fault.number() as usize) {
             *times = times.saturating_add(1);
         }
-        let same = same_rows(seen) && seen.before.view.same(&seen.after.view);
+        let same = seen.before.same_rows(&seen.after) && seen.before.view().same(seen.after.view());
         self.refused.see(self.calls, same);
     }
 
@@ -180,11 +190,6 @@ impl Laws {
         }
         Ok(())
     }
-}
-
-// Whether the committed rows and the number of commits are as before the call.
-fn same_rows(seen: &Seen) -> bool {
-    seen.before.commits == seen.after.commits && seen.before.rows.same(&seen.after.rows)
 }
 
 // Whether it is refused as locked, or by a fault that is told before that one.

@@ -10,13 +10,14 @@
 
 mod calls;
 mod laws;
+mod plan;
 mod server;
 
-use anyhow::anyhow;
 use calls::{Kind, Random};
-use desk_values::{Bytes, Fault, List};
+use desk_values::{Bytes, Fault};
 use laws::Laws;
-use server::Server;
+use plan::Plan;
+use server::{Seen, Server};
 use std::alloc::Global;
 
 const ROUNDS: u32 = 24;
@@ -27,49 +28,42 @@ const SESSIONS: u32 = 6;
 
 fn main(rt: HostRuntime) -> Result<(), anyhow::Error> {
     let alloc = rt.alloc();
-    let mut starts = Vec::new(alloc);
-    let mut start = List::new(alloc);
-    let mut kinds = Vec::new(alloc);
+    let mut plan = Plan::new(alloc);
     for line in rt.lines(alloc) {
         let line = line?;
-        if starts.len() == 2 {
-            kinds.push(Kind::of_line(alloc, line.as_str())?)?;
-        } else if let Some(whole) = added(alloc, &mut start, line.as_str())? {
-            starts.push(whole)?;
-        }
+        plan.add(alloc, line.as_str())?;
     }
-    for line in told(alloc, starts.as_slice(), kinds.as_slice())?.as_slice() {
+    for line in told(alloc, &plan)?.as_slice() {
         println!(rt; "{line}")?;
     }
     Ok(())
 }
 
-// The start file that this line ends.
-fn added(alloc: Global, start: &mut Bytes, line: &str) -> Result<Option<Bytes>, anyhow::Error> {
-    start.append(line.as_bytes())?;
-    start.append(b"\n")?;
-    if line != "end" {
-        return Ok(None);
-    }
-    Ok(Some(std::mem::replace(start, List::new(alloc))))
-}
-
 // What came of all rounds.
-fn told(alloc: Global, starts: &[Bytes], kinds: &[Kind]) -> Result<Vec<String>, anyhow::Error> {
-    let [narrow, wide] = starts else {
-        return Err(anyhow!("not two start files"));
-    };
-    let mut random = Random::new();
+fn told(alloc: Global, plan: &Plan) -> Result<Vec<String>, anyhow::Error> {
+    let (narrow, wide) = plan.starts()?;
     let mut laws = Laws::new(alloc)?;
+    let mut random = Random::new();
     for round in 0..ROUNDS {
         let start = if round == 0 { wide } else { narrow };
-        let mut server = Server::new(alloc, start)?;
-        played(alloc, &mut server, &mut random, kinds, &mut laws)?;
+        played(alloc, start, &mut random, plan.kinds(), &mut laws)?;
     }
     lines(alloc, &laws)
 }
 
+// A round, on a server of its own.
 fn played(
+    alloc: Global,
+    start: &Bytes,
+    random: &mut Random,
+    kinds: &[Kind],
+    laws: &mut Laws,
+) -> Result<(), anyhow::Error> {
+    let mut server = Server::new(alloc, start)?;
+    call_some(alloc, &mut server, random, kinds, laws)
+}
+
+fn call_some(
     alloc: Global,
     server: &mut Server,
     random: &mut Random,
@@ -77,19 +71,45 @@ fn played(
     laws: &mut Laws,
 ) -> Result<(), anyhow::Error> {
     for _ in 0..CALLS_OF_A_ROUND {
-        let session = random.below(SESSIONS);
-        let ask = calls::any(alloc, kinds, random)?;
-        let seen = server.seen(session, ask)?;
-        laws.look(server, &seen)?;
-        server.learn(&seen)?;
+        call_one(alloc, server, random, kinds, laws)?;
     }
     Ok(())
+}
+
+fn call_one(
+    alloc: Global,
+    server: &mut Server,
+    random: &mut Random,
+    kinds: &[Kind],
+    laws: &mut Laws,
+) -> Result<(), anyhow::Error> {
+    let session = random.below(SESSIONS);
+    let ask = calls::any(alloc, kinds, random)?;
+    let seen = server.seen(session, &ask)?;
+    looked_at(server, &seen, laws)
+}
+
+fn looked_at(server: &mut Server, seen: &Seen, laws: &mut Laws) -> Result<(), anyhow::Error> {
+    laws.look(server, seen)?;
+    server.learn(seen)
 }
 
 fn lines(alloc: Global, laws: &Laws) -> Result<Vec<String>, anyhow::Error> {
     let mut lines = Vec::new(alloc);
     let calls = laws.calls();
     lines.push(format!(in alloc; "calls: {calls}")?)?;
+    let all = if push_faults(alloc, laws, &mut lines)? {
+        "every fault came"
+    } else {
+        "not every fault came"
+    };
+    lines.push(String::from_str(alloc, all)?)?;
+    laws.push_lines(alloc, &mut lines)?;
+    Ok(lines)
+}
+
+// A line for each fault. Whether every fault came.
+fn push_faults(alloc: Global, laws: &Laws, lines: &mut Vec<String>) -> Result<bool, anyhow::Error> {
     let mut all = true;
     for number in 0..laws::FAULT_NUMBERS {
         if Fault::from_number(number).is_some() {
@@ -98,14 +118,5 @@ fn lines(alloc: Global, laws: &Laws) -> Result<Vec<String>, anyhow::Error> {
             all = all && times > 0;
         }
     }
-    let all = if all {
-        "every fault came"
-    } else {
-        "not every fault came"
-    };
-    lines.push(String::from_str(alloc, all)?)?;
-    for law in laws.all() {
-        lines.push(law.line(alloc)?)?;
-    }
-    Ok(lines)
+    Ok(all)
 }

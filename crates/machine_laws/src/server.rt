@@ -3,18 +3,42 @@
 use crate::calls::{Ask, Form};
 use anyhow::anyhow;
 use capture_format::read_start;
-use desk_values::{Binds, Bytes, Call, Copied, Images, Outcome, Reply, Txt, Value};
+use desk_values::{
+    Binds, Bytes, Call, Copied, Image, Images, Memory, Outcome, Reply, Same, Txt, Value,
+};
 use std::alloc::Global;
+use std::marker::Model;
 use txn_engine::{Engine, STEP_LIMIT};
 
-/// What stands before or after a call.
+/// What stands before or after a call. Contracts see nothing of it.
 #[derive(Drop)]
 pub struct Sight {
+    rows: Images,
+    commits: u64,
+    view: Outcome,
+}
+
+impl Model for Sight {
+    ghost Value = { Unit {0} };
+
+    ghost view = { λ sight. tt };
+}
+
+impl Sight {
     /// The committed rows.
-    pub rows: Images,
-    pub commits: u64,
+    pub fn rows(&self) -> &[Image] {
+        self.rows.as_slice()
+    }
+
     /// What the session is told when it asks for all rows of the small table, each behind its number.
-    pub view: Outcome,
+    pub fn view(&self) -> &Outcome {
+        &self.view
+    }
+
+    /// Whether the committed rows and the number of commits are the same.
+    pub fn same_rows(&self, other: &Sight) -> bool {
+        self.commits == other.commits && self.rows.same(&other.rows)
+    }
 }
 
 /// A row or a key, as a session holds it.
@@ -39,7 +63,6 @@ pub struct Touch {
 #[derive(Drop)]
 pub struct Seen {
     pub session: u32,
-    pub ask: Ask,
     pub touch: Touch,
     pub before: Sight,
     pub reply: Reply,
@@ -55,10 +78,49 @@ pub enum Mode {
     ReadOnly(Outcome),
 }
 
-/// The server.
+// The engine. Contracts see nothing of it.
+#[derive(Drop)]
+struct Machine {
+    engine: Engine,
+}
+
+impl Model for Machine {
+    ghost Value = { Unit {0} };
+
+    ghost view = { λ machine. tt };
+}
+
+impl Machine {
+    fn of_start(alloc: Global, text: &[u8]) -> Result<Machine, anyhow::Error> {
+        match read_start(alloc, text) {
+            Ok(file) => {
+                let engine = Engine::load(alloc, &file.start)?;
+                Ok(Machine { engine })
+            }
+            Err(_) => Err(anyhow!("no start file")),
+        }
+    }
+
+    fn send(&mut self, session: u32, call: &Call) -> Result<Reply, anyhow::Error> {
+        if session >= 64 || self.engine.steps() >= STEP_LIMIT {
+            return Err(anyhow!("no such session"));
+        }
+        Ok(self.engine.step(session, call)?)
+    }
+
+    fn rows(&self) -> Result<Images, Memory> {
+        self.engine.tables()
+    }
+
+    fn commits(&self) -> u64 {
+        self.engine.commits()
+    }
+}
+
+/// The server. Contracts see nothing of it.
 #[derive(Drop)]
 pub struct Server {
-    engine: Engine,
+    machine: Machine,
     /// The call that asks for all rows of the small table.
     look: Call,
     /// Which session holds what.
@@ -68,13 +130,20 @@ pub struct Server {
     drawn: u64,
 }
 
+impl Model for Server {
+    ghost Value = { Unit {0} };
+
+    ghost view = { λ server. tt };
+}
+
 impl Server {
     /// The server of a start file, with six sessions.
     pub fn new(alloc: Global, start: &Bytes) -> Result<Server, anyhow::Error> {
+        let machine = Machine::of_start(alloc, start.as_slice())?;
         let look = Txt::from_bytes(alloc, b"SELECT ROWID, id, qty, name, no FROM t")?;
         let modes = nobody(alloc)?;
         Ok(Server {
-            engine: engine_of(alloc, start)?,
+            machine,
             look: Call::Sql(look, Binds::new(alloc)),
             holds: Vec::new(alloc),
             modes,
@@ -83,32 +152,22 @@ impl Server {
     }
 
     /// Sends a call, and looks before and after it.
-    pub fn seen(&mut self, session: u32, ask: Ask) -> Result<Seen, anyhow::Error> {
-        let before = self.sight(session)?;
-        let reply = sent(&mut self.engine, session, &ask.call)?;
-        let after = self.sight(session)?;
+    pub fn seen(&mut self, session: u32, ask: &Ask) -> Result<Seen, anyhow::Error> {
+        let before = looked(&mut self.machine, session, &self.look)?;
+        let reply = self.machine.send(session, &ask.call)?;
+        let after = looked(&mut self.machine, session, &self.look)?;
         Ok(Seen {
             session,
-            touch: touched(&ask, &before.view),
-            ask,
+            touch: touched(ask, before.view()),
             before,
             reply,
             after,
         })
     }
 
-    fn sight(&mut self, session: u32) -> Result<Sight, anyhow::Error> {
-        let view = self.view(session)?;
-        Ok(Sight {
-            rows: self.engine.tables()?,
-            commits: self.engine.commits(),
-            view,
-        })
-    }
-
     /// What a session is told of all rows of the small table.
     pub fn view(&mut self, session: u32) -> Result<Outcome, anyhow::Error> {
-        Ok(sent(&mut self.engine, session, &self.look)?.outcome)
+        Ok(self.machine.send(session, &self.look)?.outcome)
     }
 
     /// The sessions by number.
@@ -142,10 +201,15 @@ impl Server {
             Outcome::Rows(_) | Outcome::Count(_) => self.hold(seen),
             Outcome::Connected => self.turn(seen.session, Mode::Plain),
             Outcome::Disconnected => self.end(seen.session, Mode::Out),
-            Outcome::Marked => self.turn(seen.session, Mode::ReadOnly(seen.before.view.copy()?)),
+            Outcome::Marked => self.mark(seen),
             Outcome::Committed(_) | Outcome::RolledBack => self.end(seen.session, Mode::Plain),
             Outcome::Refused(_) => Ok(()),
         }
+    }
+
+    fn mark(&mut self, seen: &Seen) -> Result<(), anyhow::Error> {
+        let saw = seen.before.view().copy()?;
+        self.turn(seen.session, Mode::ReadOnly(saw))
     }
 
     fn hold(&mut self, seen: &Seen) -> Result<(), anyhow::Error> {
@@ -167,8 +231,10 @@ impl Server {
     }
 
     fn turn(&mut self, session: u32, mode: Mode) -> Result<(), anyhow::Error> {
-        let place = self.modes.get_mut(session as usize);
-        *place.ok_or(anyhow!("no such session"))? = mode;
+        match self.modes.get_mut(session as usize) {
+            Some(place) => *place = mode,
+            None => return Err(anyhow!("no such session")),
+        }
         Ok(())
     }
 }
@@ -181,13 +247,6 @@ fn nobody(alloc: Global) -> Result<Vec<Mode>, anyhow::Error> {
     Ok(modes)
 }
 
-fn engine_of(alloc: Global, text: &Bytes) -> Result<Engine, anyhow::Error> {
-    match read_start(alloc, text.as_slice()) {
-        Ok(file) => Ok(Engine::load(alloc, &file.start)?),
-        Err(_) => Err(anyhow!("no start file")),
-    }
-}
-
 fn touches(touch: &Touch, thing: Thing) -> bool {
     match thing {
         Thing::Row(row) => touch.row == Some(row),
@@ -195,11 +254,13 @@ fn touches(touch: &Touch, thing: Thing) -> bool {
     }
 }
 
-fn sent(engine: &mut Engine, session: u32, call: &Call) -> Result<Reply, anyhow::Error> {
-    if session >= 64 || engine.steps() >= STEP_LIMIT {
-        return Err(anyhow!("no such session"));
-    }
-    Ok(engine.step(session, call)?)
+fn looked(machine: &mut Machine, session: u32, look: &Call) -> Result<Sight, anyhow::Error> {
+    let rows = machine.rows()?;
+    Ok(Sight {
+        rows,
+        commits: machine.commits(),
+        view: machine.send(session, look)?.outcome,
+    })
 }
 
 // What a call touches where the session sees this.

@@ -11,9 +11,15 @@ pub fn verdict(alloc: Global, word: &str, rest: &str) -> Result<String, anyhow::
     let bytes = file(alloc, word, rest)?;
     match Remap::read(alloc, bytes.as_slice()) {
         Ok(_) => Ok(String::from_str(alloc, "read")?),
-        Err(RemapErr::BadRow { n }) => Ok(format!(in alloc; "bad {n}")?),
-        Err(RemapErr::TwiceFrom { n }) => Ok(format!(in alloc; "twice {n}")?),
-        Err(RemapErr::Memory) => Err(Memory.into()),
+        Err(error) => refused(alloc, error),
+    }
+}
+
+fn refused(alloc: Global, error: RemapErr) -> Result<String, anyhow::Error> {
+    match error {
+        RemapErr::BadRow { n } => Ok(format!(in alloc; "bad {n}")?),
+        RemapErr::TwiceFrom { n } => Ok(format!(in alloc; "twice {n}")?),
+        RemapErr::Memory => Err(Memory.into()),
     }
 }
 

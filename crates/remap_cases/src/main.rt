@@ -15,44 +15,44 @@
 
 mod bench;
 mod files;
+mod known;
 mod maps;
 
 use anyhow::anyhow;
+use case_text::first_word;
 use maps::Replay;
-use remap_ids::Remap;
 use std::alloc::Global;
 
 fn main(rt: HostRuntime) -> Result<(), anyhow::Error> {
     let alloc = rt.alloc();
-    let mut replay = Replay {
-        remap: Remap::none(alloc),
-        ids: None,
-    };
+    let mut replay = Replay::new(alloc);
     for line in rt.lines(alloc) {
         let line = line?;
-        let (word, rest) = line.as_str().split_once(' ').unwrap_or((line.as_str(), ""));
-        let answer = answered(alloc, &mut replay, word, rest)?;
+        let answer = answered(alloc, &mut replay, line.as_str())?;
         println!(rt; "{answer}")?;
     }
     Ok(())
 }
 
-fn answered(
-    alloc: Global,
-    replay: &mut Replay,
-    word: &str,
-    rest: &str,
-) -> Result<String, anyhow::Error> {
+fn answered(alloc: Global, replay: &mut Replay, line: &str) -> Result<String, anyhow::Error> {
+    let (word, rest) = first_word(line);
     match word {
         "read" | "fill" | "many" => files::verdict(alloc, word, rest),
-        "remap" | "start" | "learn" => {
-            replay.told(alloc, word, rest)?;
-            Ok(String::from_str(alloc, "ok")?)
-        }
+        "remap" | "start" | "learn" => told(alloc, replay, word, rest),
         "send" => replay.sent(alloc, rest),
         "image" => replay.image(alloc, rest),
         "maps" => replay.maps(alloc),
         "bench" => bench::learnt(alloc, rest),
         _ => Err(anyhow!("no such case")),
     }
+}
+
+fn told(
+    alloc: Global,
+    replay: &mut Replay,
+    word: &str,
+    rest: &str,
+) -> Result<String, anyhow::Error> {
+    replay.told(alloc, word, rest)?;
+    Ok(String::from_str(alloc, "ok")?)
 }
