@@ -1,3 +1,5 @@
+//! The system's files, with a step of each write that fails.
+
 use std::alloc::Allocator;
 use std::fs::{Metadata, OpenFile, OpenOptions};
 use std::io::{ErrorKind, Read, Seek, SeekFrom, Write};

@@ -1,4 +1,4 @@
-//! Cases of the public calls of the crates below, one on each line: what it is of, a word, and what the call is given.
+//! Cases of calls that no command shows by itself, one on each line: what it is of, a word, and what the call is given.
 //! For each it prints what the call gives.
 //!
 //! Enters: lines of the standard input. Leaves: as many lines. It touches the standard input and output, and folders of
@@ -9,15 +9,11 @@ mod devices;
 mod errors;
 mod failing;
 mod lists;
-mod numbers;
 mod replies;
-mod starts;
 mod system;
-mod text;
 mod values;
-mod words;
 
-use case_text::{first_word, unescaped};
+use case_text::first_word;
 use desk_files::{Sink, StdSink};
 use desk_values::{Bytes, List, ReadErr};
 use std::alloc::Global;
@@ -27,27 +23,29 @@ fn main(rt: HostRuntime) -> Result<(), anyhow::Error> {
     let alloc = rt.alloc();
     let mut out = StdSink::new(&rt);
     for line in rt.lines(alloc) {
-        let line = unescaped(alloc, line?.as_str())?;
-        let mut answer = answer_of(&rt, alloc, str::from_utf8(line.as_slice())?)?;
+        let mut answer = List::new(alloc);
+        append_answer(&rt, alloc, line?.as_str(), &mut answer)?;
         answer.push(b'\n')?;
         out.write(answer.as_slice())?;
     }
     Ok(())
 }
 
-fn answer_of<R: rt::Files>(system: &R, alloc: Global, line: &str) -> Result<Bytes, anyhow::Error> {
-    let mut answer = List::new(alloc);
+fn append_answer<R: rt::Files>(
+    system: &R,
+    alloc: Global,
+    line: &str,
+    to: &mut Bytes,
+) -> Result<(), anyhow::Error> {
     let (group, rest) = first_word(line);
     let (word, rest) = first_word(rest);
     if group == "system" {
-        system::answer(system, alloc, word, rest, &mut answer)?;
-    } else {
-        append_answer(alloc, group, word, rest, &mut answer)?;
+        return system::answer(system, alloc, word, rest, to);
     }
-    Ok(answer)
+    Ok(append_plain(alloc, group, word, rest, to)?)
 }
 
-fn append_answer(
+fn append_plain(
     alloc: Global,
     group: &str,
     word: &str,
@@ -55,15 +53,14 @@ fn append_answer(
     to: &mut Bytes,
 ) -> Result<(), ReadErr> {
     match group {
-        "number" => numbers::answer(alloc, word, rest, to)?,
-        "value" => values::answer(alloc, word, rest, to)?,
-        "word" => words::answer(alloc, word, rest, to)?,
-        "error" => errors::answer(alloc, word, rest, to)?,
-        "list" => lists::answer(alloc, word, rest, to)?,
-        "reply" => replies::answer(alloc, word, rest, to)?,
-        "start" => starts::answer(alloc, word, rest, to)?,
-        "device" => devices::answer(alloc, word, rest, to)?,
-        _ => to.append(b"no case")?,
+        "value" => append_text(values::answer(alloc, word, rest), to),
+        "error" => append_text(errors::answer(alloc, word), to),
+        "reply" => append_text(replies::answer(alloc, word, rest), to),
+        "list" => lists::answer(alloc, word, rest, to),
+        _ => devices::answer(alloc, word, rest, to),
     }
-    Ok(())
+}
+
+fn append_text(text: Result<String, ReadErr>, to: &mut Bytes) -> Result<(), ReadErr> {
+    Ok(to.append(text?.as_bytes())?)
 }

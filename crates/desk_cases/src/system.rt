@@ -2,13 +2,12 @@
 
 use crate::devices::append_call;
 use crate::failing::{Failing, Step};
-use crate::values::append_truth;
 use case_text::{first_word, small_number, txt};
-use desk_files::{Files, RealFiles};
-use desk_values::{Bytes, ReadErr};
+use desk_files::RealFiles;
+use desk_values::Bytes;
 use std::alloc::Global;
 use std::fs::OpenFile;
-use std::{fs, io, rt};
+use std::{fs, rt};
 
 pub fn answer<R: rt::Files>(
     system: &R,
@@ -33,48 +32,27 @@ fn call_files<R: rt::Files>(
 ) -> Result<(), anyhow::Error> {
     let mut files = RealFiles::new(system, alloc);
     for step in steps.split('|') {
-        let (word, rest) = first_word(step);
-        append_step(system, alloc, &mut files, word, rest, to)?;
+        append_step(system, alloc, &mut files, step, to)?;
         to.append(b"; ")?;
     }
     Ok(())
 }
 
+// A step: `folder NAME`, `stretch NAME COUNT` for a file of so many bytes, `remove NAME`, or a call.
 fn append_step<R: rt::Files>(
     system: &R,
     alloc: Global,
     files: &mut RealFiles<'_, R>,
-    word: &str,
-    rest: &str,
+    step: &str,
     to: &mut Bytes,
 ) -> Result<(), anyhow::Error> {
+    let (word, rest) = first_word(step);
     let (name, bytes) = first_word(rest);
     match word {
-        "folder" => Ok(fs::create_dir(system, name)?),
-        "stretch" => Ok(stretch(system, name, small_number(bytes))?),
-        "remove" => Ok(system.remove_dir_all(alloc, name)?),
-        "exists" => append_existence(fs::exists(system, name), to),
-        _ => Ok(append_named_call(alloc, files, word, name, bytes, to)?),
+        "folder" => fs::create_dir(system, name)?,
+        "stretch" => fs::create(system, name)?.set_len(u64::from(small_number(bytes)))?,
+        "remove" => system.remove_dir_all(alloc, name)?,
+        _ => append_call(alloc, files, word, &txt(alloc, name)?, bytes, to)?,
     }
-}
-
-// Makes a file of so many bytes.
-fn stretch<R: rt::Files>(system: &R, name: &str, count: u32) -> io::Result<()> {
-    fs::create(system, name)?.set_len(u64::from(count))
-}
-
-fn append_existence(exists: io::Result<bool>, to: &mut Bytes) -> Result<(), anyhow::Error> {
-    Ok(append_truth(exists?, to)?)
-}
-
-fn append_named_call<F: Files>(
-    alloc: Global,
-    files: &mut F,
-    word: &str,
-    name: &str,
-    bytes: &str,
-    to: &mut Bytes,
-) -> Result<(), ReadErr> {
-    let name = txt(alloc, name)?;
-    Ok(append_call(alloc, files, word, &name, bytes, to)?)
+    Ok(())
 }

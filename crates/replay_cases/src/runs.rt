@@ -14,12 +14,31 @@ use std::collections::BTreeMap;
 /// Room for the line of a run.
 const LINE_ROOM: u32 = 1000;
 
+/// Which files of a run are shown.
+#[derive(Clone, Copy, PartialEq, Eq)]
+pub enum Shown {
+    All,
+    Tables,
+    None,
+}
+
+impl Shown {
+    fn takes(self, name: &str) -> bool {
+        match self {
+            Shown::All => true,
+            Shown::Tables => name == "out/tables.txt",
+            Shown::None => false,
+        }
+    }
+}
+
 /// Runs a command over the files, after the numbers of the calls of files and of the prints that fail.
 pub fn append_run<R>(
     rt: &R,
     alloc: Global,
     kept: &Kept,
     text: &str,
+    shown: Shown,
     to: &mut Bytes,
 ) -> Result<(), ReadErr> {
     let (calls, rest) = first_word(text);
@@ -31,7 +50,7 @@ pub fn append_run<R>(
     append_u64(u64::from(status), to)?;
     to.push(b' ')?;
     append_lines(out.held().as_slice(), to)?;
-    append_changed(alloc, kept, &files, to)
+    append_changed(alloc, kept, &files, shown, to)
 }
 
 // The files that were not there before, or had other bytes, by their names.
@@ -39,6 +58,7 @@ fn append_changed(
     alloc: Global,
     kept: &Kept,
     files: &Watched<MemFiles>,
+    shown: Shown,
     to: &mut Bytes,
 ) -> Result<(), ReadErr> {
     let mut names = kept.names(alloc)?;
@@ -47,7 +67,7 @@ fn append_changed(
     }
     for (name, _) in &names {
         if let Some(bytes) = files.files.held(&txt(alloc, name.as_str())?) {
-            if !kept.holds(name.as_str(), bytes.as_slice()) {
+            if shown.takes(name.as_str()) && !kept.holds(name.as_str(), bytes.as_slice()) {
                 append_file(name.as_str(), bytes, to)?;
             }
         }

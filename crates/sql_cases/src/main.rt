@@ -1,12 +1,12 @@
-//! Cases of the reader of SQL, one on each line: what to print, `form`, `tree` or `read`, and a text. For each it prints
-//! the written form of the statement that the text spells, its tree, or that it is read; `syntax` where it spells none.
+//! Cases of the reader of SQL, one on each line: what to print, `form`, `read` or `error`, and a text. For each it prints
+//! the written form of the statement that the text spells, which shows its tree, or that it is read; `syntax` where it
+//! spells none. Of `error` it prints what the errors say.
 //!
 //! Enters: lines of the standard input. Leaves: as many lines. It touches the standard input and output alone. A
 //! control character stands in both as its code between `\` and `;`, and so does `\`.
 #![tactic(auto)]
 
 mod escape;
-mod shown;
 
 ghost use Rattle.sql_tree.specs.Plain.{plan_of};
 ghost use Rattle.sql_reader.specs.Spelling.{IsStatement};
@@ -30,14 +30,30 @@ fn answered(alloc: Global, wanted: &str, text: &str) -> Result<String, anyhow::E
     let text = escape::unescaped(alloc, text)?;
     let text = Txt::from_bytes(alloc, text.as_bytes())?;
     match read_statement(alloc, &text) {
-        Ok(statement) => match wanted {
-            "form" => form(alloc, statement),
-            "tree" => Ok(shown::statement(alloc, &statement)?),
-            _ => Ok(String::from_str(alloc, "read")?),
-        },
-        Err(SqlErr::Syntax) => Ok(String::from_str(alloc, "syntax")?),
-        Err(SqlErr::Memory) => Err(Memory.into()),
+        Ok(statement) => shown(alloc, wanted, statement),
+        Err(error) => refused(alloc, wanted, error),
     }
+}
+
+fn shown(alloc: Global, wanted: &str, statement: Statement) -> Result<String, anyhow::Error>
+    requires { IsStatement (plan_of statement) }
+{
+    match wanted {
+        "form" => form(alloc, statement),
+        _ => Ok(String::from_str(alloc, "read")?),
+    }
+}
+
+fn refused(alloc: Global, wanted: &str, error: SqlErr) -> Result<String, anyhow::Error> {
+    match error {
+        SqlErr::Memory => Err(Memory.into()),
+        SqlErr::Syntax if wanted == "error" => errors(alloc),
+        SqlErr::Syntax => Ok(String::from_str(alloc, "syntax")?),
+    }
+}
+
+fn errors(alloc: Global) -> Result<String, anyhow::Error> {
+    Ok(format!(in alloc; "{}; {}", SqlErr::Syntax, SqlErr::Memory)?)
 }
 
 // The written form of the statement, which is that of a copy too.
