@@ -1,45 +1,59 @@
 //! Random calls.
 //!
-//! A line tells a kind of call: its form and its text. `:1` and `:2` stand for keys from 1 to 12, `:3` for a number below
-//! 100.
+//! A line tells a kind of call: `connect SERVICE`, `disconnect -`, or `sql TEXT`. In a text `:1` and `:2` stand for keys
+//! from 1 to 12, `:3` for a number below 100, `:4` for the id of a row, `:5` for a value that was drawn.
 
 use crate::random::Random;
 use desk_values::{Binds, Call, Copied, ReadErr, Txt, Value};
 use std::alloc::Global;
+use std::marker::Model;
 
-/// What a call is, and what it touches where it is not refused.
-#[derive(Clone, Copy, PartialEq, Eq)]
-pub enum Form {
-    /// It connects to the service that is its text.
+#[derive(Drop)]
+enum Form {
     Connect,
-    /// It disconnects.
     Disconnect,
-    /// A statement that holds nothing.
-    Plain,
-    /// It holds the row of the key `:1`.
-    Row,
-    /// It changes the key of that row to `:2`.
-    Moved,
-    /// It deletes that row.
-    Gone,
-    /// It makes a row with the key `:1`.
-    New,
+    Sql,
 }
 
-/// A kind of call.
+/// A kind of call. Contracts see nothing of it.
 #[derive(Drop)]
 pub struct Kind {
     form: Form,
     text: Txt,
 }
 
+impl Model for Kind {
+    ghost Value = { Unit {0} };
+
+    ghost view = { λ kind. tt };
+}
+
 impl Kind {
     /// The kind that a line tells. `Bad` where it tells none.
     pub fn of_line(alloc: Global, line: &str) -> Result<Kind, ReadErr> {
-        let (word, text) = line.split_once(' ').ok_or(ReadErr::Bad)?;
-        let form = form_of(word).ok_or(ReadErr::Bad)?;
-        let text = Txt::from_bytes(alloc, text.as_bytes()).map_err(|_| ReadErr::Bad)?;
-        Ok(Kind { form, text })
+        let (word, text) = line.split_once(' ').unwrap_or((line, ""));
+        match form_of(word) {
+            Some(form) => kind_of(alloc, form, text),
+            None => Err(ReadErr::Bad),
+        }
+    }
+
+    fn connects(&self) -> bool {
+        matches!(self.form, Form::Connect)
+    }
+
+    /// A call of this kind. A statement has these binds.
+    pub(crate) fn call(&self, alloc: Global, picks: Picks) -> Result<Call, ReadErr> {
+        match self.form {
+            Form::Connect => self.connection(),
+            Form::Disconnect => Ok(Call::Disconnect),
+            Form::Sql => statement(alloc, &self.text, picks),
+        }
+    }
+
+    /// A call that connects to the service that is its text.
+    pub(crate) fn connection(&self) -> Result<Call, ReadErr> {
+        Ok(Call::Connect(self.text.copy()?))
     }
 }
 
@@ -47,76 +61,82 @@ fn form_of(word: &str) -> Option<Form> {
     match word {
         "connect" => Some(Form::Connect),
         "disconnect" => Some(Form::Disconnect),
-        "plain" => Some(Form::Plain),
-        "row" => Some(Form::Row),
-        "moved" => Some(Form::Moved),
-        "gone" => Some(Form::Gone),
-        "new" => Some(Form::New),
+        "sql" => Some(Form::Sql),
         _ => None,
     }
 }
 
-/// A call that is sent, and the keys in it.
-#[derive(Drop)]
-pub struct Ask {
-    /// What it is.
-    pub form: Form,
-    /// The call itself.
-    pub call: Call,
-    /// The key `:1`.
-    pub key: i64,
-    /// The key `:2`.
-    pub other: i64,
+fn kind_of(alloc: Global, form: Form, text: &str) -> Result<Kind, ReadErr> {
+    match Txt::from_bytes(alloc, text.as_bytes()) {
+        Ok(text) => Ok(Kind { form, text }),
+        Err(_) => Err(ReadErr::Bad),
+    }
 }
 
-/// A call of any of the kinds. `Bad` where there are none.
-pub fn any_call(alloc: Global, kinds: &[Kind], random: &mut Random) -> Result<Ask, ReadErr> {
-    let place = random.place(kinds.len());
-    let kind = kinds.get(place).ok_or(ReadErr::Bad)?;
-    let key = i64::from(random.below(12)) + 1;
-    let other = i64::from(random.below(12)) + 1;
-    let number = i64::from(random.below(100));
-    let call = match kind.form {
-        Form::Connect => Call::Connect(kind.text.copy()?),
-        Form::Disconnect => Call::Disconnect,
-        _ => Call::Sql(kind.text.copy()?, binds(alloc, [key, other, number])?),
-    };
-    Ok(Ask {
-        form: kind.form,
-        call,
-        key,
-        other,
-    })
+/// What is bound in a statement: Null in the place of an id where none is known.
+#[derive(Clone, Copy)]
+pub(crate) struct Picks {
+    pub(crate) numbers: [i64; 3],
+    pub(crate) row: Option<u64>,
+    pub(crate) draw: Option<(u32, u64)>,
 }
 
-/// A call of any of the kinds that connect. `Bad` where there are none.
-pub fn connect_call(kinds: &[Kind], random: &mut Random) -> Result<Call, ReadErr> {
+fn statement(alloc: Global, text: &Txt, picks: Picks) -> Result<Call, ReadErr> {
+    let text = text.copy()?;
+    Ok(Call::Sql(text, binds_of(alloc, picks)?))
+}
+
+fn binds_of(alloc: Global, picks: Picks) -> Result<Binds, ReadErr> {
+    let mut binds = Binds::new(alloc);
+    for number in picks.numbers {
+        bind(&mut binds, Value::Int(number))?;
+    }
+    bind(&mut binds, row_value(picks.row))?;
+    bind(&mut binds, draw_value(picks.draw))?;
+    Ok(binds)
+}
+
+fn bind(binds: &mut Binds, value: Value) -> Result<(), ReadErr> {
+    match binds.push(value) {
+        Ok(()) => Ok(()),
+        Err(_) => Err(ReadErr::Memory),
+    }
+}
+
+fn row_value(row: Option<u64>) -> Value {
+    match row {
+        Some(row) => Value::Row(row),
+        None => Value::Null,
+    }
+}
+
+fn draw_value(draw: Option<(u32, u64)>) -> Value {
+    match draw {
+        Some((sequence, drawn)) => Value::Draw(sequence, drawn),
+        None => Value::Null,
+    }
+}
+
+/// Any of the kinds that connect.
+pub(crate) fn any_connect<'a>(kinds: &'a [Kind], random: &mut Random) -> Option<&'a Kind> {
     let mut left = random.place(connect_count(kinds));
     for kind in kinds {
-        if kind.form == Form::Connect {
+        if kind.connects() {
             if left == 0 {
-                return Ok(Call::Connect(kind.text.copy()?));
+                return Some(kind);
             }
             left = left.saturating_sub(1);
         }
     }
-    Err(ReadErr::Bad)
+    None
 }
 
 fn connect_count(kinds: &[Kind]) -> usize {
     let mut count: usize = 0;
     for kind in kinds {
-        if kind.form == Form::Connect {
+        if kind.connects() {
             count = count.saturating_add(1);
         }
     }
     count
-}
-
-fn binds(alloc: Global, numbers: [i64; 3]) -> Result<Binds, ReadErr> {
-    let mut binds = Binds::new(alloc);
-    for number in numbers {
-        binds.push(Value::Int(number)).map_err(|_| ReadErr::Memory)?;
-    }
-    Ok(binds)
 }

@@ -1,11 +1,12 @@
 //! The clients of a capture: what they know, and when they call.
 
-use crate::calls::{Kind, any_call, connect_call};
+use crate::calls::{Kind, Picks, any_connect};
 use crate::random::Random;
 use desk_values::{Call, Image, Memory, ReadErr, Reply, Value};
 use std::alloc::Global;
+use std::marker::Model;
 
-/// What the clients of all sessions know together.
+/// What the clients of all sessions know together. Contracts see nothing of it.
 #[derive(Drop)]
 pub(crate) struct Clients {
     alloc: Global,
@@ -18,6 +19,12 @@ pub(crate) struct Clients {
     moment: u64,
 }
 
+impl Model for Clients {
+    ghost Value = { Unit {0} };
+
+    ghost view = { λ clients. tt };
+}
+
 impl Clients {
     /// Clients of so many sessions that know the ids of the start's rows, before their first call.
     pub(crate) fn new(alloc: Global, rows: &[Image], sessions: u32) -> Result<Clients, Memory> {
@@ -28,31 +35,56 @@ impl Clients {
             called: vec![in alloc; false; sessions as usize]?,
             moment: 0,
         };
-        for image in rows {
-            clients.rows.push(image.row)?;
-            if let Some(values) = &image.left {
-                clients.learn_draws(values.as_slice())?;
-            }
-        }
+        clients.learn_rows(rows)?;
         Ok(clients)
     }
 
-    /// The next call of a session: one of the kinds, the first one of those that connect. Behind its binds stand the id of
-    /// a row and a value that was drawn, each Null where none is known.
+    fn learn_rows(&mut self, rows: &[Image]) -> Result<(), Memory> {
+        for image in rows {
+            self.rows.push(image.row)?;
+            if let Some(values) = &image.left {
+                self.learn_draws(values.as_slice())?;
+            }
+        }
+        Ok(())
+    }
+
+    /// The next call of a session: one of the kinds, the first one of those that connect.
     pub(crate) fn next_call(
         &mut self,
         session: u32,
         kinds: &[Kind],
         random: &mut Random,
     ) -> Result<Call, ReadErr> {
-        if let Some(called) = self.called.get_mut(session as usize) {
-            if !*called {
-                *called = true;
-                return connect_call(kinds, random);
-            }
+        if self.is_first(session) {
+            return match any_connect(kinds, random) {
+                Some(kind) => kind.connection(),
+                None => Err(ReadErr::Bad),
+            };
         }
-        let ask = any_call(self.alloc, kinds, random)?;
-        with_ids(ask.call, self.row(random), self.draw(random))
+        match kinds.get(random.place(kinds.len())) {
+            Some(kind) => kind.call(self.alloc, self.picks(random)),
+            None => Err(ReadErr::Bad),
+        }
+    }
+
+    // Whether a session has not called yet. From now on it has.
+    fn is_first(&mut self, session: u32) -> bool {
+        match self.called.get_mut(session as usize) {
+            Some(called) => !std::mem::replace(called, true),
+            None => false,
+        }
+    }
+
+    fn picks(&self, random: &mut Random) -> Picks {
+        let key = i64::from(random.below(12)) + 1;
+        let other = i64::from(random.below(12)) + 1;
+        let number = i64::from(random.below(100));
+        Picks {
+            numbers: [key, other, number],
+            row: self.rows.get(random.place(self.rows.len())).copied(),
+            draw: self.draws.get(random.place(self.draws.len())).copied(),
+        }
     }
 
     /// A moment that is no earlier than the last one.
@@ -64,11 +96,10 @@ impl Clients {
 
     /// Learns the ids of a reply.
     pub(crate) fn learn(&mut self, reply: &Reply) -> Result<(), Memory> {
-        self.learn_draws(reply.draws.as_slice())?;
         if let Some(row) = reply.made {
             self.rows.push(row)?;
         }
-        Ok(())
+        self.learn_draws(reply.draws.as_slice())
     }
 
     fn learn_draws(&mut self, values: &[Value]) -> Result<(), Memory> {
@@ -78,31 +109,5 @@ impl Clients {
             }
         }
         Ok(())
-    }
-
-    fn row(&self, random: &mut Random) -> Value {
-        match self.rows.get(random.place(self.rows.len())) {
-            Some(row) => Value::Row(*row),
-            None => Value::Null,
-        }
-    }
-
-    fn draw(&self, random: &mut Random) -> Value {
-        match self.draws.get(random.place(self.draws.len())) {
-            Some((sequence, drawn)) => Value::Draw(*sequence, *drawn),
-            None => Value::Null,
-        }
-    }
-}
-
-// A call with two binds more, where it is a statement.
-fn with_ids(call: Call, row: Value, draw: Value) -> Result<Call, ReadErr> {
-    match call {
-        Call::Sql(text, mut binds) => {
-            binds.push(row).map_err(|_| ReadErr::Memory)?;
-            binds.push(draw).map_err(|_| ReadErr::Memory)?;
-            Ok(Call::Sql(text, binds))
-        }
-        other => Ok(other),
     }
 }

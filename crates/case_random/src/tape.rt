@@ -3,9 +3,10 @@
 ghost use Rattle.std.specs.Prelude.{◌<◌, ◌≤◌, length, map, IfOk};
 ghost use Rattle.capture_laws.specs.Sessions.{AreSessionsFrom};
 
+use crate::clients::Clients;
 use capture_recorder::{CallErr, Recorder, sessions_of};
 use desk_schema::Start;
-use desk_values::{Call, Memory, ReadErr, Reply, SessionLists};
+use desk_values::{Call, Memory, ReadErr, SessionLists};
 use std::alloc::Global;
 use std::marker::Model;
 
@@ -28,21 +29,22 @@ impl Tape {
         Ok(Tape { recorder })
     }
 
-    // Records a call, and gives the reply. One that the recorder turns away is left out.
+    // Records a call, of whose reply the clients learn. One that the recorder turns away is left out.
     pub(crate) fn call(
         &mut self,
         session: u32,
         call: &Call,
         began: u64,
         ended: u64,
-    ) -> Result<Option<Reply>, ReadErr> {
+        clients: &mut Clients,
+    ) -> Result<(), ReadErr> {
         if session >= 64 {
             return Err(ReadErr::Bad);
         }
         match self.recorder.call(session, call, began, ended) {
-            Ok(twice) => Ok(Some(twice.reply)),
+            Ok(twice) => Ok(clients.learn(&twice.reply)?),
             Err(CallErr::Memory) => Err(ReadErr::Memory),
-            Err(CallErr::Full) | Err(CallErr::Stranger) => Ok(None),
+            Err(CallErr::Full) | Err(CallErr::Stranger) => Ok(()),
         }
     }
 

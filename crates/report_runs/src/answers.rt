@@ -1,18 +1,17 @@
 //! The answers of a replay, each with what the capture alone says of it.
 
-use crate::case::{Case, Service};
+use crate::case::{Case, Replay, Service};
 use crate::classes::class_between;
 use crate::pairs::{Pair, learn, of_rows};
-use crate::server::{answered, sent};
+use crate::server::{Server, sent};
 use anyhow::anyhow;
 use capture_format::append_reply;
-use desk_schema::Start;
-use desk_values::{Bytes, Captured, Event, Images, List, Memory, Outcome, Reply, Same};
-use machine_model::PlainMachine;
+use desk_values::{Bytes, Captured, Event, Image, List, Memory, Outcome, Reply, Same};
 use replay_history::{Class, Line};
 use std::alloc::Global;
+use std::marker::Model;
 
-/// An answer.
+/// An answer. Contracts see nothing of it.
 #[derive(Drop)]
 pub struct Answer {
     /// Which call is answered, and the class of it by the pairs just behind this answer.
@@ -33,60 +32,111 @@ pub struct Answer {
     pub commits: bool,
 }
 
-/// What the events of a replay come to.
+impl Model for Answer {
+    ghost Value = { Unit {0} };
+
+    ghost view = { λ answer. tt };
+}
+
+impl Answer {
+    /// Whether it differs.
+    pub fn differs(&self) -> bool {
+        self.line.class != Class::Same
+    }
+}
+
+/// What the events of a replay come to. Contracts see nothing of it.
 #[derive(Drop)]
 pub struct Replayed {
     /// The answers in order.
     pub answers: Vec<Answer>,
-    /// The pairs of ids at the end.
+    /// The pairs of ids.
     pub pairs: Vec<Pair>,
     /// How many of them are those of the start.
     pub own: usize,
-    /// The committed rows at the end.
-    pub tables: Images,
 }
 
-/// What these events come to, on a machine that begins with the target.
-pub fn replay_of(alloc: Global, case: &Case, events: &[Event]) -> Result<Replayed, anyhow::Error> {
-    let mut machine = PlainMachine::load(alloc, &case.target)?;
-    let mut pairs = of_rows(alloc, case.start.rows().as_slice())?;
-    let own = pairs.len();
-    let services = case.services.as_slice();
-    let answers = answers(
+impl Model for Replayed {
+    ghost Value = { Unit {0} };
+
+    ghost view = { λ replayed. tt };
+}
+
+/// What these events come to, where this is a server that begins with the target.
+pub fn replay_of(
+    alloc: Global,
+    case: &Case,
+    replay: &Replay,
+    events: &[Event],
+    server: &mut Server,
+) -> Result<Replayed, anyhow::Error> {
+    let mut replayed = nothing_replayed(alloc, case.start.rows().as_slice())?;
+    add_answers(
         alloc,
-        case.calls.as_slice(),
-        services,
+        case.calls,
+        replay.services,
         events,
-        &mut machine,
-        &mut pairs,
+        server,
+        &mut replayed,
     )?;
+    Ok(replayed)
+}
+
+fn nothing_replayed(alloc: Global, rows: &[Image]) -> Result<Replayed, Memory> {
+    let pairs = of_rows(alloc, rows)?;
+    let own = pairs.len();
     Ok(Replayed {
-        answers,
+        answers: Vec::new(alloc),
         pairs,
         own,
-        tables: machine.tables()?,
     })
 }
 
-fn answers(
+fn add_answers(
     alloc: Global,
     calls: &[Captured],
     services: &[Service],
     events: &[Event],
-    machine: &mut PlainMachine,
-    pairs: &mut Vec<Pair>,
-) -> Result<Vec<Answer>, anyhow::Error> {
-    let mut answers = Vec::new(alloc);
+    server: &mut Server,
+    to: &mut Replayed,
+) -> Result<(), anyhow::Error> {
     for event in events {
         if let Event::Answer(stamp, reply) = event {
-            let call = calls.get(*stamp as usize).ok_or(anyhow!("no such call"))?;
-            let sent = sent(alloc, pairs.as_slice(), services, &call.call)?;
-            let own = answered(machine, call.session, &sent)?;
-            learn(pairs, &call.reply, reply)?;
-            answers.push(answer_of(alloc, pairs.as_slice(), call, reply, &own)?)?;
+            match calls.get(*stamp as usize) {
+                Some(call) => add_answer(alloc, server, services, call, reply, to)?,
+                None => return Err(anyhow!("no such call")),
+            }
         }
     }
-    Ok(answers)
+    Ok(())
+}
+
+// Adds an answer, whose ids are learnt.
+fn add_answer(
+    alloc: Global,
+    server: &mut Server,
+    services: &[Service],
+    call: &Captured,
+    reply: &Reply,
+    to: &mut Replayed,
+) -> Result<(), anyhow::Error> {
+    let as_served = is_served(alloc, server, to.pairs.as_slice(), services, call, reply)?;
+    learn(&mut to.pairs, &call.reply, reply)?;
+    let answer = answer_of(alloc, to.pairs.as_slice(), call, reply, as_served)?;
+    to.answers.push(answer)?;
+    Ok(())
+}
+
+fn is_served(
+    alloc: Global,
+    server: &mut Server,
+    pairs: &[Pair],
+    services: &[Service],
+    call: &Captured,
+    reply: &Reply,
+) -> Result<bool, anyhow::Error> {
+    let sent = sent(alloc, pairs, services, &call.call)?;
+    server.answers(call.session, &sent, reply)
 }
 
 fn answer_of(
@@ -94,15 +144,14 @@ fn answer_of(
     pairs: &[Pair],
     call: &Captured,
     reply: &Reply,
-    own: &Reply,
+    as_served: bool,
 ) -> Result<Answer, Memory> {
     let captured = &call.reply;
-    let class = class_between(alloc, pairs, &captured.outcome, &reply.outcome)?;
     Ok(Answer {
-        line: line_of(call, class),
+        line: line_of(pairs, call, reply),
         captured: text(alloc, captured)?,
         replayed: text(alloc, reply)?,
-        as_served: own.same(reply),
+        as_served,
         as_captured: captured.same(reply),
         numbered: call.number > 0,
         writes: writes(&reply.outcome),
@@ -110,12 +159,12 @@ fn answer_of(
     })
 }
 
-fn line_of(call: &Captured, class: Class) -> Line {
+fn line_of(pairs: &[Pair], call: &Captured, reply: &Reply) -> Line {
     Line {
         stamp: call.stamp,
         session: call.session,
         place: call.place,
-        class,
+        class: class_between(pairs, &call.reply.outcome, &reply.outcome),
     }
 }
 
@@ -137,31 +186,11 @@ fn commits(outcome: &Outcome) -> bool {
 }
 
 /// The answer to the call with this stamp: the first one.
-pub fn answer_to(answers: &[Answer], stamp: usize) -> Option<&Answer> {
+pub fn answer_to(answers: &[Answer], stamp: u32) -> Option<&Answer> {
     for answer in answers {
-        if answer.line.stamp as usize == stamp {
+        if answer.line.stamp == stamp {
             return Some(answer);
         }
     }
     None
-}
-
-/// What came of a capture itself: whether a machine answers each call as captured, and the committed rows at the end.
-pub fn captured_again(
-    alloc: Global,
-    start: &Start,
-    calls: &[Captured],
-) -> Result<(bool, Images), anyhow::Error> {
-    let mut machine = PlainMachine::load(alloc, start)?;
-    let same = answers_again(&mut machine, calls)?;
-    Ok((same, machine.tables()?))
-}
-
-fn answers_again(machine: &mut PlainMachine, calls: &[Captured]) -> Result<bool, anyhow::Error> {
-    let mut all = true;
-    for call in calls {
-        let reply = answered(machine, call.session, &call.call)?;
-        all = all && reply.same(&call.reply);
-    }
-    Ok(all)
 }

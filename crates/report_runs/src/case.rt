@@ -2,58 +2,82 @@
 
 use crate::tables::Tables;
 use desk_schema::Start;
-use desk_values::{CallList, Captured, Copied, Images, Memory, Txt};
+use desk_values::{CallList, Captured, Copied, Image, Memory, Txt};
+use object_depends::Mode;
 use std::alloc::Global;
+use std::marker::Model;
 
 /// What the captured service is sent as.
 pub type Service = (Txt, Txt);
 
-/// A capture, and what it is replayed on.
+/// A capture. Contracts see nothing of it.
 #[derive(Drop)]
-pub struct Case {
+pub struct Case<'a> {
     /// The start of the capture.
-    pub start: Start,
+    pub start: &'a Start,
     /// The calls by stamp.
-    pub calls: Vec<Captured>,
+    pub calls: &'a [Captured],
     /// The tables of each.
-    pub tables: Vec<Tables>,
-    /// Whether a machine answers each call as captured.
-    pub as_captured: bool,
+    pub tables: &'a [Tables],
     /// The committed rows at the end.
-    pub end: Images,
-    /// The start of a replay.
-    pub target: Start,
+    pub end: &'a [Image],
+}
+
+impl<'a> Model for Case<'a> {
+    ghost Value = { Unit {0} };
+
+    ghost view = { λ case. tt };
+}
+
+/// How a capture is replayed. Contracts see nothing of it.
+#[derive(Drop)]
+pub struct Replay<'a> {
+    /// The start of the replay.
+    pub target: &'a Start,
     /// Which services are sent as others.
-    pub services: Vec<Service>,
+    pub services: &'a [Service],
+    /// Which calls each call waits for.
+    pub mode: Mode,
     /// Whether these are the captured start and services.
     pub again: bool,
+}
+
+impl<'a> Model for Replay<'a> {
+    ghost Value = { Unit {0} };
+
+    ghost view = { λ replay. tt };
 }
 
 /// The calls of sessions by stamp: for each number in turn, the first that has it.
 pub fn by_stamp(alloc: Global, sessions: &[CallList]) -> Result<Vec<Captured>, Memory> {
     let mut calls = Vec::new(alloc);
-    for stamp in 0..count(sessions) {
-        if let Some(call) = with_stamp(sessions, stamp) {
-            calls.push(call.copy()?)?;
-        }
-    }
+    add_calls(sessions, &mut calls)?;
     Ok(calls)
 }
 
-fn count(sessions: &[CallList]) -> u32 {
-    let mut count = 0u32;
-    for calls in sessions {
-        count = count.saturating_add(u32::try_from(calls.len()).unwrap_or(u32::MAX));
+fn add_calls(sessions: &[CallList], calls: &mut Vec<Captured>) -> Result<(), Memory> {
+    for stamp in 0..u32::MAX {
+        match with_stamp(sessions, stamp) {
+            Some(call) => calls.push(call.copy()?)?,
+            None => return Ok(()),
+        }
     }
-    count
+    Ok(())
 }
 
 fn with_stamp(sessions: &[CallList], stamp: u32) -> Option<&Captured> {
     for calls in sessions {
-        for call in calls.as_slice() {
-            if call.stamp == stamp {
-                return Some(call);
-            }
+        if let Some(call) = with_stamp_in(calls.as_slice(), stamp) {
+            return Some(call);
+        }
+    }
+    None
+}
+
+fn with_stamp_in(calls: &[Captured], stamp: u32) -> Option<&Captured> {
+    for call in calls {
+        if call.stamp == stamp {
+            return Some(call);
         }
     }
     None

@@ -1,60 +1,58 @@
-//! The class of a call by the table of classes, line by line.
+//! The class of a call by the two replies to it.
 
-use crate::carried;
-use crate::pairs::Pair;
-use desk_values::{Image, Memory, Outcome, Same, Values};
+use crate::pairs::{Pair, id_of, image_of};
+use desk_values::{Fault, Image, Outcome, Same, Value, Values};
+use id_pairs::Id;
 use replay_history::Class;
-use std::alloc::Global;
-
-/// The lines of the table, of which the first that fits gives the class.
-const LINES: [Class; 8] = [
-    Class::NewError,
-    Class::GoneError,
-    Class::MutatedError,
-    Class::RowsModified,
-    Class::RowsFetched,
-    Class::RowContents,
-    Class::Images,
-    Class::Shape,
-];
 
 /// How the replayed outcome differs from the captured one, where these are the pairs just behind the call's own answer.
-pub fn class_between(
-    alloc: Global,
-    pairs: &[Pair],
-    captured: &Outcome,
-    replayed: &Outcome,
-) -> Result<Class, Memory> {
-    for class in LINES {
-        if fits(alloc, pairs, class, captured, replayed)? {
-            return Ok(class);
+pub fn class_between(pairs: &[Pair], captured: &Outcome, replayed: &Outcome) -> Class {
+    match (captured, replayed) {
+        (Outcome::Refused(fault), Outcome::Refused(other)) => class_of_faults(*fault, *other),
+        (Outcome::Refused(_), _) => Class::GoneError,
+        (_, Outcome::Refused(_)) => Class::NewError,
+        (Outcome::Rows(rows), Outcome::Rows(others)) => {
+            class_of_rows(pairs, rows.as_slice(), others.as_slice())
         }
-    }
-    Ok(Class::Same)
-}
-
-fn fits(
-    alloc: Global,
-    pairs: &[Pair],
-    class: Class,
-    captured: &Outcome,
-    replayed: &Outcome,
-) -> Result<bool, Memory> {
-    match class {
-        Class::NewError => Ok(!is_refused(captured) && is_refused(replayed)),
-        Class::GoneError => Ok(is_refused(captured) && !is_refused(replayed)),
-        Class::MutatedError => Ok(other_fault(captured, replayed)),
-        Class::RowsModified => Ok(other_count(captured, replayed)),
-        Class::RowsFetched => Ok(other_length(captured, replayed)),
-        Class::RowContents => other_rows(alloc, pairs, captured, replayed),
-        Class::Images => other_images(alloc, pairs, captured, replayed),
-        Class::Shape => Ok(kind(captured) != kind(replayed)),
-        Class::Same => Ok(true),
+        (Outcome::Committed(images), Outcome::Committed(others)) => {
+            class_of_images(pairs, images.as_slice(), others.as_slice())
+        }
+        _ => class_of_others(captured, replayed),
     }
 }
 
-fn is_refused(outcome: &Outcome) -> bool {
-    matches!(outcome, Outcome::Refused(_))
+fn class_of_faults(fault: Fault, other: Fault) -> Class {
+    if fault.number() == other.number() {
+        Class::Same
+    } else {
+        Class::MutatedError
+    }
+}
+
+fn class_of_rows(pairs: &[Pair], rows: &[Values], others: &[Values]) -> Class {
+    if rows.len() != others.len() {
+        Class::RowsFetched
+    } else if are_one_bag(pairs, rows, others) {
+        Class::Same
+    } else {
+        Class::RowContents
+    }
+}
+
+fn class_of_images(pairs: &[Pair], images: &[Image], others: &[Image]) -> Class {
+    if are_carried(pairs, images, others) {
+        Class::Same
+    } else {
+        Class::Images
+    }
+}
+
+fn class_of_others(captured: &Outcome, replayed: &Outcome) -> Class {
+    match (captured, replayed) {
+        (Outcome::Count(count), Outcome::Count(other)) if *count != *other => Class::RowsModified,
+        _ if kind(captured) != kind(replayed) => Class::Shape,
+        _ => Class::Same,
+    }
 }
 
 fn kind(outcome: &Outcome) -> u32 {
@@ -70,65 +68,14 @@ fn kind(outcome: &Outcome) -> u32 {
     }
 }
 
-fn other_fault(captured: &Outcome, replayed: &Outcome) -> bool {
-    match (captured, replayed) {
-        (Outcome::Refused(fault), Outcome::Refused(other)) => fault.number() != other.number(),
-        _ => false,
-    }
-}
-
-fn other_count(captured: &Outcome, replayed: &Outcome) -> bool {
-    match (captured, replayed) {
-        (Outcome::Count(count), Outcome::Count(other)) => *count != *other,
-        _ => false,
-    }
-}
-
-fn other_length(captured: &Outcome, replayed: &Outcome) -> bool {
-    match (captured, replayed) {
-        (Outcome::Rows(rows), Outcome::Rows(others)) => rows.len() != others.len(),
-        _ => false,
-    }
-}
-
-// Rows with an id that has no image are other ones.
-fn other_rows(
-    alloc: Global,
-    pairs: &[Pair],
-    captured: &Outcome,
-    replayed: &Outcome,
-) -> Result<bool, Memory> {
-    let (Outcome::Rows(rows), Outcome::Rows(others)) = (captured, replayed) else {
-        return Ok(false);
-    };
-    Ok(match carried::rows(alloc, pairs, rows.as_slice())? {
-        Some(carried) => !are_one_bag(carried.as_slice(), others.as_slice()),
-        None => true,
-    })
-}
-
-// So are images.
-fn other_images(
-    alloc: Global,
-    pairs: &[Pair],
-    captured: &Outcome,
-    replayed: &Outcome,
-) -> Result<bool, Memory> {
-    let (Outcome::Committed(images), Outcome::Committed(others)) = (captured, replayed) else {
-        return Ok(false);
-    };
-    let same = are_carried(alloc, pairs, images.as_slice(), others.as_slice())?;
-    Ok(!same)
-}
-
-// Whether each row stands in both as often.
-fn are_one_bag(rows: &[Values], others: &[Values]) -> bool {
-    for row in rows {
-        if times(rows, row) != times(others, row) {
+// Whether each of the others stands among them as often as it is the image of a row, where there are as many.
+fn are_one_bag(pairs: &[Pair], rows: &[Values], others: &[Values]) -> bool {
+    for other in others {
+        if times(others, other) != times_carried(pairs, rows, other.as_slice()) {
             return false;
         }
     }
-    rows.len() == others.len()
+    true
 }
 
 fn times(rows: &[Values], row: &Values) -> u64 {
@@ -141,36 +88,93 @@ fn times(rows: &[Values], row: &Values) -> u64 {
     times
 }
 
-/// Whether the second images are the first ones with each id exchanged for its image, in whatever order.
-pub fn are_carried(
-    alloc: Global,
-    pairs: &[Pair],
-    images: &[Image],
-    others: &[Image],
-) -> Result<bool, Memory> {
-    Ok(match carried::images(alloc, pairs, images)? {
-        Some(carried) => {
-            stand_in(carried.as_slice(), others) && stand_in(others, carried.as_slice())
+fn times_carried(pairs: &[Pair], rows: &[Values], row: &[Value]) -> u64 {
+    let mut times = 0u64;
+    for other in rows {
+        if is_carried(pairs, other.as_slice(), row) {
+            times = times.saturating_add(1);
         }
-        None => false,
-    })
+    }
+    times
 }
 
-// Whether each image stands among the others.
-fn stand_in(images: &[Image], others: &[Image]) -> bool {
+// Whether the other values are these with each id exchanged for its image.
+fn is_carried(pairs: &[Pair], values: &[Value], others: &[Value]) -> bool {
+    for (value, other) in values.iter().zip(others.iter()) {
+        if !is_image(pairs, value, other) {
+            return false;
+        }
+    }
+    values.len() == others.len()
+}
+
+fn is_image(pairs: &[Pair], value: &Value, other: &Value) -> bool {
+    match id_of(value) {
+        Some(id) => is_id_image(pairs, id, other),
+        None => value.same(other),
+    }
+}
+
+fn is_id_image(pairs: &[Pair], id: Id, other: &Value) -> bool {
+    match (image_of(pairs, id), id_of(other)) {
+        (Some(image), Some(other)) => image == other,
+        _ => false,
+    }
+}
+
+/// Whether the second images are the first ones with each id exchanged for its image, in whatever order.
+pub fn are_carried(pairs: &[Pair], images: &[Image], others: &[Image]) -> bool {
+    have_images(pairs, images, others) && are_images(pairs, images, others)
+}
+
+// Whether the image of each stands among the others.
+fn have_images(pairs: &[Pair], images: &[Image], others: &[Image]) -> bool {
     for image in images {
-        if !stands_in(image, others) {
+        if !has_image(pairs, image, others) {
             return false;
         }
     }
     true
 }
 
-fn stands_in(image: &Image, others: &[Image]) -> bool {
+fn has_image(pairs: &[Pair], image: &Image, others: &[Image]) -> bool {
     for other in others {
-        if image.same(other) {
+        if is_image_of_row(pairs, image, other) {
             return true;
         }
     }
     false
+}
+
+// Whether each of the others is the image of one.
+fn are_images(pairs: &[Pair], images: &[Image], others: &[Image]) -> bool {
+    for other in others {
+        if !is_of_any(pairs, images, other) {
+            return false;
+        }
+    }
+    true
+}
+
+fn is_of_any(pairs: &[Pair], images: &[Image], other: &Image) -> bool {
+    for image in images {
+        if is_image_of_row(pairs, image, other) {
+            return true;
+        }
+    }
+    false
+}
+
+fn is_image_of_row(pairs: &[Pair], image: &Image, other: &Image) -> bool {
+    image.table == other.table
+        && image_of(pairs, Id::Row(image.row)) == Some(Id::Row(other.row))
+        && are_left(pairs, image.left.as_ref(), other.left.as_ref())
+}
+
+fn are_left(pairs: &[Pair], left: Option<&Values>, other: Option<&Values>) -> bool {
+    match (left, other) {
+        (Some(values), Some(others)) => is_carried(pairs, values.as_slice(), others.as_slice()),
+        (None, None) => true,
+        _ => false,
+    }
 }

@@ -1,74 +1,46 @@
 //! A desk, driven to its end in a random permitted order.
 
-ghost use Rattle.std.specs.Prelude.{◌≤◌, length, IfOk};
+ghost use Rattle.std.specs.Prelude.{◌≤◌, length};
 ghost use Rattle.capture_laws.specs.Sessions.{AreSessionsFrom};
 ghost use Rattle.prepare_plan.specs.Lists.{lists_of};
-ghost use Rattle.replay_job.specs.Job.{seen};
-ghost use Rattle.replay_job.specs.Replays.{IsSoundJob};
 
-use crate::case::Service;
+use crate::case::{Replay, Service};
 use crate::history::Past;
-use crate::laws::{Laws, Place};
-use crate::said::{Said, look_at_said};
+use crate::laws::{Laws, Rule};
 use anyhow::anyhow;
 use case_desks::{Board, Started};
 use case_jobs::{Ways, job_of};
-use case_random::{Capture, Random};
+use case_random::Random;
 use desk_schema::Start;
-use desk_values::{Bytes, List, Memory};
-use object_depends::Mode;
+use desk_values::{Bytes, List, Memory, SessionLists};
 use remap_ids::Remap;
-use replay_job::Job;
 use std::alloc::Global;
 
-/// A desk that replays the capture, where nothing is started.
+/// A desk that replays the calls of these sessions, where nothing is started.
 pub fn desk_of(
     alloc: Global,
-    capture: &Capture,
-    target: &Start,
-    services: &[Service],
-    mode: Mode,
+    start: &Start,
+    sessions: &SessionLists,
+    replay: &Replay,
 ) -> Result<Board, anyhow::Error>
-    requires sessions { length capture.now.sessions ≤ 64 }
-    requires lists { AreSessionsFrom 0 (lists_of capture.now.sessions) }
-{
-    let remap = remap_of(alloc, services)?;
-    let job = job(alloc, capture, target, remap, mode)?;
-    Ok(Board::of(alloc, job)?)
-}
-
-fn job(
-    alloc: Global,
-    capture: &Capture,
-    target: &Start,
-    remap: Remap,
-    mode: Mode,
-) -> Result<Job, anyhow::Error>
-    requires sessions { length capture.now.sessions ≤ 64 }
-    requires lists { AreSessionsFrom 0 (lists_of capture.now.sessions) }
-    ensures { IfOk result (λ job. IsSoundJob (seen job)) }
+    requires sessions { length sessions.now ≤ 64 }
+    requires lists { AreSessionsFrom 0 (lists_of sessions.now) }
 {
     let ways = Ways {
-        mode,
+        mode: replay.mode,
         think: 100,
         connect: 100,
     };
-    match job_of(
-        alloc,
-        &capture.start,
-        &capture.sessions,
-        target,
-        remap,
-        ways,
-    ) {
-        Ok(job) => Ok(job),
+    let file = remap_file(alloc, replay.services)?;
+    let remap = Remap::read(alloc, file.as_slice())?;
+    match job_of(alloc, start, sessions, replay.target, remap, ways) {
+        Ok(job) => Ok(Board::of(alloc, job)?),
         Err(_) => Err(anyhow!("no job")),
     }
 }
 
-// The remap by the file of these services.
-fn remap_of(alloc: Global, services: &[Service]) -> Result<Remap, anyhow::Error> {
-    let mut file: Bytes = List::new(alloc);
+fn remap_file(alloc: Global, services: &[Service]) -> Result<Bytes, Memory> {
+    let mut file = List::new(alloc);
     for (captured, replayed) in services {
         file.append(b"service,")?;
         file.append(captured.as_str().as_bytes())?;
@@ -76,7 +48,7 @@ fn remap_of(alloc: Global, services: &[Service]) -> Result<Remap, anyhow::Error>
         file.append(replayed.as_str().as_bytes())?;
         file.append(b"\n")?;
     }
-    Ok(Remap::read(alloc, file.as_slice())?)
+    Ok(file)
 }
 
 /// Starts and answers calls in a random order until all are answered, where each of them waits for these. What the desk says
@@ -86,18 +58,26 @@ pub fn drive(
     board: &mut Board,
     waits: &[Vec<u32>],
     random: &mut Random,
-    place: Place,
     laws: &mut Laws,
 ) -> Result<(), anyhow::Error> {
     let mut past = Past::new(alloc, waits.len())?;
+    drive_on(board, waits, &mut past, random, laws)
+}
+
+fn drive_on(
+    board: &mut Board,
+    waits: &[Vec<u32>],
+    past: &mut Past,
+    random: &mut Random,
+    laws: &mut Laws,
+) -> Result<(), anyhow::Error> {
     for _ in 0..waits.len().saturating_mul(2) {
-        let said = asked(alloc, board, waits.len())?;
-        look_at_said(&said, waits, &past, place, laws);
-        let step = chosen(said.ready.as_slice(), said.waiting.as_slice(), random);
-        take(board, &mut past, step.ok_or(anyhow!("stuck"))?)?;
+        match next_step(board, waits, past, random, laws) {
+            Some(step) => take(board, past, step)?,
+            None => return Err(anyhow!("stuck")),
+        }
     }
-    let last = asked(alloc, board, waits.len())?;
-    look_at_said(&last, waits, &past, place, laws);
+    let _none = next_step(board, waits, past, random, laws);
     Ok(())
 }
 
@@ -108,9 +88,16 @@ enum Step {
     Answer(u32),
 }
 
-fn chosen(ready: &[bool], waiting: &[bool], random: &mut Random) -> Option<Step> {
-    let start = any_of(ready, random);
-    let answer = any_of(waiting, random);
+fn next_step(
+    board: &Board,
+    waits: &[Vec<u32>],
+    past: &Past,
+    random: &mut Random,
+    laws: &mut Laws,
+) -> Option<Step> {
+    laws.see(Rule::FirstOpen, board.first_open() == past.first_open());
+    let start = any_ready(board, waits, past, random, laws);
+    let answer = any_waiting(board, waits.len(), past, random, laws);
     if answer.is_none() || (start.is_some() && random.below(2) == 0) {
         Some(Step::Start(start?))
     } else {
@@ -118,67 +105,72 @@ fn chosen(ready: &[bool], waiting: &[bool], random: &mut Random) -> Option<Step>
     }
 }
 
-// The stamp of a flag that is set, each as likely.
-fn any_of(flags: &[bool], random: &mut Random) -> Option<u32> {
+// One of the calls that are ready, each as likely. The desk is asked of each call, and of some numbers of which there are none.
+fn any_ready(
+    board: &Board,
+    waits: &[Vec<u32>],
+    past: &Past,
+    random: &mut Random,
+    laws: &mut Laws,
+) -> Option<u32> {
     let mut chosen = None;
     let mut count = 0u32;
-    for (stamp, flag) in flags.iter().enumerate() {
-        count = count.saturating_add(u32::from(*flag));
-        if *flag && random.below(count) == 0 {
-            chosen = u32::try_from(stamp).ok();
+    for stamp in 0..stamps(waits.len()) {
+        let ready = board.ready(stamp);
+        laws.see_at(Rule::Ready, stamp, ready == past.may_start(waits, stamp));
+        count = count.saturating_add(u32::from(ready));
+        if ready && random.below(count) == 0 {
+            chosen = Some(stamp);
         }
     }
     chosen
 }
 
-fn asked(alloc: Global, board: &Board, calls: usize) -> Result<Said, Memory> {
-    let stamps = u32::try_from(calls.saturating_add(2)).unwrap_or(u32::MAX);
-    Ok(Said {
-        ready: ready(alloc, board, stamps)?,
-        waiting: waiting(alloc, board, stamps)?,
-        first_open: board.first_open(),
-    })
+// One of so many calls that wait to be answered.
+fn any_waiting(
+    board: &Board,
+    calls: usize,
+    past: &Past,
+    random: &mut Random,
+    laws: &mut Laws,
+) -> Option<u32> {
+    let mut chosen = None;
+    let mut count = 0u32;
+    for stamp in 0..stamps(calls) {
+        let waiting = board.waiting(stamp);
+        laws.see_at(Rule::Waiting, stamp, waiting == past.is_waiting(stamp));
+        count = count.saturating_add(u32::from(waiting));
+        if waiting && random.below(count) == 0 {
+            chosen = Some(stamp);
+        }
+    }
+    chosen
 }
 
-fn ready(alloc: Global, board: &Board, stamps: u32) -> Result<Vec<bool>, Memory> {
-    let mut flags = Vec::new(alloc);
-    for k in 0..stamps {
-        flags.push(board.ready(k))?;
-    }
-    Ok(flags)
-}
-
-fn waiting(alloc: Global, board: &Board, stamps: u32) -> Result<Vec<bool>, Memory> {
-    let mut flags = Vec::new(alloc);
-    for k in 0..stamps {
-        flags.push(board.waiting(k))?;
-    }
-    Ok(flags)
+fn stamps(calls: usize) -> u32 {
+    u32::try_from(calls.saturating_add(2)).unwrap_or(u32::MAX)
 }
 
 fn take(board: &mut Board, past: &mut Past, step: Step) -> Result<(), anyhow::Error> {
     match step {
-        Step::Start(k) => {
-            past.start(k);
-            start(board, k)
-        }
-        Step::Answer(k) => {
-            past.answer(k);
-            answer(board, k)
-        }
+        Step::Start(stamp) => start(board, past, stamp),
+        Step::Answer(stamp) => answer(board, past, stamp),
     }
 }
 
-fn start(board: &mut Board, k: u32) -> Result<(), anyhow::Error> {
-    match board.start(k) {
+fn start(board: &mut Board, past: &mut Past, stamp: u32) -> Result<(), anyhow::Error> {
+    past.start(stamp);
+    match board.start(stamp) {
         Started::After(_pause) => Ok(()),
         Started::NotReady | Started::Stopped => Err(anyhow!("a ready call does not start")),
     }
 }
 
-fn answer(board: &mut Board, k: u32) -> Result<(), anyhow::Error> {
-    if !board.answer(k)? {
-        return Err(anyhow!("a started call does not wait"));
+fn answer(board: &mut Board, past: &mut Past, stamp: u32) -> Result<(), anyhow::Error> {
+    past.answer(stamp);
+    if board.answer(stamp)? {
+        Ok(())
+    } else {
+        Err(anyhow!("a started call does not wait"))
     }
-    Ok(())
 }

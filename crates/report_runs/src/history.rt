@@ -4,16 +4,16 @@ use crate::tables::{Tables, share};
 use desk_values::{Captured, Event, Memory};
 use object_depends::Mode;
 use std::alloc::Global;
+use std::marker::Model;
 
 /// Whether each of so many calls is started once and answered once, and there are no other events.
-pub fn are_once(events: &[Event], calls: u32) -> bool {
-    for stamp in 0..calls {
-        let (starts, answers) = times(events, stamp);
-        if starts != 1 || answers != 1 {
+pub fn are_once(events: &[Event], calls: usize) -> bool {
+    for stamp in 0..u32::try_from(calls).unwrap_or(u32::MAX) {
+        if times(events, stamp) != (1, 1) {
             return false;
         }
     }
-    events.len() as u64 == u64::from(calls).saturating_mul(2)
+    events.len() == calls.saturating_mul(2)
 }
 
 fn times(events: &[Event], stamp: u32) -> (u64, u64) {
@@ -28,13 +28,19 @@ fn times(events: &[Event], stamp: u32) -> (u64, u64) {
     (starts, answers)
 }
 
-/// What has happened so far, with a flag for each call.
+/// What has happened so far, with a flag for each call. Contracts see nothing of it.
 #[derive(Drop)]
 pub struct Past {
     /// Which calls were started.
     started: Vec<bool>,
     /// Which of them were answered.
     answered: Vec<bool>,
+}
+
+impl Model for Past {
+    ghost Value = { Unit {0} };
+
+    ghost view = { λ past. tt };
 }
 
 impl Past {

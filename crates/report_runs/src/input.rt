@@ -2,15 +2,18 @@
 
 use crate::case::Service;
 use anyhow::anyhow;
+use capture_format::read_start;
 use case_random::Kind;
+use desk_schema::Start;
 use desk_values::{Bytes, List, ReadErr, Txt};
 use std::alloc::Global;
+use std::marker::Model;
 
 /// How much is made, from which seed.
 #[derive(Clone, Copy)]
 pub struct Amount {
     /// The seed.
-    pub seed: u64,
+    pub seed: u32,
     /// How many captures.
     pub captures: u32,
     /// How many replays of each; the four modes take turns.
@@ -21,17 +24,25 @@ pub struct Amount {
     pub sessions: u32,
 }
 
-/// All that is asked for.
+/// All that is asked for. Contracts see nothing of it.
 #[derive(Drop)]
 pub struct Input {
-    /// The start files: the first is captured, each may be replayed on.
-    pub starts: Vec<Bytes>,
+    /// The starts: the first is captured, each may be replayed on.
+    pub starts: Vec<Start>,
     /// The kinds of calls.
     pub kinds: Vec<Kind>,
     /// Services that may be sent as others.
     pub services: Vec<Service>,
     /// How much.
     pub amount: Amount,
+    // The start file whose lines are being told.
+    file: Bytes,
+}
+
+impl Model for Input {
+    ghost Value = { Unit {0} };
+
+    ghost view = { λ input. tt };
 }
 
 impl Input {
@@ -41,57 +52,94 @@ impl Input {
             starts: Vec::new(alloc),
             kinds: Vec::new(alloc),
             services: Vec::new(alloc),
-            amount: Amount {
-                seed: 0,
-                captures: 0,
-                replays: 0,
-                calls: 0,
-                sessions: 0,
-            },
+            amount: amount_of(""),
+            file: List::new(alloc),
         }
     }
 
-    /// Adds a line that stands outside the start files.
+    /// Adds a line. A start file is told from its first line to its last one.
     pub fn add(&mut self, alloc: Global, line: &str) -> Result<(), anyhow::Error> {
+        if !self.file.is_empty() || line == "start 1" {
+            self.add_to_file(alloc, line)
+        } else {
+            self.add_other(alloc, line)
+        }
+    }
+
+    fn add_to_file(&mut self, alloc: Global, line: &str) -> Result<(), anyhow::Error> {
+        self.file.append(line.as_bytes())?;
+        self.file.append(b"\n")?;
+        if line == "end" {
+            add_start(alloc, self.file.as_slice(), &mut self.starts)?;
+            self.file = List::new(alloc);
+        }
+        Ok(())
+    }
+
+    fn add_other(&mut self, alloc: Global, line: &str) -> Result<(), anyhow::Error> {
         let (word, rest) = line.split_once(' ').unwrap_or((line, ""));
         match word {
-            "remap" => self.services.push(service(alloc, rest)?)?,
-            "random" => self.amount = amount_of(rest)?,
-            _ => self.kinds.push(Kind::of_line(alloc, line)?)?,
+            "remap" => add_service(alloc, rest, &mut self.services),
+            "random" => self.set_amount(rest),
+            _ => add_kind(alloc, line, &mut self.kinds),
         }
+    }
+
+    fn set_amount(&mut self, text: &str) -> Result<(), anyhow::Error> {
+        self.amount = amount_of(text);
         Ok(())
     }
 }
 
-fn service(alloc: Global, text: &str) -> Result<Service, ReadErr> {
-    let (captured, replayed) = text.split_once(' ').ok_or(ReadErr::Bad)?;
-    Ok((txt(alloc, captured)?, txt(alloc, replayed)?))
+fn add_start(alloc: Global, file: &[u8], starts: &mut Vec<Start>) -> Result<(), anyhow::Error> {
+    let start = start_of(alloc, file)?;
+    starts.push(start)?;
+    Ok(())
+}
+
+fn add_service(
+    alloc: Global,
+    text: &str,
+    services: &mut Vec<Service>,
+) -> Result<(), anyhow::Error> {
+    let (captured, replayed) = text.split_once(' ').unwrap_or((text, ""));
+    let captured = txt(alloc, captured)?;
+    let replayed = txt(alloc, replayed)?;
+    services.push((captured, replayed))?;
+    Ok(())
+}
+
+fn add_kind(alloc: Global, line: &str, kinds: &mut Vec<Kind>) -> Result<(), anyhow::Error> {
+    kinds.push(Kind::of_line(alloc, line)?)?;
+    Ok(())
+}
+
+fn start_of(alloc: Global, file: &[u8]) -> Result<Start, anyhow::Error> {
+    match read_start(alloc, file) {
+        Ok(read) => Ok(read.start),
+        Err(_) => Err(anyhow!("no start file")),
+    }
 }
 
 fn txt(alloc: Global, text: &str) -> Result<Txt, ReadErr> {
-    Txt::from_bytes(alloc, text.as_bytes()).map_err(|_| ReadErr::Bad)
-}
-
-fn amount_of(text: &str) -> Result<Amount, anyhow::Error> {
-    let (seed, rest) = text.split_once(' ').ok_or(anyhow!("no captures"))?;
-    let (captures, rest) = rest.split_once(' ').ok_or(anyhow!("no replays"))?;
-    let (replays, rest) = rest.split_once(' ').ok_or(anyhow!("no calls"))?;
-    let (calls, sessions) = rest.split_once(' ').ok_or(anyhow!("no sessions"))?;
-    Ok(Amount {
-        seed: seed.parse()?,
-        captures: captures.parse()?,
-        replays: replays.parse()?,
-        calls: calls.parse()?,
-        sessions: sessions.parse()?,
-    })
-}
-
-/// Adds a line of a start file, and gives the file where the line ends it.
-pub fn added(alloc: Global, start: &mut Bytes, line: &str) -> Result<Option<Bytes>, anyhow::Error> {
-    start.append(line.as_bytes())?;
-    start.append(b"\n")?;
-    if line != "end" {
-        return Ok(None);
+    match Txt::from_bytes(alloc, text.as_bytes()) {
+        Ok(text) => Ok(text),
+        Err(_) => Err(ReadErr::Bad),
     }
-    Ok(Some(std::mem::replace(start, List::new(alloc))))
+}
+
+// The numbers, each 0 where it is missing.
+fn amount_of(text: &str) -> Amount {
+    let mut numbers = [0; 5];
+    for (number, word) in numbers.iter_mut().zip(text.split(' ')) {
+        *number = word.parse().unwrap_or(0);
+    }
+    let [seed, captures, replays, calls, sessions] = numbers;
+    Amount {
+        seed,
+        captures,
+        replays,
+        calls,
+        sessions,
+    }
 }

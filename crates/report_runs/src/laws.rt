@@ -1,7 +1,9 @@
 //! The laws, and how often each was looked at.
 
-use object_depends::Mode;
+use crate::answers::Answer;
+use crate::totals::Totals;
 use std::alloc::Global;
+use std::marker::Model;
 
 /// The laws by number.
 #[derive(Clone, Copy)]
@@ -65,32 +67,8 @@ pub struct Place {
     pub capture: u32,
     /// The number of its replay.
     pub replay: u32,
-    /// The mode of that.
-    pub mode: Mode,
     /// The stamp of the call, where it is of one.
     pub call: Option<u32>,
-}
-
-impl Place {
-    /// A replay of a capture.
-    pub fn of(capture: u32, replay: u32, mode: Mode) -> Place {
-        Place {
-            capture,
-            replay,
-            mode,
-            call: None,
-        }
-    }
-
-    /// The same, at a call.
-    pub fn at(self, stamp: u32) -> Place {
-        Place {
-            capture: self.capture,
-            replay: self.replay,
-            mode: self.mode,
-            call: Some(stamp),
-        }
-    }
 }
 
 /// What came of a law.
@@ -100,10 +78,18 @@ struct Law {
     failed: Option<Place>,
 }
 
-/// All laws.
+/// All laws, and how much there was. Contracts see nothing of it.
 #[derive(Drop)]
 pub struct Laws {
     laws: Vec<Law>,
+    place: Place,
+    totals: Totals,
+}
+
+impl Model for Laws {
+    ghost Value = { Unit {0} };
+
+    ghost view = { λ laws. tt };
 }
 
 impl Laws {
@@ -115,11 +101,41 @@ impl Laws {
         };
         Ok(Laws {
             laws: vec![in alloc; law; NAMES.len()]?,
+            place: Place {
+                capture: 0,
+                replay: 0,
+                call: None,
+            },
+            totals: Totals::new(),
         })
     }
 
-    /// Notes whether a law holds there.
-    pub fn see(&mut self, rule: Rule, place: Place, held: bool) {
+    /// What is seen from now on is of this capture.
+    pub fn enter_capture(&mut self, capture: u32) {
+        self.place.capture = capture;
+    }
+
+    /// What is seen from now on is of this replay of the capture.
+    pub fn enter_replay(&mut self, replay: u32) {
+        self.place.replay = replay;
+    }
+
+    /// Notes whether a law holds here.
+    pub fn see(&mut self, rule: Rule, held: bool) {
+        self.note(rule, self.place, held);
+    }
+
+    /// Notes whether a law holds of a call.
+    pub fn see_at(&mut self, rule: Rule, stamp: u32, held: bool) {
+        let place = Place {
+            capture: self.place.capture,
+            replay: self.place.replay,
+            call: Some(stamp),
+        };
+        self.note(rule, place, held);
+    }
+
+    fn note(&mut self, rule: Rule, place: Place, held: bool) {
         if let Some(law) = self.laws.get_mut(rule as usize) {
             law.times = law.times.saturating_add(1);
             if !held && law.failed.is_none() {
@@ -128,9 +144,15 @@ impl Laws {
         }
     }
 
-    /// What came of each, a line each.
-    pub fn lines(&self, alloc: Global) -> Result<Vec<String>, anyhow::Error> {
+    /// Counts the answers of a replay.
+    pub fn count(&mut self, answers: &[Answer]) {
+        self.totals.add(answers);
+    }
+
+    /// How much there was, and what came of each law, a line each.
+    pub fn lines(&self, alloc: Global, captures: u32) -> Result<Vec<String>, anyhow::Error> {
         let mut lines = Vec::new(alloc);
+        self.totals.append_lines(alloc, captures, &mut lines)?;
         for (law, name) in self.laws.iter().zip(NAMES.iter()) {
             lines.push(line_of(alloc, name, law)?)?;
         }
@@ -142,25 +164,15 @@ fn line_of(alloc: Global, name: &str, law: &Law) -> Result<String, anyhow::Error
     let times = law.times;
     match law.failed {
         None => Ok(format!(in alloc; "law {name}: held {times}")?),
-        Some(place) => {
-            let place = place_text(alloc, place)?;
-            Ok(format!(in alloc; "law {name}: looked at {times}, fails at {place}")?)
-        }
+        Some(place) => failed_line(alloc, name, place),
     }
 }
 
-fn place_text(alloc: Global, place: Place) -> Result<String, anyhow::Error> {
+fn failed_line(alloc: Global, name: &str, place: Place) -> Result<String, anyhow::Error> {
     let (capture, replay) = (place.capture, place.replay);
-    let mode = match place.mode {
-        Mode::Off => "off",
-        Mode::Scn => "scn",
-        Mode::Object => "object",
-        Mode::Order => "order",
+    let at = match place.call {
+        Some(call) => format!(in alloc; ", call {call}")?,
+        None => String::new(alloc),
     };
-    match place.call {
-        Some(call) => Ok(format!(in alloc;
-            "capture {capture}, replay {replay}, {mode}, call {call}"
-        )?),
-        None => Ok(format!(in alloc; "capture {capture}, replay {replay}, {mode}")?),
-    }
+    Ok(format!(in alloc; "law {name}: fails at capture {capture}, replay {replay}{at}")?)
 }

@@ -14,10 +14,8 @@
 #![tactic(auto)]
 
 mod answers;
-mod carried;
 mod case;
 mod classes;
-mod desks;
 mod drive;
 mod history;
 mod input;
@@ -25,43 +23,40 @@ mod laws;
 mod looks;
 mod pairs;
 mod rounds;
-mod said;
 mod server;
 mod tables;
 mod texts;
-mod told;
 mod totals;
 
-use desk_values::{Bytes, List};
-use input::{Input, added};
+use case_random::Random;
+use input::Input;
+use laws::Laws;
 use std::alloc::Global;
 
 fn main(rt: HostRuntime) -> Result<(), anyhow::Error> {
     let alloc = rt.alloc();
     let mut input = Input::new(alloc);
-    let mut start: Bytes = List::new(alloc);
+    run(&rt, alloc, &mut input)
+}
+
+fn run(rt: &HostRuntime, alloc: Global, input: &mut Input) -> Result<(), anyhow::Error> {
     for line in rt.lines(alloc) {
-        let line = line?;
-        read(alloc, &mut input, &mut start, line.as_str())?;
+        input.add(alloc, line?.as_str())?;
     }
-    for line in rounds::told(alloc, &input)?.as_slice() {
+    for line in told(alloc, input)?.as_slice() {
         println!(rt; "{line}")?;
     }
     Ok(())
 }
 
-// Takes a line in; the start file is told from its first line to its last one.
-fn read(
-    alloc: Global,
-    input: &mut Input,
-    start: &mut Bytes,
-    line: &str,
-) -> Result<(), anyhow::Error> {
-    if start.is_empty() && line != "start 1" {
-        return input.add(alloc, line);
-    }
-    if let Some(whole) = added(alloc, start, line)? {
-        input.starts.push(whole)?;
-    }
-    Ok(())
+// What came of all captures, a line each.
+fn told(alloc: Global, input: &Input) -> Result<Vec<String>, anyhow::Error> {
+    let mut laws = Laws::new(alloc)?;
+    told_of(alloc, input, &mut laws)
+}
+
+fn told_of(alloc: Global, input: &Input, laws: &mut Laws) -> Result<Vec<String>, anyhow::Error> {
+    let mut random = Random::new(u64::from(input.amount.seed));
+    rounds::look_at_all(alloc, input, &mut random, laws)?;
+    laws.lines(alloc, input.amount.captures)
 }

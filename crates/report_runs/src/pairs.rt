@@ -90,11 +90,19 @@ fn learn_draws(
 /// Whether no id stands twice on one side.
 pub fn stand_once(pairs: &[Pair]) -> bool {
     for (place, pair) in pairs.iter().enumerate() {
-        for (other_place, other) in pairs.iter().enumerate() {
-            if place != other_place && (pair.0 == other.0 || pair.1 == other.1) {
-                return false;
-            }
+        let behind = pairs.get(place.saturating_add(1)..).unwrap_or(&[]);
+        if stands_in(behind, *pair) {
+            return false;
         }
     }
     true
+}
+
+fn stands_in(pairs: &[Pair], pair: Pair) -> bool {
+    for (captured, replayed) in pairs {
+        if *captured == pair.0 || *replayed == pair.1 {
+            return true;
+        }
+    }
+    false
 }

@@ -4,98 +4,188 @@ ghost use Rattle.std.specs.Prelude.{◌≤◌, length};
 ghost use Rattle.capture_laws.specs.Sessions.{AreSessionsFrom};
 ghost use Rattle.prepare_plan.specs.Lists.{lists_of};
 
-use crate::answers::captured_again;
-use crate::case::{Case, by_stamp};
-use crate::desks::tell;
+use crate::case::{Case, Replay, Service, by_stamp};
 use crate::drive::{desk_of, drive};
 use crate::history::waits_of;
 use crate::input::Input;
-use crate::laws::{Laws, Place, Rule};
+use crate::laws::Laws;
 use crate::looks::look;
+use crate::server::captured_again;
 use crate::tables::tables_of;
-use crate::totals::Totals;
 use anyhow::anyhow;
-use capture_format::read_start;
-use case_random::{Capture, Random, random_capture};
+use case_desks::Board;
+use case_random::{Random, random_capture};
 use desk_schema::Start;
-use desk_values::{Bytes, Copied};
+use desk_values::{Captured, Image, SessionLists};
 use object_depends::Mode;
 use std::alloc::Global;
 
-/// What came of all captures, a line each.
-pub fn told(alloc: Global, input: &Input) -> Result<Vec<String>, anyhow::Error> {
-    let mut random = Random::new(input.amount.seed);
-    let mut laws = Laws::new(alloc)?;
-    let mut totals = Totals::new();
-    for number in 0..input.amount.captures {
-        let more = round(alloc, input, number, &mut random, &mut laws)?;
-        totals.add(&more);
+/// Looks at all captures. The first start is captured.
+pub fn look_at_all(
+    alloc: Global,
+    input: &Input,
+    random: &mut Random,
+    laws: &mut Laws,
+) -> Result<(), anyhow::Error> {
+    match input.starts.first() {
+        Some(start) => rounds(alloc, input, start, random, laws),
+        None => Err(anyhow!("no start file")),
     }
-    let mut lines = totals.lines(alloc, input.amount.captures)?;
-    for line in laws.lines(alloc)? {
-        lines.push(line)?;
+}
+
+fn rounds(
+    alloc: Global,
+    input: &Input,
+    start: &Start,
+    random: &mut Random,
+    laws: &mut Laws,
+) -> Result<(), anyhow::Error> {
+    for capture in 0..input.amount.captures {
+        laws.enter_capture(capture);
+        round(alloc, input, start, random, laws)?;
     }
-    Ok(lines)
+    Ok(())
 }
 
 // A random capture, and its replays.
 fn round(
     alloc: Global,
     input: &Input,
-    number: u32,
+    start: &Start,
     random: &mut Random,
     laws: &mut Laws,
-) -> Result<Totals, anyhow::Error> {
-    let first = input.starts.first().ok_or(anyhow!("no start file"))?;
-    let file = first.as_slice();
-    let kinds = input.kinds.as_slice();
+) -> Result<(), anyhow::Error> {
     let most = input.amount.calls;
     let calls = most.saturating_sub(random.below(most / 2 + 1));
-    let capture = random_capture(alloc, file, kinds, random, calls, input.amount.sessions)?;
-    let mut case = case_of(alloc, &capture)?;
-    let place = Place::of(number, 0, Mode::Order);
-    laws.see(Rule::Capture, place, case.as_captured);
-    replays(alloc, input, &capture, &mut case, number, random, laws)
+    let kinds = input.kinds.as_slice();
+    let sessions = random_capture(alloc, start, kinds, random, calls, input.amount.sessions)?;
+    captured(alloc, input, start, &sessions, random, laws)
 }
 
-fn case_of(alloc: Global, capture: &Capture) -> Result<Case, anyhow::Error> {
-    let start = &capture.start;
-    let calls = by_stamp(alloc, capture.sessions.as_slice())?;
-    let tables = tables_of(alloc, start.schema().tables(), calls.as_slice())?;
-    let (as_captured, end) = captured_again(alloc, start, calls.as_slice())?;
-    Ok(Case {
-        start: start.copy()?,
+fn captured(
+    alloc: Global,
+    input: &Input,
+    start: &Start,
+    sessions: &SessionLists,
+    random: &mut Random,
+    laws: &mut Laws,
+) -> Result<(), anyhow::Error>
+    requires sessions { length sessions.now ≤ 64 }
+    requires lists { AreSessionsFrom 0 (lists_of sessions.now) }
+{
+    let calls = by_stamp(alloc, sessions.as_slice())?;
+    captured_calls(
+        alloc,
+        input,
+        start,
+        sessions,
+        calls.as_slice(),
+        random,
+        laws,
+    )
+}
+
+fn captured_calls(
+    alloc: Global,
+    input: &Input,
+    start: &Start,
+    sessions: &SessionLists,
+    calls: &[Captured],
+    random: &mut Random,
+    laws: &mut Laws,
+) -> Result<(), anyhow::Error>
+    requires sessions { length sessions.now ≤ 64 }
+    requires lists { AreSessionsFrom 0 (lists_of sessions.now) }
+{
+    laws.enter_replay(0);
+    let end = captured_again(alloc, start, calls, laws)?;
+    captured_end(
+        alloc,
+        input,
+        start,
+        sessions,
         calls,
-        tables,
-        as_captured,
-        end,
-        target: start.copy()?,
-        services: Vec::new(alloc),
-        again: true,
-    })
+        end.as_slice(),
+        random,
+        laws,
+    )
 }
 
-// The replays of a capture, each on another start, and with a service that is sent as another or none.
+fn captured_end(
+    alloc: Global,
+    input: &Input,
+    start: &Start,
+    sessions: &SessionLists,
+    calls: &[Captured],
+    end: &[Image],
+    random: &mut Random,
+    laws: &mut Laws,
+) -> Result<(), anyhow::Error>
+    requires sessions { length sessions.now ≤ 64 }
+    requires lists { AreSessionsFrom 0 (lists_of sessions.now) }
+{
+    let tables = tables_of(alloc, start.schema().tables(), calls)?;
+    let case = Case {
+        start,
+        calls,
+        tables: tables.as_slice(),
+        end,
+    };
+    replays(alloc, input, sessions, &case, random, laws)
+}
+
 fn replays(
     alloc: Global,
     input: &Input,
-    capture: &Capture,
-    case: &mut Case,
-    captured: u32,
+    sessions: &SessionLists,
+    case: &Case,
     random: &mut Random,
     laws: &mut Laws,
-) -> Result<Totals, anyhow::Error>
-    requires sessions { length capture.now.sessions ≤ 64 }
-    requires lists { AreSessionsFrom 0 (lists_of capture.now.sessions) }
+) -> Result<(), anyhow::Error>
+    requires sessions { length sessions.now ≤ 64 }
+    requires lists { AreSessionsFrom 0 (lists_of sessions.now) }
 {
-    let mut totals = Totals::new();
     for number in 0..input.amount.replays {
-        choose(alloc, input, random, case)?;
-        let place = Place::of(captured, number, mode_of(number));
-        let more = replay(alloc, capture, case, place, random, laws)?;
-        totals.add(&more);
+        laws.enter_replay(number);
+        replay_next(alloc, input, sessions, case, number, random, laws)?;
     }
-    Ok(totals)
+    Ok(())
+}
+
+// A replay of a capture, on any start, and with a service that is sent as another or none.
+fn replay_next(
+    alloc: Global,
+    input: &Input,
+    sessions: &SessionLists,
+    case: &Case,
+    number: u32,
+    random: &mut Random,
+    laws: &mut Laws,
+) -> Result<(), anyhow::Error>
+    requires sessions { length sessions.now ≤ 64 }
+    requires lists { AreSessionsFrom 0 (lists_of sessions.now) }
+{
+    let start = random.place(input.starts.len());
+    let service = random.place(input.services.len().saturating_mul(2));
+    let services = one_or_none(input.services.as_slice(), service);
+    let again = start == 0 && services.is_empty();
+    match input.starts.get(start) {
+        Some(target) => {
+            let replay = Replay {
+                target,
+                services,
+                mode: mode_of(number),
+                again,
+            };
+            replay_so(alloc, sessions, case, &replay, random, laws)
+        }
+        None => Err(anyhow!("no start file")),
+    }
+}
+
+// The service at a place, where there is one.
+fn one_or_none(services: &[Service], place: usize) -> &[Service] {
+    services.get(place..place.saturating_add(1)).unwrap_or(&[])
 }
 
 // The modes take turns.
@@ -108,49 +198,31 @@ fn mode_of(replay: u32) -> Mode {
     }
 }
 
-// Chooses the start that is replayed on, and a service and what it is sent as, or none.
-fn choose(
+// A replay in a random order, which is looked at.
+fn replay_so(
     alloc: Global,
-    input: &Input,
-    random: &mut Random,
-    case: &mut Case,
-) -> Result<(), anyhow::Error> {
-    let start = random.place(input.starts.len());
-    let service = random.place(input.services.len().saturating_mul(2));
-    let file = input.starts.get(start).ok_or(anyhow!("no start file"))?;
-    case.target = start_of(alloc, file)?;
-    case.services.clear();
-    if let Some((captured, replayed)) = input.services.get(service) {
-        case.services.push((captured.copy()?, replayed.copy()?))?;
-    }
-    case.again = start == 0 && case.services.is_empty();
-    Ok(())
-}
-
-fn start_of(alloc: Global, file: &Bytes) -> Result<Start, anyhow::Error> {
-    match read_start(alloc, file.as_slice()) {
-        Ok(read) => Ok(read.start),
-        Err(_) => Err(anyhow!("no start file")),
-    }
-}
-
-// A replay of a capture in a random order, which is looked at.
-fn replay(
-    alloc: Global,
-    capture: &Capture,
+    sessions: &SessionLists,
     case: &Case,
-    place: Place,
+    replay: &Replay,
     random: &mut Random,
     laws: &mut Laws,
-) -> Result<Totals, anyhow::Error>
-    requires sessions { length capture.now.sessions ≤ 64 }
-    requires lists { AreSessionsFrom 0 (lists_of capture.now.sessions) }
+) -> Result<(), anyhow::Error>
+    requires sessions { length sessions.now ≤ 64 }
+    requires lists { AreSessionsFrom 0 (lists_of sessions.now) }
 {
-    let services = case.services.as_slice();
-    let mut board = desk_of(alloc, capture, &case.target, services, place.mode)?;
-    let (calls, tables) = (case.calls.as_slice(), case.tables.as_slice());
-    let waits = waits_of(alloc, calls, tables, place.mode)?;
-    drive(alloc, &mut board, waits.as_slice(), random, place, laws)?;
-    let told = tell(alloc, &board)?;
-    look(alloc, case, waits.as_slice(), &told, place, laws)
+    let mut board = desk_of(alloc, case.start, sessions, replay)?;
+    replay_on(alloc, case, replay, &mut board, random, laws)
+}
+
+fn replay_on(
+    alloc: Global,
+    case: &Case,
+    replay: &Replay,
+    board: &mut Board,
+    random: &mut Random,
+    laws: &mut Laws,
+) -> Result<(), anyhow::Error> {
+    let waits = waits_of(alloc, case.calls, case.tables, replay.mode)?;
+    drive(alloc, board, waits.as_slice(), random, laws)?;
+    look(alloc, case, replay, waits.as_slice(), board, laws)
 }

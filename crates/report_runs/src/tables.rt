@@ -4,14 +4,21 @@
 use desk_schema::Table;
 use desk_values::{Call, Captured, Image, Memory, Outcome};
 use std::alloc::Global;
+use std::marker::Model;
 
-/// The tables of a call. Each list has a flag for each table.
+/// The tables of a call. Each list has a flag for each table. Contracts see nothing of them.
 #[derive(Drop)]
 pub struct Tables {
     /// Which ones it references.
     pub referenced: Vec<bool>,
     /// Which ones it wrote, where it is a commit.
     pub written: Vec<bool>,
+}
+
+impl Model for Tables {
+    ghost Value = { Unit {0} };
+
+    ghost view = { λ tables. tt };
 }
 
 /// The tables of each call, where these are all tables.

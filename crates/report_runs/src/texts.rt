@@ -4,7 +4,7 @@ use crate::answers::{Answer, answer_to};
 use crate::pairs::{Pair, value_of};
 use desk_values::fields::append_u64;
 use desk_values::{Bytes, Image, List, Memory, write_value, write_values};
-use replay_history::{Class, Line};
+use replay_history::Line;
 use std::alloc::Global;
 
 /// The words of the classes, by number.
@@ -20,66 +20,56 @@ pub const WORDS: [&str; 9] = [
     "shape",
 ];
 
-/// The number of a class.
-pub fn number(class: Class) -> usize {
-    match class {
-        Class::Same => 0,
-        Class::NewError => 1,
-        Class::GoneError => 2,
-        Class::MutatedError => 3,
-        Class::RowsModified => 4,
-        Class::RowsFetched => 5,
-        Class::RowContents => 6,
-        Class::Images => 7,
-        Class::Shape => 8,
-    }
-}
-
 /// How many of the answers are of the class with this number.
 pub fn times(answers: &[Answer], class: usize) -> u64 {
     let mut times = 0u64;
     for answer in answers {
-        if number(answer.line.class) == class {
+        if answer.line.class as usize == class {
             times = times.saturating_add(1);
         }
     }
     times
 }
 
-/// The answers that differ, by stamp, where there are so many calls.
-pub fn differing(alloc: Global, answers: &[Answer], calls: usize) -> Result<Vec<&Answer>, Memory> {
-    let mut found = Vec::new(alloc);
-    for stamp in 0..calls {
-        if let Some(answer) = answer_to(answers, stamp) {
-            if number(answer.line.class) != 0 {
-                found.push(answer)?;
-            }
-        }
+// The answer to the call with this stamp, where it differs.
+fn differing(answers: &[Answer], stamp: u32) -> Option<&Answer> {
+    match answer_to(answers, stamp) {
+        Some(answer) if answer.differs() => Some(answer),
+        _ => None,
     }
-    Ok(found)
 }
 
-/// The text of the report.
-pub fn report(alloc: Global, answers: &[Answer], calls: usize) -> Result<Bytes, Memory> {
+/// The text of the report, where there are so many calls.
+pub fn report(alloc: Global, answers: &[Answer], calls: u32) -> Result<Bytes, Memory> {
     let mut text = List::new(alloc);
-    text.append(b"report 1\ncalls ")?;
-    append_u64(calls as u64, &mut text)?;
-    text.append(b"\n")?;
-    append_counts(answers, &mut text)?;
-    for answer in differing(alloc, answers, calls)?.iter() {
-        append_place(answer.line, b" ", &mut text)?;
-        text.append(b"\n")?;
-    }
+    text.append(b"report 1\n")?;
+    append_counts(answers, calls, &mut text)?;
+    append_lines(answers, calls, &mut text)?;
     text.append(b"end\n")?;
     Ok(text)
 }
 
-fn append_counts(answers: &[Answer], to: &mut Bytes) -> Result<(), Memory> {
+fn append_counts(answers: &[Answer], calls: u32, to: &mut Bytes) -> Result<(), Memory> {
+    append_count("calls", u64::from(calls), to)?;
     for (class, word) in WORDS.iter().enumerate() {
-        to.append(word.as_bytes())?;
-        to.append(b" ")?;
-        append_u64(times(answers, class), to)?;
-        to.append(b"\n")?;
+        append_count(word, times(answers, class), to)?;
+    }
+    Ok(())
+}
+
+fn append_count(word: &str, count: u64, to: &mut Bytes) -> Result<(), Memory> {
+    to.append(word.as_bytes())?;
+    to.append(b" ")?;
+    append_u64(count, to)?;
+    to.append(b"\n")
+}
+
+fn append_lines(answers: &[Answer], calls: u32, to: &mut Bytes) -> Result<(), Memory> {
+    for stamp in 0..calls {
+        if let Some(answer) = differing(answers, stamp) {
+            append_place(answer.line, b" ", to)?;
+            to.append(b"\n")?;
+        }
     }
     Ok(())
 }
@@ -90,21 +80,27 @@ fn append_place(line: Line, between: &[u8], to: &mut Bytes) -> Result<(), Memory
         append_u64(u64::from(number), to)?;
         to.append(between)?;
     }
-    let word = WORDS.get(number(line.class)).copied().unwrap_or("");
+    let word = WORDS.get(line.class as usize).copied().unwrap_or("");
     to.append(word.as_bytes())
 }
 
-/// The records of the calls that differ.
-pub fn records(alloc: Global, answers: &[Answer], calls: usize) -> Result<Bytes, Memory> {
+/// The records of the calls that differ, where there are so many calls.
+pub fn records(alloc: Global, answers: &[Answer], calls: u32) -> Result<Bytes, Memory> {
     let mut text = List::new(alloc);
     text.append(b"stamp,session,place,class,captured,replayed\n")?;
-    for answer in differing(alloc, answers, calls)?.iter() {
-        append_place(answer.line, b",", &mut text)?;
-        append_field(answer.captured.as_slice(), &mut text)?;
-        append_field(answer.replayed.as_slice(), &mut text)?;
-        text.append(b"\n")?;
+    for stamp in 0..calls {
+        if let Some(answer) = differing(answers, stamp) {
+            append_record(answer, &mut text)?;
+        }
     }
     Ok(text)
+}
+
+fn append_record(answer: &Answer, to: &mut Bytes) -> Result<(), Memory> {
+    append_place(answer.line, b",", to)?;
+    append_field(answer.captured.as_slice(), to)?;
+    append_field(answer.replayed.as_slice(), to)?;
+    to.append(b"\n")
 }
 
 // A comma and a field, in quotes where it has a comma.

@@ -23,41 +23,53 @@ impl Totals {
         }
     }
 
-    /// Those of one replay.
-    pub fn of(answers: &[Answer]) -> Totals {
-        let mut classes = [0; 9];
-        for (class, count) in classes.iter_mut().enumerate() {
-            *count = times(answers, class);
-        }
-        Totals {
-            replays: 1,
-            calls: answers.len() as u64,
-            classes,
-        }
-    }
-
-    /// Adds those of other replays.
-    pub fn add(&mut self, other: &Totals) {
-        self.replays = self.replays.saturating_add(other.replays);
-        self.calls = self.calls.saturating_add(other.calls);
-        for (count, more) in self.classes.iter_mut().zip(other.classes.iter()) {
-            *count = count.saturating_add(*more);
+    /// Adds the answers of a replay.
+    pub fn add(&mut self, answers: &[Answer]) {
+        self.replays = self.replays.saturating_add(1);
+        self.calls = self.calls.saturating_add(answers.len() as u64);
+        for (class, count) in self.classes.iter_mut().enumerate() {
+            *count = count.saturating_add(times(answers, class));
         }
     }
 
     /// A line for each.
-    pub fn lines(&self, alloc: Global, captures: u32) -> Result<Vec<String>, anyhow::Error> {
-        let (replays, calls) = (self.replays, self.calls);
+    pub fn append_lines(
+        &self,
+        alloc: Global,
+        captures: u32,
+        to: &mut Vec<String>,
+    ) -> Result<(), anyhow::Error> {
         let same = self.classes.first().copied().unwrap_or(0);
-        let divergent = calls.saturating_sub(same);
-        let mut lines = Vec::new(alloc);
-        lines.push(format!(in alloc; "captures: {captures}")?)?;
-        lines.push(format!(in alloc; "replays: {replays}")?)?;
-        lines.push(format!(in alloc; "calls: {calls}")?)?;
-        lines.push(format!(in alloc; "divergent calls: {divergent}")?)?;
-        for (count, word) in self.classes.iter().zip(WORDS.iter()) {
-            lines.push(format!(in alloc; "class {word}: {count}")?)?;
-        }
-        Ok(lines)
+        append_line(alloc, "captures", u64::from(captures), to)?;
+        append_line(alloc, "replays", self.replays, to)?;
+        append_line(alloc, "calls", self.calls, to)?;
+        append_line(
+            alloc,
+            "divergent calls",
+            self.calls.saturating_sub(same),
+            to,
+        )?;
+        append_classes(alloc, &self.classes, to)
     }
+}
+
+fn append_classes(
+    alloc: Global,
+    classes: &[u64],
+    to: &mut Vec<String>,
+) -> Result<(), anyhow::Error> {
+    for (count, word) in classes.iter().zip(WORDS.iter()) {
+        to.push(format!(in alloc; "class {word}: {count}")?)?;
+    }
+    Ok(())
+}
+
+fn append_line(
+    alloc: Global,
+    word: &str,
+    count: u64,
+    to: &mut Vec<String>,
+) -> Result<(), anyhow::Error> {
+    to.push(format!(in alloc; "{word}: {count}")?)?;
+    Ok(())
 }
