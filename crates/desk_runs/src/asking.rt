@@ -1,10 +1,12 @@
 //! What a desk is asked and told, and the lines of its answers.
 
-use crate::moves::{self, play, rest};
+use crate::moves::{play, rest};
+use crate::saying::say_of;
 use anyhow::anyhow;
 use case_desks::Board;
 use case_text::{line_of_bytes, numbers_text, stamp_text, stamps_of};
-use desk_values::Bytes;
+use desk_values::{Bytes, Memory};
+use replay_history::Report;
 use replay_report::report_text;
 use std::alloc::Global;
 
@@ -17,21 +19,10 @@ pub fn answer(
     lines: &mut Vec<String>,
 ) -> Result<(), anyhow::Error> {
     match word {
-        "start" | "answer" | "play" => {
-            let stamps = stamps_of(alloc, words)?;
-            moved(alloc, board, word, stamps.as_slice(), lines)
-        }
+        "start" | "answer" | "play" => moved(alloc, board, word, words, lines),
         "rest" => rest(alloc, board, lines),
-        "halt" => {
-            board.halt();
-            lines.push(String::from_str(alloc, "halted")?)?;
-            Ok(())
-        }
-        _ => {
-            let answer = said(alloc, board, word, words)?;
-            lines.push(format!(in alloc; "{word} {answer}")?)?;
-            Ok(())
-        }
+        "halt" => halted(alloc, board, lines),
+        _ => answered(alloc, board, word, words, lines),
     }
 }
 
@@ -40,17 +31,31 @@ fn moved(
     alloc: Global,
     board: &mut Board,
     word: &str,
-    stamps: &[u32],
+    words: &str,
     lines: &mut Vec<String>,
 ) -> Result<(), anyhow::Error> {
-    for k in stamps {
-        match word {
-            "start" => lines.push(moves::start(alloc, board, *k)?)?,
-            "answer" => lines.push(moves::answer(alloc, board, *k)?)?,
-            _ => play(alloc, board, *k, lines)?,
-        }
+    let stamps = stamps_of(alloc, words)?;
+    for k in stamps.as_slice() {
+        play(alloc, board, word, *k, lines)?;
     }
     Ok(())
+}
+
+fn halted(alloc: Global, board: &mut Board, lines: &mut Vec<String>) -> Result<(), anyhow::Error> {
+    board.halt();
+    lines.push(String::from_str(alloc, "halted")?)?;
+    Ok(())
+}
+
+fn answered(
+    alloc: Global,
+    board: &mut Board,
+    word: &str,
+    words: &str,
+    lines: &mut Vec<String>,
+) -> Result<(), anyhow::Error> {
+    let answer = said(alloc, board, word, words)?;
+    say_of(alloc, word, answer.as_str(), lines)
 }
 
 // What the desk says.
@@ -63,7 +68,7 @@ fn said(
     match word {
         "ready" => ready(alloc, board),
         "waiting" => waiting(alloc, board),
-        "open" => Ok(stamp_text(alloc, board.first_open())?),
+        "open" => open(alloc, board),
         "pick" => pick(alloc, board, words),
         "done" => done(alloc, board, words),
         "copy" => copy(alloc, board),
@@ -90,6 +95,10 @@ fn waiting(alloc: Global, board: &Board) -> Result<String, anyhow::Error> {
         }
     }
     Ok(numbers_text(alloc, stamps.as_slice())?)
+}
+
+fn open(alloc: Global, board: &Board) -> Result<String, anyhow::Error> {
+    Ok(stamp_text(alloc, board.first_open())?)
 }
 
 fn pick(alloc: Global, board: &Board, words: &str) -> Result<String, anyhow::Error> {
@@ -121,23 +130,35 @@ fn commits(alloc: Global, board: &Board) -> Result<String, anyhow::Error> {
 // One of the texts, on one line.
 fn text(alloc: Global, board: &Board, word: &str) -> Result<String, anyhow::Error> {
     match word {
-        "report" | "csv" => reported(alloc, board, word == "csv"),
-        "journal" => line(alloc, &board.journal(alloc)?),
-        "maps" => line(alloc, &board.maps()?),
-        "tables" => line(alloc, &board.tables(alloc)?),
+        "report" | "csv" => reported(alloc, board, word),
+        "journal" => line(alloc, board.journal(alloc)),
+        "maps" => line(alloc, board.maps()),
+        "tables" => line(alloc, board.tables(alloc)),
         _ => Err(anyhow!("no such command")),
     }
 }
 
-fn line(alloc: Global, text: &Bytes) -> Result<String, anyhow::Error> {
+fn line(alloc: Global, text: Result<Bytes, Memory>) -> Result<String, anyhow::Error> {
+    let text = text?;
     Ok(line_of_bytes(alloc, text.as_slice())?)
 }
 
 // The report or its records, where all calls are answered.
-fn reported(alloc: Global, board: &Board, records: bool) -> Result<String, anyhow::Error> {
+fn reported(alloc: Global, board: &Board, word: &str) -> Result<String, anyhow::Error> {
     match board.report(alloc)? {
+        Some(report) => report_line(alloc, board, &report, word),
         None => Ok(String::from_str(alloc, "open")?),
-        Some(report) if records => line(alloc, &board.records(alloc, &report)?),
-        Some(report) => line(alloc, &report_text(alloc, &report)?),
+    }
+}
+
+fn report_line(
+    alloc: Global,
+    board: &Board,
+    report: &Report,
+    word: &str,
+) -> Result<String, anyhow::Error> {
+    match word {
+        "csv" => line(alloc, board.records(alloc, report)),
+        _ => line(alloc, report_text(alloc, report)),
     }
 }

@@ -18,6 +18,7 @@
 
 mod asking;
 mod moves;
+mod saying;
 mod setup;
 mod stage;
 mod told;
@@ -28,9 +29,13 @@ use std::alloc::Global;
 fn main(rt: HostRuntime) -> Result<(), anyhow::Error> {
     let alloc = rt.alloc();
     let mut stage = Stage::new(alloc);
+    run(&rt, alloc, &mut stage)
+}
+
+fn run(rt: &HostRuntime, alloc: Global, stage: &mut Stage) -> Result<(), anyhow::Error> {
     for line in rt.lines(alloc) {
         let line = line?;
-        for answer in answers(alloc, &mut stage, line.as_str())?.as_slice() {
+        for answer in answers(alloc, stage, line.as_str())?.as_slice() {
             println!(rt; "{answer}")?;
         }
     }

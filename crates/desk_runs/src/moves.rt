@@ -1,55 +1,81 @@
 //! Calls that are started and answered, each with a line of what came of it.
 
+use crate::saying::say_call;
 use anyhow::anyhow;
 use capture_format::write_reply;
 use case_desks::{Board, Started};
 use case_text::line_of_bytes;
-use desk_values::{Event, List, Reply};
+use desk_values::{Event, Reply};
 use std::alloc::Global;
 
-/// Starts a call.
-pub fn start(alloc: Global, board: &mut Board, k: u32) -> Result<String, anyhow::Error> {
-    match board.start(k) {
-        Started::After(pause) => Ok(format!(in alloc; "start {k} {pause}")?),
-        Started::NotReady => Ok(format!(in alloc; "start {k} not ready")?),
-        Started::Stopped => Ok(format!(in alloc; "start {k} stopped")?),
-    }
-}
-
-/// Answers a call.
-pub fn answer(alloc: Global, board: &mut Board, k: u32) -> Result<String, anyhow::Error> {
-    if !board.answer(k)? {
-        return Ok(format!(in alloc; "answer {k} not waiting")?);
-    }
-    let reply = last_reply(alloc, board.events())?;
-    Ok(format!(in alloc; "answer {k} {reply}")?)
-}
-
-fn last_reply(alloc: Global, events: &[Event]) -> Result<String, anyhow::Error> {
-    match events.last() {
-        Some(Event::Answer(_, reply)) => reply_line(alloc, reply),
-        _ => Ok(String::new(alloc)),
-    }
-}
-
-fn reply_line(alloc: Global, reply: &Reply) -> Result<String, anyhow::Error> {
-    if !reply.good() {
-        return Err(anyhow!("a reply has no text"));
-    }
-    let text = write_reply(alloc, reply)?;
-    Ok(line_of_bytes(alloc, text.as_slice())?)
-}
-
-/// Starts a call and answers it.
+/// Starts or answers a call, or both.
 pub fn play(
+    alloc: Global,
+    board: &mut Board,
+    word: &str,
+    k: u32,
+    lines: &mut Vec<String>,
+) -> Result<(), anyhow::Error> {
+    match word {
+        "start" => start(alloc, board, k, lines),
+        "answer" => answer(alloc, board, k, lines),
+        _ => start_and_answer(alloc, board, k, lines),
+    }
+}
+
+fn start_and_answer(
     alloc: Global,
     board: &mut Board,
     k: u32,
     lines: &mut Vec<String>,
 ) -> Result<(), anyhow::Error> {
-    lines.push(start(alloc, board, k)?)?;
-    lines.push(answer(alloc, board, k)?)?;
-    Ok(())
+    start(alloc, board, k, lines)?;
+    answer(alloc, board, k, lines)
+}
+
+fn start(
+    alloc: Global,
+    board: &mut Board,
+    k: u32,
+    lines: &mut Vec<String>,
+) -> Result<(), anyhow::Error> {
+    match board.start(k) {
+        Started::After(pause) => {
+            let pause = format!(in alloc; "{pause}")?;
+            say_call(alloc, "start", k, pause.as_str(), lines)
+        }
+        Started::NotReady => say_call(alloc, "start", k, "not ready", lines),
+        Started::Stopped => say_call(alloc, "start", k, "stopped", lines),
+    }
+}
+
+fn answer(
+    alloc: Global,
+    board: &mut Board,
+    k: u32,
+    lines: &mut Vec<String>,
+) -> Result<(), anyhow::Error> {
+    if !board.answer(k)? {
+        return say_call(alloc, "answer", k, "not waiting", lines);
+    }
+    match board.events().last() {
+        Some(Event::Answer(_, reply)) => say_reply(alloc, k, reply, lines),
+        _ => Err(anyhow!("no answer is kept")),
+    }
+}
+
+fn say_reply(
+    alloc: Global,
+    k: u32,
+    reply: &Reply,
+    lines: &mut Vec<String>,
+) -> Result<(), anyhow::Error> {
+    if !reply.good() {
+        return Err(anyhow!("a reply has no text"));
+    }
+    let text = write_reply(alloc, reply)?;
+    let line = line_of_bytes(alloc, text.as_slice())?;
+    say_call(alloc, "answer", k, line.as_str(), lines)
 }
 
 /// Plays what is left, the first open call at a time, until the desk is stopped or all is answered.
@@ -62,13 +88,26 @@ pub fn rest(
         let Some(k) = board.first_open() else {
             return Ok(());
         };
-        if !board.waiting(k) {
-            lines.push(start(alloc, board, k)?)?;
-        }
-        if !board.waiting(k) {
+        if !play_open(alloc, board, k, lines)? {
             return Ok(());
         }
-        lines.push(answer(alloc, board, k)?)?;
     }
     Ok(())
+}
+
+// Plays a call that is not answered, and says whether it is now.
+fn play_open(
+    alloc: Global,
+    board: &mut Board,
+    k: u32,
+    lines: &mut Vec<String>,
+) -> Result<bool, anyhow::Error> {
+    if !board.waiting(k) {
+        start(alloc, board, k, lines)?;
+    }
+    let waiting = board.waiting(k);
+    if waiting {
+        answer(alloc, board, k, lines)?;
+    }
+    Ok(waiting)
 }

@@ -1,12 +1,16 @@
 //! The board of what was told.
 
+ghost use Rattle.std.specs.Prelude.{◌≤◌, length};
+ghost use Rattle.capture_laws.specs.Sessions.{AreSessionsFrom};
+ghost use Rattle.prepare_plan.specs.Lists.{lists_of};
+
 use crate::told::Told;
 use capture_format::{FormErr, read_start};
-use case_captures::capture_of;
+use case_captures::{Told as Capture, capture_of};
 use case_desks::Board;
 use case_jobs::{NoJob, Ways, job_of};
 use desk_schema::Start;
-use desk_values::{Bytes, Copied, Memory, ReadErr};
+use desk_values::ReadErr;
 use remap_ids::{Remap, RemapErr};
 use std::alloc::Global;
 
@@ -25,70 +29,68 @@ pub enum NoBoard {
     Memory,
 }
 
-impl From<Memory> for NoBoard {
-    fn from(_error: Memory) -> NoBoard {
-        NoBoard::Memory
-    }
-}
-
-impl From<ReadErr> for NoBoard {
-    fn from(error: ReadErr) -> NoBoard {
-        match error {
-            ReadErr::Bad => NoBoard::Capture,
-            ReadErr::Memory => NoBoard::Memory,
-        }
-    }
-}
-
-impl From<FormErr> for NoBoard {
-    fn from(error: FormErr) -> NoBoard {
-        match error {
-            FormErr::Bad { line: _ } => NoBoard::Target,
-            FormErr::Memory => NoBoard::Memory,
-        }
-    }
-}
-
-impl From<RemapErr> for NoBoard {
-    fn from(error: RemapErr) -> NoBoard {
-        match error {
-            RemapErr::BadRow { n } | RemapErr::TwiceFrom { n } => NoBoard::Remap(n),
-            RemapErr::Memory => NoBoard::Memory,
-        }
-    }
-}
-
-impl From<NoJob> for NoBoard {
-    fn from(error: NoJob) -> NoBoard {
-        match error {
-            NoJob::Capture(_) => NoBoard::Capture,
-            NoJob::Target => NoBoard::Target,
-            NoJob::Percentage => NoBoard::Percentage,
-            NoJob::Memory => NoBoard::Memory,
-        }
-    }
-}
-
 /// The board of the capture that is told, on the last start that is told.
 pub fn board_of(alloc: Global, told: &Told, ways: Ways) -> Result<Board, NoBoard> {
-    let remap = Remap::read(alloc, told.remap.as_slice())?;
-    let capture = capture_of(alloc, told.files.as_slice())?;
-    let target = target_of(alloc, told.targets.last(), &capture.start)?;
-    let job = job_of(
+    match Remap::read(alloc, told.remap.as_slice()) {
+        Ok(remap) => with_remap(alloc, told, remap, ways),
+        Err(RemapErr::BadRow { n }) | Err(RemapErr::TwiceFrom { n }) => Err(NoBoard::Remap(n)),
+        Err(RemapErr::Memory) => Err(NoBoard::Memory),
+    }
+}
+
+fn with_remap(alloc: Global, told: &Told, remap: Remap, ways: Ways) -> Result<Board, NoBoard> {
+    match capture_of(alloc, told.files.as_slice()) {
+        Ok(capture) => with_capture(alloc, told, &capture, remap, ways),
+        Err(ReadErr::Bad) => Err(NoBoard::Capture),
+        Err(ReadErr::Memory) => Err(NoBoard::Memory),
+    }
+}
+
+fn with_capture(
+    alloc: Global,
+    told: &Told,
+    capture: &Capture,
+    remap: Remap,
+    ways: Ways,
+) -> Result<Board, NoBoard>
+    requires sessions { length capture.now.sessions ≤ 64 }
+    requires lists { AreSessionsFrom 0 (lists_of capture.now.sessions) }
+{
+    let Some(file) = told.targets.last() else {
+        return on_target(alloc, capture, &capture.start, remap, ways);
+    };
+    match read_start(alloc, file.as_slice()) {
+        Ok(file) => on_target(alloc, capture, &file.start, remap, ways),
+        Err(FormErr::Bad { line: _ }) => Err(NoBoard::Target),
+        Err(FormErr::Memory) => Err(NoBoard::Memory),
+    }
+}
+
+fn on_target(
+    alloc: Global,
+    capture: &Capture,
+    target: &Start,
+    remap: Remap,
+    ways: Ways,
+) -> Result<Board, NoBoard>
+    requires sessions { length capture.now.sessions ≤ 64 }
+    requires lists { AreSessionsFrom 0 (lists_of capture.now.sessions) }
+{
+    match job_of(
         alloc,
         &capture.start,
         &capture.sessions,
-        &target,
+        target,
         remap,
         ways,
-    )?;
-    Ok(Board::of(alloc, job)?)
-}
-
-// The start of this file, or else the captured one.
-fn target_of(alloc: Global, file: Option<&Bytes>, start: &Start) -> Result<Start, NoBoard> {
-    match file {
-        Some(file) => Ok(read_start(alloc, file.as_slice())?.start),
-        None => Ok(start.copy()?),
+    ) {
+        Ok(job) => match Board::of(alloc, job) {
+            Ok(board) => Ok(board),
+            Err(_) => Err(NoBoard::Memory),
+        },
+        Err(NoJob::Capture(_)) => Err(NoBoard::Capture),
+        Err(NoJob::Target) => Err(NoBoard::Target),
+        Err(NoJob::Percentage) => Err(NoBoard::Percentage),
+        Err(NoJob::Memory) => Err(NoBoard::Memory),
     }
 }

@@ -1,6 +1,7 @@
 //! The lines of cases, one after the other.
 
 use crate::asking::answer;
+use crate::saying::{say_number, say_of};
 use crate::setup::{NoBoard, board_of};
 use crate::told::Told;
 use anyhow::anyhow;
@@ -43,28 +44,51 @@ impl Stage {
 
     /// Takes a line of a file.
     pub fn add(&mut self, alloc: Global, line: &str) -> Result<(), anyhow::Error> {
-        self.told.add(alloc, line)?;
-        Ok(())
+        Ok(self.told.add(alloc, line)?)
     }
 
     // Forgets the files and the desk.
-    fn clear(&mut self, alloc: Global) {
+    fn clear(&mut self, alloc: Global) -> Result<(), anyhow::Error> {
         self.told = Told::new(alloc);
         self.board = None;
+        Ok(())
     }
 
     // Takes a line of the remap file.
     fn add_remap(&mut self, line: &str) -> Result<(), anyhow::Error> {
-        self.told.add_remap(line)?;
-        Ok(())
+        Ok(self.told.add_remap(line)?)
     }
 
-    // Sets up a desk over what was told, and says how many calls there are.
-    fn set_up(&mut self, alloc: Global, words: &str) -> Result<String, anyhow::Error> {
-        let ways = ways_of(words)?;
-        let (board, line) = board_and_line(alloc, &self.told, ways)?;
-        self.board = board;
-        Ok(line)
+    // Sets up a desk over what was told, and says how many calls there are, or what is bad.
+    fn set_up(
+        &mut self,
+        alloc: Global,
+        words: &str,
+        lines: &mut Vec<String>,
+    ) -> Result<(), anyhow::Error> {
+        match ways_of(words) {
+            Some(ways) => self.set_up_so(alloc, ways, lines),
+            None => Err(anyhow!("no mode")),
+        }
+    }
+
+    fn set_up_so(
+        &mut self,
+        alloc: Global,
+        ways: Ways,
+        lines: &mut Vec<String>,
+    ) -> Result<(), anyhow::Error> {
+        match board_of(alloc, &self.told, ways) {
+            Ok(board) => {
+                let calls = board.calls();
+                self.board = Some(board);
+                say_number(alloc, "desk", u64::from(calls), lines)
+            }
+            Err(error) => {
+                self.board = None;
+                say_bad(alloc, error, lines)
+            }
+        }
     }
 
     // Asks or tells the desk.
@@ -77,10 +101,7 @@ impl Stage {
     ) -> Result<(), anyhow::Error> {
         match &mut self.board {
             Some(board) => answer(alloc, board, word, words, lines),
-            None => {
-                lines.push(format!(in alloc; "{word} no desk")?)?;
-                Ok(())
-            }
+            None => say_of(alloc, word, "no desk", lines),
         }
     }
 }
@@ -94,52 +115,34 @@ pub fn command(
 ) -> Result<(), anyhow::Error> {
     let (word, words) = first_word(line);
     match word {
-        "case" => lines.push(String::from_str(alloc, line)?)?,
+        "case" => say_of(alloc, word, words, lines),
         "capture" => stage.clear(alloc),
-        "remap" => stage.add_remap(words)?,
-        "desk" => lines.push(stage.set_up(alloc, words)?)?,
-        _ => stage.drive(alloc, word, words, lines)?,
+        "remap" => stage.add_remap(words),
+        "desk" => stage.set_up(alloc, words, lines),
+        _ => stage.drive(alloc, word, words, lines),
     }
-    Ok(())
 }
 
-fn ways_of(words: &str) -> Result<Ways, anyhow::Error> {
+fn ways_of(words: &str) -> Option<Ways> {
     let (mode, percentages) = first_word(words);
     let (think, connect) = first_word(percentages);
-    let mode: Mode = find_word(mode.as_bytes()).ok_or(anyhow!("no mode"))?;
-    Ok(Ways {
-        mode,
-        think: small_number(think),
-        connect: small_number(connect),
-    })
-}
-
-// The desk over what was told, and the line that says how many calls there are or what is bad.
-fn board_and_line(
-    alloc: Global,
-    told: &Told,
-    ways: Ways,
-) -> Result<(Option<Board>, String), anyhow::Error> {
-    match board_of(alloc, told, ways) {
-        Ok(board) => {
-            let line = count_line(alloc, &board)?;
-            Ok((Some(board), line))
-        }
-        Err(error) => Ok((None, bad(alloc, error)?)),
+    let mode: Option<Mode> = find_word(mode.as_bytes());
+    match mode {
+        Some(mode) => Some(Ways {
+            mode,
+            think: small_number(think),
+            connect: small_number(connect),
+        }),
+        None => None,
     }
 }
 
-fn count_line(alloc: Global, board: &Board) -> Result<String, anyhow::Error> {
-    let calls = board.calls();
-    Ok(format!(in alloc; "desk {calls}")?)
-}
-
-fn bad(alloc: Global, error: NoBoard) -> Result<String, anyhow::Error> {
+fn say_bad(alloc: Global, error: NoBoard, lines: &mut Vec<String>) -> Result<(), anyhow::Error> {
     match error {
-        NoBoard::Remap(record) => Ok(format!(in alloc; "desk bad remap {record}")?),
-        NoBoard::Capture => Ok(String::from_str(alloc, "desk bad capture")?),
-        NoBoard::Target => Ok(String::from_str(alloc, "desk bad target")?),
-        NoBoard::Percentage => Ok(String::from_str(alloc, "desk bad percentage")?),
+        NoBoard::Remap(record) => say_number(alloc, "desk bad remap", record, lines),
+        NoBoard::Capture => say_of(alloc, "desk", "bad capture", lines),
+        NoBoard::Target => say_of(alloc, "desk", "bad target", lines),
+        NoBoard::Percentage => say_of(alloc, "desk", "bad percentage", lines),
         NoBoard::Memory => Err(anyhow!("out of memory")),
     }
 }
