@@ -9,7 +9,7 @@ use Rattle.desk_values.specs.Reading.{◌>>=◌}
 use Rattle.desk_values.proofs.Options.{bind_some, map_some, chosen}
 use Rattle.desk_values.proofs.Readers.{IsReader}
 use Rattle.desk_values.proofs.Cuts.{cut_at-joined, cut_at_parts}
-use Rattle.capture_format.specs.Fields.{two_of}
+use Rattle.capture_format.specs.Inside.Fields.{two_of}
 
 -- ---- two fields
 

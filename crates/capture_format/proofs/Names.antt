@@ -10,7 +10,7 @@ use Rattle.desk_values.specs.Good.{IsTxt}
 use Rattle.desk_values.proofs.Options.{if_some, none_from}
 use Rattle.desk_values.proofs.Readers.{IsReader}
 use Rattle.desk_schema.specs.Name.{is_name_byte, is_name, IsName}
-use Rattle.capture_format.specs.NameReading.{as_name}
+use Rattle.capture_format.specs.Inside.NameReading.{as_name}
 use Rattle.capture_format.proofs.Cuts.{all_weaker}
 
 -- a digit, a lower-case letter or `_`

@@ -7,9 +7,9 @@ use Rattle.desk_values.specs.Room.{Room}
 use Rattle.file_lines.specs.declared.reader.FormErr.{FormErr}
 use Rattle.file_lines.specs.declared.reader.FormErr.TheVariants.{Bad, Memory}
 use Rattle.file_lines.specs.File.{IsFile, Says, ReadsFile}
-use Rattle.file_lines.specs.Form.{Comes, AreLines, state_after, text_of}
+use Rattle.file_lines.specs.Form.{Comes, text_of}
 use Rattle.file_lines.proofs.Files.{once}
-use Rattle.file_lines.proofs.Forms.{IsSound, file_has_lines, lines_are_file, says_one}
+use Rattle.file_lines.proofs.Forms.{AreLines, IsSound, state_after, file_has_lines, lines_are_file, says_one}
 use Rattle.capture_format.specs.declared.session_line.CallLine.{CallLine}
 use Rattle.capture_format.specs.declared.session_line.SessionLine.{SessionLine}
 use Rattle.capture_format.specs.declared.session_line.SessionLine.TheVariants.{Head, Call, End}

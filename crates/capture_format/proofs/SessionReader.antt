@@ -23,7 +23,7 @@ use Rattle.capture_format.specs.declared.session_line.Exchange.{Exchange}
 use Rattle.capture_format.specs.declared.session_line.SessionLine.{SessionLine}
 use Rattle.capture_format.specs.declared.session_line.SessionLine.TheVariants.{Head, Call, End}
 use Rattle.capture_format.specs.SessionFile.{number_text, call_line_text, session_line_text, IsCallLine, IsSessionLine}
-use Rattle.capture_format.specs.SessionReading.{number_at, commit_number_of, commit_number_at, before_space, behind_space, exchange_of, call_line_of, head_of, head_or_call, session_line_of}
+use Rattle.capture_format.specs.Inside.SessionReading.{number_at, commit_number_of, commit_number_at, before_space, behind_space, exchange_of, call_line_of, head_of, head_or_call, session_line_of}
 use Rattle.capture_format.proofs.Cuts.{all_weaker}
 use Rattle.capture_format.proofs.Alphabet.{IsDigit, is_text, digits_decimal, text_call, text_then}
 use Rattle.desk_values.proofs.Bytes.{Lacks-from}

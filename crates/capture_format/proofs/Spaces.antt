@@ -3,7 +3,7 @@ use Rattle.std.proofs.Common.{◌≡◌, ◌≢◌, ℕ, eqb, List, [], ◌∷�
 use Rattle.std.specs.Option.{option_map}
 use Rattle.std.proofs.lemmas.Bool.{ne_eqb, eqb-true}
 use Rattle.desk_values.proofs.Options.{map_some, if_some}
-use Rattle.capture_format.specs.SessionReading.{before_space, behind_space}
+use Rattle.capture_format.specs.Inside.SessionReading.{before_space, behind_space}
 
 pub before_space-joined : (front : List ℕ) → before_space (front ++ 32 ∷ []) ≡ Some front
 before_space-joined [] = refl

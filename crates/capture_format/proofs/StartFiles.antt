@@ -15,9 +15,9 @@ use Rattle.desk_schema.proofs.Steps.{sound_nothing}
 use Rattle.file_lines.specs.declared.reader.FormErr.{FormErr}
 use Rattle.file_lines.specs.declared.reader.FormErr.TheVariants.{Bad, Memory}
 use Rattle.file_lines.specs.File.{IsFile, Says, ReadsFile}
-use Rattle.file_lines.specs.Form.{Comes, AreLines}
+use Rattle.file_lines.specs.Form.{Comes}
 use Rattle.file_lines.proofs.Files.{once}
-use Rattle.file_lines.proofs.Forms.{IsSound, file_has_lines, lines_are_file, says_one}
+use Rattle.file_lines.proofs.Forms.{AreLines, IsSound, file_has_lines, lines_are_file, says_one}
 use Rattle.capture_format.specs.declared.start.StartFile.{StartFile}
 use Rattle.capture_format.specs.StartFile.{start_form, is_ended, IsBadStart, IsStartFile}
 use Rattle.capture_format.proofs.StartReader.{start_lines}

@@ -19,10 +19,11 @@ use Rattle.desk_schema.specs.Name.{IsName}
 use Rattle.desk_schema.specs.Schema.{columns_of}
 use Rattle.desk_schema.specs.State.{State, added}
 use Rattle.desk_schema.specs.Rules.{IsKind, IsAllowed, IsOfKind, MayFollow, AreLinesFrom}
-use Rattle.desk_schema.specs.Sound.{IsKnownKind, IsSoundTable, IsSoundState}
+use Rattle.desk_schema.specs.Sound.{IsKnownKind, IsSoundTable}
+use Rattle.desk_schema.specs.Inside.Sound.{IsSoundState}
 use Rattle.desk_schema.proofs.Members.{Contains-none, Contains-cases}
 use Rattle.desk_schema.proofs.Steps.{sound_added}
-use Rattle.file_lines.specs.Form.{AreLines}
+use Rattle.file_lines.proofs.Forms.{AreLines}
 use Rattle.capture_format.specs.StartFile.{IsColumnKind, IsStartLine, start_form}
 
 contained : (names : List (List ℕ)) (name : List ℕ) → AllByRecursion IsName names → Contains names name → IsName name

@@ -17,7 +17,7 @@ use Rattle.desk_schema.specs.Name.{IsName}
 use Rattle.desk_schema.specs.Line.{nulls_text, kind_text, line_text}
 use Rattle.desk_schema.specs.Schema.{rights_word, all_rights, rights_have_own_words}
 use Rattle.capture_format.specs.StartFile.{IsColumnKind, IsStartLine}
-use Rattle.capture_format.specs.StartReading.{rights_of, nulls_of, shape_behind, shape_of, line_behind, worded_of, start_line_of}
+use Rattle.capture_format.specs.Inside.StartReading.{rights_of, nulls_of, shape_behind, shape_of, line_behind, worded_of, start_line_of}
 use Rattle.capture_format.proofs.SessionReader.{no_space}
 use Rattle.capture_format.proofs.Fields.{two_reader, by_word, one_text, no_word, worded}
 use Rattle.capture_format.proofs.Names.{names, name_lacks}

@@ -1,10 +1,6 @@
-pub mod NameReading
-pub mod Fields
 pub mod CallReading
 pub mod ReplyReading
 pub mod SessionFile
-pub mod SessionReading
 pub mod SessionView
 pub mod StartFile
-pub mod StartReading
-pub mod StartStage
+pub mod Inside

@@ -1,8 +1,7 @@
 -- What the bytes of a reply say: the reply whose text they are, where there is one.
-use Rattle.std.specs.Prelude.{ℕ, ◌^◌, ◌==◌, if◌then◌else◌, List, [], ◌∷◌, ◌++◌, length, drop, slice_index, Option, None, Some, Result, codes}
+use Rattle.std.specs.Prelude.{ℕ, ◌^◌, ◌==◌, if◌then◌else◌, List, [], ◌∷◌, ◌++◌, length, drop, slice_index, Option, None, Some, codes}
 use Rattle.std.specs.Option.{option_map}
 use Rattle.std.specs.Str.{bytes_eq}
-use Rattle.desk_values.specs.declared.read_err.ReadErr.{ReadErr}
 use Rattle.desk_values.specs.declared.value.TheConstants.{TABLE_LIMIT}
 use Rattle.desk_values.specs.declared.value.Value.{Value}
 use Rattle.desk_values.specs.declared.value.Image.{Image}
@@ -10,15 +9,10 @@ use Rattle.desk_values.specs.declared.call.Outcome.{Outcome}
 use Rattle.desk_values.specs.declared.call.Outcome.TheVariants.{Rows, Count, Committed, RolledBack, Marked, Connected, Disconnected, Refused}
 use Rattle.desk_values.specs.declared.call.Reply.{Reply}
 use Rattle.desk_values.specs.declared.fault.Fault.{Fault}
-use Rattle.desk_values.specs.Answers.{Answers}
 use Rattle.desk_values.specs.Fault.{fault_numbered}
 use Rattle.desk_values.specs.Fields.{cut_at, pieces}
 use Rattle.desk_values.specs.Good.{rows_ascend, all_draws}
-use Rattle.desk_values.specs.Reading.{◌>>=◌, unread, at_end, number_of, number_below, each_of, values_of}
-
--- what a reader answers whose answer is seen through a view, as one that holds a reference
-abbrev pub ReadsAs : {X T : Type 0} → (X → T) → Result X ReadErr → Option T → Type 0
-ReadsAs view result read = Answers (λ value. Some (view value)) unread result read
+use Rattle.desk_values.specs.Reading.{◌>>=◌, at_end, number_of, number_below, each_of, values_of}
 
 -- the values whose text this is, where there is at least one
 unfoldable pub filled_of : List ℕ → Option (List Value)

@@ -1,5 +1,5 @@
 ghost use Rattle.desk_values.specs.Reading.{Reads};
-ghost use Rattle.capture_format.specs.NameReading.{as_name};
+ghost use Rattle.capture_format.specs.Inside.NameReading.{as_name};
 
 use desk_schema::is_name;
 use desk_values::{ReadErr, Txt, TxtErr};

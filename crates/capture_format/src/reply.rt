@@ -7,7 +7,8 @@ ghost use Rattle.desk_values.specs.Fields.{pieces};
 ghost use Rattle.desk_values.specs.Good.{IsGoodReply};
 ghost use Rattle.desk_values.specs.Text.{values_text, rows_text, left_text, image_text, images_text, outcome_text, made_text, reply_text};
 ghost use Rattle.desk_values.specs.Reading.{Reads, number_below, each_of};
-ghost use Rattle.capture_format.specs.ReplyReading.{ReadsAs, fault_of, filled_of, open_rows_of, rows_of, left_of, image_of, images_of, word_outcome_of, field_outcome_of, outcome_of, draws_of, made_of, reply_of};
+ghost use Rattle.capture_format.specs.ReplyReading.{fault_of, filled_of, open_rows_of, rows_of, left_of, image_of, images_of, word_outcome_of, field_outcome_of, outcome_of, draws_of, made_of, reply_of};
+ghost use Rattle.capture_format.specs.Inside.Answers.{ReadsAs};
 
 use crate::pieces::{Piece, read_pieces};
 use desk_values::fields::{append_u64, cut, read_u32, read_u64};

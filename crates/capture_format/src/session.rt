@@ -2,7 +2,7 @@
 
 ghost use Rattle.std.specs.Prelude.{◌≡◌};
 ghost use Rattle.file_lines.specs.File.{ReadsFile};
-ghost use Rattle.file_lines.specs.Form.{AddsLine};
+ghost use Rattle.file_lines.specs.Inside.{AddsLine};
 ghost use Rattle.capture_format.specs.SessionFile.{session_form, is_ended, new_view, captured_of, IsBadSession, IsSessionFile};
 
 use crate::session_line::{CallLine, SessionLine, read_session_line};

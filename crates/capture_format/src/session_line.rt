@@ -1,7 +1,7 @@
 ghost use Rattle.std.specs.Prelude.{◌≡◌, ◌≤◌, List, Option, IfSome};
 ghost use Rattle.std.specs.Option.{option_map, option_copied};
 ghost use Rattle.desk_values.specs.Reading.{Reads};
-ghost use Rattle.capture_format.specs.SessionReading.{number_at, commit_number_of, commit_number_at, before_space, behind_space, exchange_of, call_line_of, head_of, session_line_of};
+ghost use Rattle.capture_format.specs.Inside.SessionReading.{number_at, commit_number_of, commit_number_at, before_space, behind_space, exchange_of, call_line_of, head_of, session_line_of};
 
 use crate::call::read_call;
 use crate::reply::read_reply;
@@ -50,7 +50,7 @@ struct Exchange {
 }
 
 // A number up to `most`, and what stands behind the space after it.
-#[tactic(auto, unfolding(crate::specs::SessionReading::number_at))]
+#[tactic(auto, unfolding(crate::specs::Inside::SessionReading::number_at))]
 fn read_number(bytes: &[u8], most: u64) -> Option<(u64, &[u8])>
     ensures value { option_map (λ x. (x.0, x.1.now)) result ≡ number_at most bytes.now }
     ensures most { IfSome result (λ x. x.0 ≤ most) }
@@ -64,7 +64,7 @@ fn read_number(bytes: &[u8], most: u64) -> Option<(u64, &[u8])>
     }
 }
 
-#[tactic(auto, unfolding(crate::specs::SessionReading::commit_number_of))]
+#[tactic(auto, unfolding(crate::specs::Inside::SessionReading::commit_number_of))]
 fn commit_number(field: &[u8]) -> Option<u64>
     ensures { result ≡ commit_number_of field.now }
 {
@@ -76,7 +76,7 @@ fn commit_number(field: &[u8]) -> Option<u64>
 }
 
 // The number of a commit, and what stands behind the space after it.
-#[tactic(auto, unfolding(crate::specs::SessionReading::commit_number_at))]
+#[tactic(auto, unfolding(crate::specs::Inside::SessionReading::commit_number_at))]
 fn read_commit_number(bytes: &[u8]) -> Option<(u64, &[u8])>
     ensures { option_map (λ x. (x.0, x.1.now)) result ≡ commit_number_at bytes.now }
 {
@@ -101,7 +101,7 @@ fn back_of(bytes: &[u8]) -> Option<&[u8]>
 }
 
 // What was asked and what was answered, with ` > ` between.
-#[tactic(auto, unfolding(crate::specs::SessionReading::exchange_of))]
+#[tactic(auto, unfolding(crate::specs::Inside::SessionReading::exchange_of))]
 fn read_exchange(alloc: Global, bytes: &[u8]) -> Result<Exchange, ReadErr>
     ensures { Reads result (exchange_of bytes.now) }
 {
@@ -114,7 +114,7 @@ fn read_exchange(alloc: Global, bytes: &[u8]) -> Result<Exchange, ReadErr>
 }
 
 // The line of a call.
-#[tactic(auto, unfolding(crate::specs::SessionReading::call_line_of))]
+#[tactic(auto, unfolding(crate::specs::Inside::SessionReading::call_line_of))]
 fn read_call_line(alloc: Global, bytes: &[u8]) -> Result<CallLine, ReadErr>
     ensures { Reads result (call_line_of bytes.now) }
 {
@@ -136,7 +136,7 @@ fn read_call_line(alloc: Global, bytes: &[u8]) -> Result<CallLine, ReadErr>
 }
 
 // The number of the session in its file's first line.
-#[tactic(auto, unfolding(crate::specs::SessionReading::head_of))]
+#[tactic(auto, unfolding(crate::specs::Inside::SessionReading::head_of))]
 pub(crate) fn read_head(bytes: &[u8]) -> Option<u32>
     ensures { result ≡ head_of bytes.now }
 {
@@ -144,7 +144,7 @@ pub(crate) fn read_head(bytes: &[u8]) -> Option<u32>
 }
 
 /// The line that the bytes spell, without its line feed. `Bad` where they spell none.
-#[tactic(auto, unfolding(crate::specs::SessionReading::session_line_of))]
+#[tactic(auto, unfolding(crate::specs::Inside::SessionReading::session_line_of))]
 pub(crate) fn read_session_line(alloc: Global, bytes: &[u8]) -> Result<SessionLine, ReadErr>
     ensures { Reads result (session_line_of bytes.now) }
 {

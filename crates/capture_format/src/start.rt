@@ -5,9 +5,9 @@ ghost use Rattle.desk_schema.specs.Line.{with_name};
 ghost use Rattle.desk_schema.specs.State.{added};
 ghost use Rattle.desk_schema.specs.Rules.{IsKind, IsWithin, MayFollow};
 ghost use Rattle.file_lines.specs.File.{ReadsFile};
-ghost use Rattle.file_lines.specs.Form.{AddsLine};
+ghost use Rattle.file_lines.specs.Inside.{AddsLine};
 ghost use Rattle.capture_format.specs.StartFile.{start_form, is_ended, IsBadStart, IsStartFile};
-ghost use Rattle.capture_format.specs.StartStage.{IsStage, LeadsTo, state_at};
+ghost use Rattle.capture_format.specs.Inside.StartStage.{IsStage, LeadsTo, state_at};
 
 use crate::start_line::read_start_line;
 use desk_schema::{ColumnKind, Draft, Kind, SESSION_LIMIT, Start, StartLine};
@@ -65,7 +65,7 @@ struct StartDraft {
 
 impl Model for StartDraft {
     ghost use Rattle.desk_schema.specs.State.{State};
-    ghost use Rattle.capture_format.specs.StartStage.{IsStage, state_at};
+    ghost use Rattle.capture_format.specs.Inside.StartStage.{IsStage, state_at};
 
     ghost Value = { State };
 

@@ -3,9 +3,9 @@
 ghost use Rattle.std.specs.Prelude.{◌≡◌, ◌^◌};
 ghost use Rattle.std.specs.Option.{option_map};
 ghost use Rattle.desk_values.specs.Reading.{Reads, number_of, number_below, integer_of, values_of};
-ghost use Rattle.capture_format.specs.Fields.{two_of};
-ghost use Rattle.capture_format.specs.NameReading.{as_name};
-ghost use Rattle.capture_format.specs.StartReading.{rights_of, nulls_of, shape_behind, shape_of, line_behind, worded_of, start_line_of};
+ghost use Rattle.capture_format.specs.Inside.Fields.{two_of};
+ghost use Rattle.capture_format.specs.Inside.NameReading.{as_name};
+ghost use Rattle.capture_format.specs.Inside.StartReading.{rights_of, nulls_of, shape_behind, shape_of, line_behind, worded_of, start_line_of};
 
 use crate::name::read_name;
 use desk_schema::{ColumnKind, StartLine};
@@ -14,7 +14,7 @@ use desk_values::{ReadErr, find_word, read_values};
 use std::alloc::Global;
 
 /// The line that the bytes spell, without its line feed. `Bad` where they spell none.
-#[tactic(auto, unfolding(crate::specs::StartReading::start_line_of))]
+#[tactic(auto, unfolding(crate::specs::Inside::StartReading::start_line_of))]
 pub(crate) fn read_start_line(alloc: Global, bytes: &[u8]) -> Result<StartLine, ReadErr>
     ensures { Reads result (start_line_of bytes.now) }
 {
@@ -27,7 +27,7 @@ pub(crate) fn read_start_line(alloc: Global, bytes: &[u8]) -> Result<StartLine, 
     read_worded(alloc, bytes)
 }
 
-#[tactic(auto, unfolding(crate::specs::StartReading::worded_of))]
+#[tactic(auto, unfolding(crate::specs::Inside::StartReading::worded_of))]
 fn read_worded(alloc: Global, bytes: &[u8]) -> Result<StartLine, ReadErr>
     ensures { Reads result (worded_of bytes.now) }
 {
@@ -36,7 +36,7 @@ fn read_worded(alloc: Global, bytes: &[u8]) -> Result<StartLine, ReadErr>
 }
 
 // The line with this first field.
-#[tactic(auto, unfolding(crate::specs::StartReading::line_behind))]
+#[tactic(auto, unfolding(crate::specs::Inside::StartReading::line_behind))]
 fn read_behind(alloc: Global, word: &[u8], rest: &[u8]) -> Result<StartLine, ReadErr>
     ensures { Reads result (line_behind word.now rest.now) }
 {
@@ -61,7 +61,7 @@ fn read_behind(alloc: Global, word: &[u8], rest: &[u8]) -> Result<StartLine, Rea
     }
 }
 
-#[tactic(auto, unfolding(crate::specs::Fields::two_of))]
+#[tactic(auto, unfolding(crate::specs::Inside::Fields::two_of))]
 fn read_sequence(alloc: Global, bytes: &[u8]) -> Result<StartLine, ReadErr>
     ensures { Reads result (option_map (λ p. StartLine.Seq p.0 p.1) (two_of 32 as_name number_of bytes.now)) }
 {
@@ -70,7 +70,7 @@ fn read_sequence(alloc: Global, bytes: &[u8]) -> Result<StartLine, ReadErr>
     Ok(StartLine::Seq(name, read_u64(next).ok_or(ReadErr::Bad)?))
 }
 
-#[tactic(auto, unfolding(crate::specs::Fields::two_of))]
+#[tactic(auto, unfolding(crate::specs::Inside::Fields::two_of))]
 fn read_service(alloc: Global, bytes: &[u8]) -> Result<StartLine, ReadErr>
     ensures { Reads result (option_map (λ p. StartLine.Service p.0 p.1) (two_of 32 as_name rights_of bytes.now)) }
 {
@@ -79,7 +79,7 @@ fn read_service(alloc: Global, bytes: &[u8]) -> Result<StartLine, ReadErr>
     Ok(StartLine::Service(name, find_word(rights).ok_or(ReadErr::Bad)?))
 }
 
-#[tactic(auto, unfolding(crate::specs::Fields::two_of))]
+#[tactic(auto, unfolding(crate::specs::Inside::Fields::two_of))]
 fn read_column(alloc: Global, bytes: &[u8]) -> Result<StartLine, ReadErr>
     ensures { Reads result (option_map (λ p. StartLine.Column p.0 p.1.0 p.1.1) (two_of 32 as_name shape_of bytes.now)) }
 {
@@ -90,7 +90,7 @@ fn read_column(alloc: Global, bytes: &[u8]) -> Result<StartLine, ReadErr>
 }
 
 // What a column holds, and whether it is not null.
-#[tactic(auto, unfolding(crate::specs::StartReading::shape_of))]
+#[tactic(auto, unfolding(crate::specs::Inside::StartReading::shape_of))]
 fn read_shape(alloc: Global, bytes: &[u8]) -> Result<(ColumnKind, bool), ReadErr>
     ensures { Reads result (shape_of bytes.now) }
 {
@@ -98,7 +98,7 @@ fn read_shape(alloc: Global, bytes: &[u8]) -> Result<(ColumnKind, bool), ReadErr
     read_shape_behind(alloc, word, rest)
 }
 
-#[tactic(auto, unfolding(crate::specs::StartReading::shape_behind))]
+#[tactic(auto, unfolding(crate::specs::Inside::StartReading::shape_behind))]
 fn read_shape_behind(alloc: Global, word: &[u8], rest: &[u8]) -> Result<(ColumnKind, bool), ReadErr>
     ensures { Reads result (shape_behind word.now rest.now) }
 {
@@ -110,7 +110,7 @@ fn read_shape_behind(alloc: Global, word: &[u8], rest: &[u8]) -> Result<(ColumnK
     }
 }
 
-#[tactic(auto, unfolding(crate::specs::Fields::two_of))]
+#[tactic(auto, unfolding(crate::specs::Inside::Fields::two_of))]
 fn read_range(bytes: &[u8]) -> Option<(ColumnKind, bool)>
     ensures { result ≡ option_map (λ p. (ColumnKind.Int p.0 p.1.0, p.1.1)) (two_of 32 integer_of (two_of 32 integer_of nulls_of) bytes.now) }
 {
@@ -121,7 +121,7 @@ fn read_range(bytes: &[u8]) -> Option<(ColumnKind, bool)>
     Some((ColumnKind::Int(low, high), read_nulls(nulls)?))
 }
 
-#[tactic(auto, unfolding(crate::specs::Fields::two_of))]
+#[tactic(auto, unfolding(crate::specs::Inside::Fields::two_of))]
 fn read_length(bytes: &[u8]) -> Option<(ColumnKind, bool)>
     ensures { result ≡ option_map (λ p. (ColumnKind.Text p.0, p.1)) (two_of 32 (number_below (2 ^ 32)) nulls_of bytes.now) }
 {
@@ -130,7 +130,7 @@ fn read_length(bytes: &[u8]) -> Option<(ColumnKind, bool)>
     Some((ColumnKind::Text(most), read_nulls(nulls)?))
 }
 
-#[tactic(auto, unfolding(crate::specs::Fields::two_of))]
+#[tactic(auto, unfolding(crate::specs::Inside::Fields::two_of))]
 fn read_drawn(alloc: Global, bytes: &[u8]) -> Result<(ColumnKind, bool), ReadErr>
     ensures { Reads result (option_map (λ p. (ColumnKind.Seq p.0, p.1)) (two_of 32 as_name nulls_of bytes.now)) }
 {
@@ -142,7 +142,7 @@ fn read_drawn(alloc: Global, bytes: &[u8]) -> Result<(ColumnKind, bool), ReadErr
     ))
 }
 
-#[tactic(auto, unfolding(crate::specs::StartReading::nulls_of))]
+#[tactic(auto, unfolding(crate::specs::Inside::StartReading::nulls_of))]
 fn read_nulls(bytes: &[u8]) -> Option<bool>
     ensures { result ≡ nulls_of bytes.now }
 {
@@ -155,7 +155,7 @@ fn read_nulls(bytes: &[u8]) -> Option<bool>
     }
 }
 
-#[tactic(auto, unfolding(crate::specs::Fields::two_of))]
+#[tactic(auto, unfolding(crate::specs::Inside::Fields::two_of))]
 fn read_row(alloc: Global, bytes: &[u8]) -> Result<StartLine, ReadErr>
     ensures { Reads result (option_map (λ p. StartLine.Row p.0 p.1.0 p.1.1) (two_of 32 number_of (two_of 32 (number_below (2 ^ 32)) values_of) bytes.now)) }
 {

@@ -5,13 +5,21 @@ use Rattle.std.specs.List.{range_with_len}
 use Rattle.desk_values.specs.declared.value.Value.TheVariants.{Int}
 use Rattle.desk_values.specs.declared.value.Image.{Image}
 use Rattle.desk_schema.specs.declared.line.StartLine.TheVariants.{Row, NextRow}
+use Rattle.desk_schema.specs.Rules.{IsWithin}
 use Rattle.desk_schema.specs.Start.{StartView}
 use Rattle.desk_schema.specs.Draft.{finished}
 use Rattle.desk_schema.specs.Schema.{SchemaView}
 use Rattle.desk_schema.specs.State.{State, added}
 use Rattle.capture_recorder.specs.Generated.{account, accounts, generated_start, generated, generated_request, recorded_all, with_request}
-use Rattle.capture_recorder.specs.Declaring.{IsDeclaring, declared}
+use Rattle.capture_recorder.specs.Inside.Declaring.{declared}
 use Rattle.capture_recorder.specs.Recording.{Recording, opened}
+
+-- the start while it is declared: its service and its table, and the accounts below this one
+pub record IsDeclaring (state : State) (k : ℕ) : Type 0 where
+  pub order : IsWithin 6 7 state.last
+  pub schema : state.start.schema ≡ declared.start.schema
+  pub next_values : state.start.next_values ≡ []
+  pub rows : state.start.rows ++ accounts k (101 - k) ≡ generated_start.rows
 
 accounts_none : (k : ℕ) → accounts k 0 ≡ []
 unfolding accounts

@@ -26,7 +26,7 @@ use Rattle.machine_model.specs.State.{State, disconnected, is_given, opening}
 use Rattle.machine_model.specs.Step.{Gives, reply_in, step}
 use Rattle.capture_recorder.specs.declared.progress.Progress.{Progress}
 use Rattle.capture_recorder.specs.Recording.{IsRecording, Recording, captured, connected_count, cut, is_stranger, kept_began, kept_ended, opened, recorded}
-use Rattle.capture_recorder.specs.Keeping.{Keeps, progress_of}
+use Rattle.capture_recorder.specs.Inside.Keeping.{Keeps, progress_of}
 
 abbrev pub progress : ℕ → ℕ → Progress
 progress calls ended = record { calls = calls; ended = ended }

@@ -1,5 +1,4 @@
 pub mod Sessions
 pub mod Recording
-pub mod Keeping
 pub mod Generated
-pub mod Declaring
+pub mod Inside

@@ -11,7 +11,7 @@ ghost use Rattle.desk_schema.specs.State.{added, nothing};
 ghost use Rattle.machine_model.specs.State.{State};
 ghost use Rattle.capture_recorder.specs.Recording.{is_stranger};
 ghost use Rattle.capture_recorder.specs.Generated.{about, account, call_in_round, call_in_turn, generated, generated_start};
-ghost use Rattle.capture_recorder.specs.Declaring.{declared};
+ghost use Rattle.capture_recorder.specs.Inside.Declaring.{declared};
 
 use crate::recorder::Recorder;
 use desk_schema::{Draft, Kind, Rights, Start};

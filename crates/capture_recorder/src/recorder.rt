@@ -46,7 +46,7 @@ pub struct Recorder {
 impl Model for Recorder {
     ghost use Rattle.capture_recorder.specs.declared.recorder.TheConstants.{ACCEPTED_LIMIT as ACCEPTED};
     ghost use Rattle.capture_recorder.specs.Recording.{Recording};
-    ghost use Rattle.capture_recorder.specs.Keeping.{Keeps};
+    ghost use Rattle.capture_recorder.specs.Inside.Keeping.{Keeps};
 
     ghost Value = { Recording };
 

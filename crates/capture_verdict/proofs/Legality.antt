@@ -16,7 +16,7 @@ use Rattle.capture_laws.proofs.Permuted.{stamped_are_all}
 use Rattle.capture_laws.proofs.Stamping.{by_stamp_len, has_each, stamp_is}
 use Rattle.capture_verdict.specs.declared.refusal.Refusal.{Refusal}
 use Rattle.capture_verdict.specs.declared.refusal.Refusal.TheVariants.{Stamp}
-use Rattle.capture_verdict.specs.Fit.{IsFit}
+use Rattle.capture_verdict.specs.Inside.{IsFit}
 use Rattle.capture_verdict.specs.Tests.{bad_stamp, bad_ids, bad_number, bad_reply, bad_seen, bad_times, first_refused, unless, asked, too_many}
 use Rattle.capture_verdict.specs.Verdict.{Plan, fault_of, IsLegal, or_else, verdict, verdict_of}
 use Rattle.desk_schema.specs.Schema.{SchemaView}

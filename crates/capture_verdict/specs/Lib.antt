@@ -1,4 +1,4 @@
 pub mod Facts
-pub mod Fit
 pub mod Tests
 pub mod Verdict
+pub mod Inside

@@ -4,8 +4,8 @@ use Rattle.std.proofs.lemmas.Bool.{false≢true, cases_eq, cases_lt}
 use Rattle.std.proofs.lemmas.List.{get_or_past, get_or-set_same, get_or-set_other}
 use Rattle.object_depends.specs.declared.fact.Fact.{Fact}
 use Rattle.object_depends.specs.Facts.{fact_at}
-use Rattle.commit_gate.specs.Heads.{is_in}
-use Rattle.commit_gate.specs.Inside.{AreInTurn}
+use Rattle.commit_gate.specs.Gates.{is_in}
+use Rattle.commit_gate.specs.Inside.Gate.{AreInTurn}
 
 pub in_within : (stamps : List Bool) (j : ℕ) → is_in stamps j ≡ true → j < length stamps
 in_within stamps j is =

@@ -10,17 +10,18 @@ use Rattle.replay_history.specs.declared.mode.Mode.{Mode}
 use Rattle.replay_history.specs.declared.mode.Mode.TheVariants.{Scn, Object, Order}
 use Rattle.object_depends.specs.declared.fact.Fact.{Fact}
 use Rattle.object_depends.specs.Facts.{fact_at, AreSound}
-use Rattle.object_depends.specs.Tallies.{awaits}
+use Rattle.object_depends.specs.Inside.{awaits}
 use Rattle.object_depends.proofs.Sound.{required_before, required_awaited, awaited_required}
 use Rattle.object_depends.proofs.Sharing.{shares_from, shares_some}
 use Rattle.commit_gate.specs.declared.mark.Watch.{Watch}
 use Rattle.commit_gate.specs.declared.mark.Watch.TheVariants.{Every, Commits, Table}
 use Rattle.commit_gate.specs.declared.mark.Mark.{Mark}
 use Rattle.commit_gate.specs.declared.gate.Gate.TheInside.{Inside}
-use Rattle.commit_gate.specs.Heads.{is_in, IsHead, AreFirstHeads, AreNexts}
-use Rattle.commit_gate.specs.Marks.{watches, IsMark, mark_at, AreTableMarks, AreTablesPassed}
-use Rattle.commit_gate.specs.Inside.{IsGate, view_of}
-use Rattle.commit_gate.specs.Gates.{AreRequiredAnswered, IsReady, GateView, IsFirstOpen, front}
+use Rattle.commit_gate.specs.Inside.Heads.{IsHead, AreFirstHeads, AreNexts}
+use Rattle.commit_gate.specs.Inside.Marks.{IsMark, mark_at, AreTableMarks, AreTablesPassed}
+use Rattle.commit_gate.specs.Inside.Gate.{IsGate}
+use Rattle.commit_gate.specs.View.{view_of}
+use Rattle.commit_gate.specs.Gates.{AreRequiredAnswered, IsReady, GateView, IsFirstOpen, front, is_in, watches}
 use Rattle.commit_gate.proofs.Sessions.{turn_by_head, first_are_heads}
 
 -- each watched call below a stamp is answered exactly where the mark is at that stamp or above it

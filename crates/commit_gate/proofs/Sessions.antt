@@ -5,9 +5,9 @@ use Rattle.std.proofs.lemmas.Bool.{both_ways, cases_eq, cases_lt, false_from_ne_
 use Rattle.std.proofs.lemmas.List.{get_or-set_same, get_or-set_other, get_or-replicate}
 use Rattle.object_depends.specs.declared.fact.Fact.{Fact}
 use Rattle.object_depends.specs.Facts.{fact_at}
-use Rattle.commit_gate.specs.Heads.{is_in, NoneBetween, IsNextFrom, AreNexts, AreFirstHeads, IsHead, AreHeads}
-use Rattle.commit_gate.specs.Gates.{IsBefore, IsTurn}
-use Rattle.commit_gate.specs.Inside.{AreInTurn}
+use Rattle.commit_gate.specs.Inside.Heads.{NoneBetween, IsNextFrom, AreNexts, AreFirstHeads, IsHead, AreHeads}
+use Rattle.commit_gate.specs.Gates.{IsBefore, IsTurn, is_in}
+use Rattle.commit_gate.specs.Inside.Gate.{AreInTurn}
 use Rattle.commit_gate.proofs.Keeping.{in_more}
 
 match_more : (o : Option ℕ) (P R : Type 0) (Q S : ℕ → Type 0) → (P → R) → ((x : ℕ) → Q x → S x) → MatchOption o P Q → MatchOption o R S

@@ -1,10 +1,21 @@
 -- What a gate is seen as, and which calls are ready.
-use Rattle.std.specs.Prelude.{◌≡◌, ℕ, ◌+◌, ◌<◌, Bool, true, false, cond, List, [], ◌∷◌, length, replicate, slice_index}
+use Rattle.std.specs.Prelude.{◌≡◌, ℕ, ◌+◌, ◌<◌, Bool, true, false, cond, List, [], ◌∷◌, length, replicate, slice_index, slice_index_or, ◌&&◌}
 use Rattle.replay_history.specs.declared.mode.Mode.{Mode}
 use Rattle.object_depends.specs.declared.fact.Fact.{Fact}
-use Rattle.object_depends.specs.Facts.{fact_at}
+use Rattle.object_depends.specs.Facts.{fact_at, has_table, is_commit}
 use Rattle.object_depends.specs.Required.{is_required}
-use Rattle.commit_gate.specs.Heads.{is_in}
+use Rattle.commit_gate.specs.declared.mark.Watch.{Watch}
+use Rattle.commit_gate.specs.declared.mark.Watch.TheVariants.{Every, Commits, Table}
+
+-- whether a stamp stands in a set of stamps
+abbrev pub is_in : List Bool → ℕ → Bool
+is_in stamps k = slice_index_or stamps k false
+
+-- whether a call is of the kind that is watched: every call, the numbered commits, those that wrote a table
+abbrev pub watches : Watch → Fact → Bool
+watches Every fact = true
+watches Commits fact = is_commit fact
+watches (Table table) fact = is_commit fact && has_table fact.writes table
 
 -- a gate: the facts by stamp, the mode, and for each stamp whether it is started and whether it is answered
 pub record GateView : Type 0 where

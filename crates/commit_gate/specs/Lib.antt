@@ -1,4 +1,3 @@
-pub mod Heads
-pub mod Marks
 pub mod Gates
 pub mod Inside
+pub mod View

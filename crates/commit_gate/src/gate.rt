@@ -1,9 +1,8 @@
 ghost use Rattle.std.specs.Prelude.{EachIndex, ◌≡◌, ◌≤◌, ◌<◌, ◌↔◌, ◌⊎◌, ℕ, true, false, length, slice_set, slice_index, MatchOption, IfSome, IfOk, IsTrue};
 ghost use Rattle.object_depends.specs.Facts.{AreSound, fact_at, is_commit};
 ghost use Rattle.commit_gate.specs.declared.mark.Watch.TheVariants.{Table};
-ghost use Rattle.commit_gate.specs.Heads.{is_in};
-ghost use Rattle.commit_gate.specs.Marks.{AreTablesPassed, watches};
-ghost use Rattle.commit_gate.specs.Gates.{AreAllAnswered, AreRequiredAnswered, IsDoneOf, IsFirstOpen, IsPick, IsReady, IsReadyOf, IsTurn, NoneReady, front, new_gate};
+ghost use Rattle.commit_gate.specs.Inside.Marks.{AreTablesPassed};
+ghost use Rattle.commit_gate.specs.Gates.{AreAllAnswered, AreRequiredAnswered, IsDoneOf, IsFirstOpen, IsPick, IsReady, IsReadyOf, IsTurn, NoneReady, front, is_in, new_gate, watches};
 
 use crate::heads::{Heads, first_heads, put};
 use crate::mark::{Mark, Watch, advance, advance_tables, first_mark, table_marks};
@@ -37,7 +36,8 @@ impl Model for Gate {
 
     ghost Value = { GateView };
 
-    ghost use Rattle.commit_gate.specs.Inside.{IsGate, view_of};
+    ghost use Rattle.commit_gate.specs.Inside.Gate.{IsGate};
+    ghost use Rattle.commit_gate.specs.View.{view_of};
 
     ghost view = { view_of };
 

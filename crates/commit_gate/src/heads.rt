@@ -4,7 +4,7 @@ ghost use Rattle.std.specs.Prelude.{◌≡◌, ◌+◌, ◌≤◌, ◌<◌, ℕ,
 ghost use Rattle.std.specs.Ordering.{nat_cmp};
 ghost use Rattle.std.specs.BTreeMap.{get};
 ghost use Rattle.object_depends.specs.Facts.{fact_at};
-ghost use Rattle.commit_gate.specs.Heads.{AreFirstHeads, AreNexts, IsNextFrom};
+ghost use Rattle.commit_gate.specs.Inside.Heads.{AreFirstHeads, AreNexts, IsNextFrom};
 
 use desk_values::Memory;
 use object_depends::Fact;

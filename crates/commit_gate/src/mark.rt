@@ -2,7 +2,8 @@
 
 ghost use Rattle.std.specs.Prelude.{◌≡◌, ◌+◌, ◌≤◌, ◌<◌, ℕ, length, vec_len, IfOk};
 ghost use Rattle.commit_gate.specs.declared.mark.Watch.TheVariants.{Table};
-ghost use Rattle.commit_gate.specs.Marks.{AreTableMarks, IsMark, IsPassed, IsWatch, mark_at, watches};
+ghost use Rattle.commit_gate.specs.Inside.Marks.{AreTableMarks, IsMark, IsPassed, IsWatch, mark_at};
+ghost use Rattle.commit_gate.specs.Gates.{watches};
 
 use desk_values::Memory;
 use object_depends::{Fact, has_table};

@@ -26,9 +26,11 @@ use Rattle.desk_schema.specs.Line.{with_name, with_number}
 use Rattle.desk_schema.specs.Start.{StartView}
 use Rattle.desk_schema.specs.State.{State, nothing, added}
 use Rattle.desk_schema.specs.Rules.{MayFollow, IsKind, IsAllowed, IsNewKey, key_of, key_in, keys_of, RowFits}
-use Rattle.desk_schema.specs.Keys.{IsWith}
-use Rattle.desk_schema.specs.Sound.{IsSoundTable, IsSoundState}
-use Rattle.desk_schema.specs.Draft.{IsReached, AreKeys, IsDraft}
+use Rattle.desk_schema.specs.Inside.Keys.{IsWith}
+use Rattle.desk_schema.specs.Sound.{IsSoundTable}
+use Rattle.desk_schema.specs.Inside.Sound.{IsSoundState}
+use Rattle.desk_schema.specs.Draft.{IsReached}
+use Rattle.desk_schema.specs.Inside.Draft.{AreKeys, IsDraft}
 use Rattle.desk_schema.specs.File.{IsStart}
 use Rattle.desk_schema.proofs.Files.{reached_more, start_at, whole_schema}
 use Rattle.desk_schema.proofs.Members.{Contains-none, Contains-here, Contains-there, Contains-cases}

@@ -11,7 +11,8 @@ use Rattle.desk_schema.specs.Schema.{HasColumns, IsSchema}
 use Rattle.desk_schema.specs.Start.{StartView, part_lines, lines_of, file_lines}
 use Rattle.desk_schema.specs.State.{State, nothing, added, state_after, state_of}
 use Rattle.desk_schema.specs.Rules.{MayFollow, AreLinesFrom, AreLines}
-use Rattle.desk_schema.specs.Sound.{IsSoundTable, IsSoundState, IsSoundStart}
+use Rattle.desk_schema.specs.Sound.{IsSoundTable, IsSoundStart}
+use Rattle.desk_schema.specs.Inside.Sound.{IsSoundState}
 use Rattle.desk_schema.specs.Draft.{IsReached}
 use Rattle.desk_schema.specs.File.{IsStart, IsFile, IsFileOf}
 use Rattle.desk_schema.proofs.Growth.{written, written_added}

@@ -14,7 +14,7 @@ use Rattle.desk_schema.specs.Line.{with_number}
 use Rattle.desk_schema.specs.Start.{StartView, sequence_lines, service_line, column_line, table_lines, row_line, part_lines, lines_of, file_lines}
 use Rattle.desk_schema.specs.State.{State, with_column, added}
 use Rattle.desk_schema.specs.Rules.{MayFollow}
-use Rattle.desk_schema.specs.Sound.{IsSoundState}
+use Rattle.desk_schema.specs.Inside.Sound.{IsSoundState}
 use Rattle.desk_schema.proofs.Sequences.{with_name-with_number}
 
 -- the lines of a state

@@ -15,7 +15,7 @@ use Rattle.desk_schema.specs.declared.keys.Key.TheVariants as key
 use Rattle.desk_schema.specs.declared.keys.RowKey.{RowKey}
 use Rattle.desk_schema.specs.contracts.keys.RowKeyOrd.TheImpl as row_order
 use Rattle.desk_schema.specs.contracts.keys.KeyOrd.TheImpl as key_order
-use Rattle.desk_schema.specs.Keys.{key_value, row_key, IsWith}
+use Rattle.desk_schema.specs.Inside.Keys.{key_value, row_key, IsWith}
 use Rattle.desk_schema.proofs.Members.{Contains-none, Contains-here, Contains-there, Contains-cases}
 
 abbrev key_cmp : Key → Key → Ordering

@@ -23,7 +23,8 @@ use Rattle.desk_schema.specs.Schema.{SchemaView, table_names, column_names}
 use Rattle.desk_schema.specs.Line.{with_name, with_number, name_of}
 use Rattle.desk_schema.specs.State.{State, nothing, place, with_column, sessions_with, start_with, added}
 use Rattle.desk_schema.specs.Rules.{IsKind, IsNewKey, key_of, key_in, keys_of, last_columns, MayFollow}
-use Rattle.desk_schema.specs.Sound.{HaveColumnsButLast, AreDistinct, AreApart, IsKnownKind, IsSoundTable, IsSoundRow, AreSoundRows, IsSound, IsInOrder, IsSoundNextRow, IsSoundState}
+use Rattle.desk_schema.specs.Sound.{AreDistinct, AreApart, IsKnownKind, IsSoundTable, IsSoundRow, AreSoundRows, IsSound, IsSoundNextRow}
+use Rattle.desk_schema.specs.Inside.Sound.{HaveColumnsButLast, IsInOrder, IsSoundState}
 use Rattle.desk_schema.proofs.Distinct.{all-push, distinct-push, apart-push, ascend-push}
 use Rattle.desk_schema.proofs.Sequences.{with_name-with_number}
 

@@ -1,7 +1,5 @@
 -- A draft of a start, and what its calls answer.
-use Rattle.std.specs.Prelude.{ℕ, ◌≡◌, ◌↔◌, List, Result, Ok, Err}
-use Rattle.std.specs.List.{Contains}
-use Rattle.desk_values.specs.declared.value.Value.{Value}
+use Rattle.std.specs.Prelude.{ℕ, ◌≡◌, List, Result, Ok, Err}
 use Rattle.desk_values.specs.declared.value.Image.{Image}
 use Rattle.desk_values.specs.declared.read_err.ReadErr.{ReadErr}
 use Rattle.desk_values.specs.declared.read_err.ReadErr.TheVariants as line
@@ -13,8 +11,7 @@ use Rattle.desk_schema.specs.declared.rules.Last.TheVariants.{Level, Sequence, S
 use Rattle.desk_schema.specs.Schema.{SchemaView}
 use Rattle.desk_schema.specs.Start.{StartView}
 use Rattle.desk_schema.specs.State.{State, state_of}
-use Rattle.desk_schema.specs.Rules.{keys_of, AreLines}
-use Rattle.desk_schema.specs.Sound.{IsSoundState}
+use Rattle.desk_schema.specs.Rules.{AreLines}
 
 -- the place of the last line in the order of a file
 abbrev pub place_of_last : Last → ℕ
@@ -38,15 +35,6 @@ pub record IsReached (state : State) : Type 0 where
   pub lines : List StartLine
   pub are_lines : AreLines lines
   pub leads : state_of lines ≡ state
-
--- the keys are those of the rows
-abbrev pub AreKeys : List (ℕ × Value) → List Image → Type 0
-AreKeys keys rows = (table : ℕ) (value : Value) → Contains keys (table, value) ↔ Contains (keys_of table rows) value
-
-pub record IsDraft (state : State) (keys : List (ℕ × Value)) : Type 0 where
-  pub reached : IsReached state
-  pub sound : IsSoundState state
-  pub are_keys : AreKeys keys state.start.rows
 
 -- `Rule` just where the rule is broken
 abbrev pub Judges : {T : Type 0} → Result T DraftErr → Type 0 → Type 0

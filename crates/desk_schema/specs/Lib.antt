@@ -5,6 +5,6 @@ pub mod Start
 pub mod State
 pub mod Rules
 pub mod Sound
-pub mod Keys
 pub mod Draft
 pub mod File
+pub mod Inside

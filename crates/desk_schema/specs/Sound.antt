@@ -1,4 +1,4 @@
--- What holds of every start that keeps the rules, and of every state on the way to one.
+-- What holds of every start that keeps the rules.
 use Rattle.std.specs.Prelude.{ℕ, ◌≡◌, ◌<◌, ◌≤◌, ◌^◌, true, false, List, [], ◌∷◌, length, Some, IfSome, IsSomeAnd, slice_get}
 use Rattle.std.specs.List.{AllByRecursion, AllZip}
 use Rattle.desk_values.specs.declared.value.Value.{Value}
@@ -7,7 +7,6 @@ use Rattle.desk_values.specs.Comparison.{same_key}
 use Rattle.desk_values.specs.Good.{Ascend}
 use Rattle.desk_values.specs.declared.value.TheConstants.{TABLE_LIMIT}
 use Rattle.desk_schema.specs.declared.rules.TheConstants.{SEQUENCE_LIMIT, SERVICE_LIMIT, COLUMN_LIMIT, ROW_LIMIT, LENGTH_LIMIT, NEXT_LIMIT}
-use Rattle.desk_schema.specs.declared.line.TheConstants.{SESSION_LIMIT}
 use Rattle.desk_schema.specs.declared.schema.Kind.{Kind}
 use Rattle.desk_schema.specs.declared.schema.Kind.TheVariants.{Int, Text, Seq}
 use Rattle.desk_schema.specs.declared.schema.Table.{Table}
@@ -15,7 +14,6 @@ use Rattle.desk_schema.specs.Name.{IsName}
 use Rattle.desk_schema.specs.Schema.{SchemaView, IsSchema, place_of, table_names, column_names, service_names, columns_of}
 use Rattle.desk_schema.specs.Line.{name_of}
 use Rattle.desk_schema.specs.Start.{StartView}
-use Rattle.desk_schema.specs.State.{State}
 use Rattle.desk_schema.specs.Rules.{IsRange, IsAllowed, AreBelow, keys_of}
 
 -- no name stands twice: each is found at its own place
@@ -48,12 +46,6 @@ abbrev pub AreApart : ℕ → List Value → Type 0
 AreApart level [] = Unit {0}
 AreApart level (first ∷ others) = AllByRecursion (λ other. same_key level first other ≡ false) others × AreApart level others
 
--- each table but the last has columns, which may still be coming
-abbrev pub HaveColumnsButLast : List Table → Type 0
-HaveColumnsButLast [] = Unit {0}
-HaveColumnsButLast (table ∷ []) = Unit {0}
-HaveColumnsButLast (table ∷ next ∷ tables) = (1 ≤ length table.columns) × HaveColumnsButLast (next ∷ tables)
-
 pub record AreSoundSequences (sequences : List (List ℕ)) (nexts : List ℕ) : Type 0 where
   pub most : length sequences ≤ SEQUENCE_LIMIT
   pub counts : length nexts ≡ length sequences
@@ -80,30 +72,11 @@ pub record IsSound (start : StartView) : Type 0 where
   pub is_schema : IsSoundSchema start.schema
   pub sound_rows : AreSoundRows start.schema start.next_values start.rows
 
--- what has its turn later than the last line is not there yet
-pub record IsInOrder (last : ℕ) (start : StartView) : Type 0 where
-  pub level : 2 ≤ last → start.schema.level ≡ 1
-  pub no_sequences : last ≤ 2 → start.schema.sequences ≡ []
-  pub no_services : last ≤ 3 → start.schema.services ≡ []
-  pub no_tables : last ≤ 4 → start.schema.tables ≡ []
-  pub some_table : 5 ≤ last → last ≤ 6 → 0 < length start.schema.tables
-  pub no_rows : last ≤ 6 → start.rows ≡ []
-  -- the columns of the last table come right after it
-  pub begun : HaveColumnsButLast start.schema.tables
-  pub whole : ¬ (last ≡ 5) → AllByRecursion (λ table. 1 ≤ length table.columns) start.schema.tables
-
 -- the number of the next row is over every row
 pub record IsSoundNextRow (start : StartView) : Type 0 where
   pub least : 1 ≤ start.next_row
   pub most : start.next_row ≤ NEXT_LIMIT
   pub above : AreBelow start.next_row start.rows
-
--- what holds in every state that lines lead to
-pub record IsSoundState (state : State) : Type 0 where
-  pub order : IsInOrder state.last state.start
-  pub sound : IsSound state.start
-  pub next_row : 8 ≤ state.last → IsSoundNextRow state.start
-  pub sessions : state.sessions ≤ SESSION_LIMIT
 
 -- what holds of every start that keeps the rules
 pub record IsSoundStart (start : StartView) : Type 0 where

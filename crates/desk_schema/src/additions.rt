@@ -2,7 +2,7 @@ ghost use Rattle.std.specs.Prelude.{◌≡◌, ◌-◌, ◌<◌, ◌++◌, ◌�
 ghost use Rattle.std.specs.Bool.{OnTrue, OnFalse};
 ghost use Rattle.std.specs.List.{Contains};
 ghost use Rattle.desk_schema.specs.State.{with_column};
-ghost use Rattle.desk_schema.specs.Keys.{row_key, IsWith};
+ghost use Rattle.desk_schema.specs.Inside.Keys.{row_key, IsWith};
 ghost use Rattle.desk_schema.specs.Rules.{last_columns};
 
 use crate::keys::{KeySet, RowKey};

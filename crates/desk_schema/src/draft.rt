@@ -81,7 +81,8 @@ pub struct Draft {
 
 impl Model for Draft {
     ghost use Rattle.desk_schema.specs.State.{State};
-    ghost use Rattle.desk_schema.specs.Draft.{drafted, IsDraft};
+    ghost use Rattle.desk_schema.specs.Draft.{drafted};
+    ghost use Rattle.desk_schema.specs.Inside.Draft.{IsDraft};
 
     ghost Value = { State };
 

@@ -2,7 +2,7 @@ ghost use Rattle.std.specs.Prelude.{◌≡◌, [], IfOk, OnErr};
 ghost use Rattle.std.specs.Bool.{OnTrue, OnFalse};
 ghost use Rattle.std.specs.List.{Contains};
 ghost use Rattle.desk_schema.specs.Rules.{key_of};
-ghost use Rattle.desk_schema.specs.Keys.{key_value, row_key, IsWith};
+ghost use Rattle.desk_schema.specs.Inside.Keys.{key_value, row_key, IsWith};
 
 use desk_values::{Memory, Value};
 use std::alloc::Global;
@@ -69,7 +69,7 @@ impl Model for KeySet {
     ghost Value = { List (ℕ × KeyValue) };
 
     ghost use Rattle.desk_schema.specs.Rules.{key_of};
-    ghost use Rattle.desk_schema.specs.Keys.{row_key};
+    ghost use Rattle.desk_schema.specs.Inside.Keys.{row_key};
 
     ghost view = { λ a. map row_key a.keys.keys };
 }

@@ -1,6 +1,6 @@
 -- Bytes that begin as before.
 use Rattle.std.proofs.Common.{◌≡◌, ℕ, List, [], ◌∷◌, ◌++◌, length, take, refl, sym, ◌∙◌, ap}
-use Rattle.desk_values.specs.Kept.{IsKept}
+use Rattle.desk_values.specs.Inside.{IsKept}
 
 take_less : (bytes front more : List ℕ) → take (length (front ++ more)) bytes ≡ front ++ more → take (length front) bytes ≡ front
 take_less bytes [] more e = refl

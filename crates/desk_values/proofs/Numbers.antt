@@ -12,7 +12,8 @@ use Rattle.std.proofs.lemmas.Slice.Eq.{bytes_eq-Decides}
 use Rattle.std.proofs.lemmas.Str.{IsUtf8-from_ascii}
 use Rattle.std.proofs.lemmas.Str.Parse.{numerals_by_value, tells_digits, IsNumeralModel, without_leading_plus_none}
 use Rattle.std.proofs.lemmas.Fmt.{decimal_is_IsNumeral, decimal-digits_value, decimal_digit, first_decimal, IsAscii-decimal}
-use Rattle.desk_values.specs.Reading.{number_of, number_below, integer_of, is_loose, negative, not_negative, ◌>>=◌}
+use Rattle.desk_values.specs.Reading.{number_of, number_below, integer_of, negative, not_negative, ◌>>=◌}
+use Rattle.desk_values.specs.Inside.{is_loose}
 use Rattle.desk_values.proofs.Options.{bind_some, if_some, chosen, none_from}
 use Rattle.desk_values.proofs.Readers.{IsReader, first_of}
 

@@ -5,9 +5,9 @@ pub mod Fault
 pub mod Keyword
 pub mod Good
 pub mod Text
-pub mod Kept
 pub mod Fields
 pub mod Reading
 pub mod Comparison
 pub mod Ids
 pub mod Sorting
+pub mod Inside

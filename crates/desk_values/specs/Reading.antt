@@ -1,5 +1,5 @@
 -- What the bytes of a text say: the value whose text they are, where there is one.
-use Rattle.std.specs.Prelude.{ℕ, ◌-◌, ◌^◌, Bool, false, ◌&&◌, ◌||◌, not, nat_lt, nat_le, ◌==◌, if◌then◌else◌, ℤ, pos, negsuc, List, [], ◌∷◌, length, drop, slice_index, Option, None, Some, Result, codes}
+use Rattle.std.specs.Prelude.{ℕ, ◌-◌, ◌^◌, ◌&&◌, nat_lt, nat_le, ◌==◌, if◌then◌else◌, ℤ, pos, negsuc, List, [], ◌∷◌, length, drop, slice_index, Option, None, Some, Result, codes}
 use Rattle.std.specs.Option.{option_map, option_and_then}
 use Rattle.std.specs.Fmt.{decimal}
 use Rattle.std.specs.Str.{is_utf8, bytes_eq}
@@ -37,11 +37,6 @@ at_end (first ∷ rest) value = None
 -- the number below 2 ^ 64 whose decimal text this is
 unfoldable pub number_of : List ℕ → Option ℕ
 number_of bytes = let n = digits_value 10 bytes in if bytes_eq (decimal n) bytes && nat_lt n (2 ^ 64) then Some n else None
-
--- a plus first, or a zero before more
-abbrev pub is_loose : List ℕ → Bool
-is_loose [] = false
-is_loose (first ∷ rest) = first == 43 || (first == 48 && not (length rest == 0))
 
 -- the same, below a smaller limit
 unfoldable pub number_below : ℕ → List ℕ → Option ℕ

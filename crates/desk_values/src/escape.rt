@@ -3,7 +3,7 @@
 ghost use Rattle.std.specs.Prelude.{◌≡◌, ◌++◌, IfOk, OnOk, OnErr};
 ghost use Rattle.std.specs.Str.{bytes_eq};
 ghost use Rattle.std.specs.Cow.{cow_str_bytes};
-ghost use Rattle.desk_values.specs.Kept.{IsKept};
+ghost use Rattle.desk_values.specs.Inside.{IsKept};
 ghost use Rattle.desk_values.specs.Text.{escaped, txt_text};
 ghost use Rattle.desk_values.specs.Reading.{Reads, txt_in, escaped_of};
 

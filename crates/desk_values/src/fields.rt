@@ -7,7 +7,8 @@ ghost use Rattle.std.specs.Fmt.{decimal, signed_decimal};
 ghost use Rattle.desk_values.specs.Fields.{Lacks, cut_at};
 ghost use Rattle.desk_values.specs.Good.{IsTxt};
 ghost use Rattle.desk_values.specs.Text.{txt_text};
-ghost use Rattle.desk_values.specs.Reading.{Reads, number_of, is_loose, number_of, number_below, negative, integer_of, txt_of};
+ghost use Rattle.desk_values.specs.Reading.{Reads, number_of, number_below, negative, integer_of, txt_of};
+ghost use Rattle.desk_values.specs.Inside.{is_loose};
 
 use crate::escape::{push_text, read_escaped};
 use crate::memory::Memory;

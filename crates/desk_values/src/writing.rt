@@ -2,7 +2,7 @@
 
 ghost use Rattle.std.specs.Prelude.{◌≡◌, ◌++◌, ◌∷◌, map, OnOk, OnErr};
 ghost use Rattle.std.specs.List.{flat_map, join_with_byte};
-ghost use Rattle.desk_values.specs.Kept.{IsKept};
+ghost use Rattle.desk_values.specs.Inside.{IsKept};
 ghost use Rattle.desk_values.specs.Text.{value_text, values_text};
 
 use crate::escape::push_text;

@@ -1,12 +1,23 @@
 -- Files of lines that say something.
 use Rattle.std.proofs.Common.{◌≡◌, ℕ, Bool, true, false, List, [], ◌∷◌, ◌++◌, map, Option, Some, Result, Ok, Err, refl, ap, sym, subst, ◌∙◌}
+use Rattle.std.specs.List.{fold}
 use Rattle.desk_values.specs.declared.read_err.ReadErr.{ReadErr}
 use Rattle.desk_values.specs.declared.read_err.ReadErr.TheVariants.{Bad, Memory}
 use Rattle.desk_values.specs.Fields.{Lacks}
 use Rattle.desk_values.specs.Reading.{Reads}
 use Rattle.desk_values.proofs.Readers.{IsReader, one_text}
 use Rattle.file_lines.specs.File.{lines_text, Adds, Lead, IsFile, SaysOne}
-use Rattle.file_lines.specs.Form.{Form, Comes, AreLines, text_of, state_after, AddsLine}
+use Rattle.file_lines.specs.Form.{Form, Comes, text_of}
+use Rattle.file_lines.specs.Inside.{AddsLine}
+
+module _ {S L : Type 0} (form : Form S L) where
+  -- each line has what it needs in the state that those before it lead to
+  abbrev pub AreLines : S → List L → Type 0
+  AreLines s [] = Unit {0}
+  AreLines s (line ∷ lines) = form.Fits line × form.May s line × AreLines (form.added s line) lines
+
+  abbrev pub state_after : S → List L → S
+  state_after s lines = fold form.added s lines
 
 module _ {S L : Type 0} (form : Form S L) (done : S → Bool) where
   -- texts are whole lines, and nothing follows the last line

@@ -20,7 +20,7 @@ impl Model for Play {
 
     ghost view = { λ a. a.gate };
 
-    ghost use Rattle.gate_cases.specs.Play.{IsPlay};
+    ghost use Rattle.gate_cases.specs.Inside.{IsPlay};
 
     ghost invariant = { IsPlay };
 }

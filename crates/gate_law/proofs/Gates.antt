@@ -11,8 +11,7 @@ use Rattle.desk_values.specs.declared.capture.Captured.{Captured}
 use Rattle.desk_values.specs.declared.capture.Event.{Event}
 use Rattle.desk_values.specs.declared.capture.Event.TheVariants.{Start, Answer}
 use Rattle.object_depends.specs.Required.{is_required}
-use Rattle.commit_gate.specs.Gates.{GateView, IsBefore, IsReady, new_gate}
-use Rattle.commit_gate.specs.Heads.{is_in}
+use Rattle.commit_gate.specs.Gates.{GateView, IsBefore, IsReady, is_in, new_gate}
 use Rattle.commit_gate.proofs.Keeping.{in_more, in_other, in_within}
 use Rattle.replay_history.specs.Gap.{IsCallAt, pause_of}
 use Rattle.history_laws.specs.Going.{MayGo}

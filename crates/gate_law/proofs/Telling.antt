@@ -7,8 +7,7 @@ use Rattle.desk_values.specs.declared.capture.Event.{Event}
 use Rattle.replay_history.specs.Gap.{IsCallAt}
 use Rattle.replay_history.specs.History.{AnswersAll, IsWaiting}
 use Rattle.object_depends.specs.Facts.{fact_at}
-use Rattle.commit_gate.specs.Gates.{AreAllAnswered, GateView, IsDoneOf, IsFirstOpen as IsFirstOpenIn, IsPick as IsPickIn, IsReady, NoneReady}
-use Rattle.commit_gate.specs.Heads.{is_in}
+use Rattle.commit_gate.specs.Gates.{AreAllAnswered, GateView, IsDoneOf, IsFirstOpen as IsFirstOpenIn, IsPick as IsPickIn, IsReady, NoneReady, is_in}
 use Rattle.replay_job.specs.Job.{JobView}
 use Rattle.replay_job.specs.Runs.{IsCallOf, IsDone, IsFirstOpen, IsPick, MayStart, NoneMayStart}
 use Rattle.history_laws.proofs.Items.{item_there}

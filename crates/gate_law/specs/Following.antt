@@ -2,8 +2,7 @@
 use Rattle.std.specs.Prelude.{◌≡◌, ◌↔◌, ℕ, ◌+◌, Bool, true, ◌&&◌, not, List, length, count_by}
 use Rattle.desk_values.specs.declared.capture.Event.{Event}
 use Rattle.replay_history.specs.History.{IsAnswered, IsStarted}
-use Rattle.commit_gate.specs.Gates.{GateView}
-use Rattle.commit_gate.specs.Heads.{is_in}
+use Rattle.commit_gate.specs.Gates.{GateView, is_in}
 use Rattle.replay_job.specs.Job.{IsReplayable, JobView}
 use Rattle.replay_job.specs.Runs.{IsLegalFor}
 

@@ -6,8 +6,7 @@ use Rattle.desk_values.specs.declared.capture.Event.{Event}
 use Rattle.desk_values.specs.declared.capture.Event.TheVariants.{Start, Answer}
 use Rattle.replay_history.specs.Gap.{IsCallAt}
 use Rattle.replay_history.specs.History.{AnswersAll, IsWaiting}
-use Rattle.commit_gate.specs.Gates.{AreAllAnswered, GateView, IsDoneOf, IsFirstOpen as IsFirstOpenIn, IsPick as IsPickIn, IsReady, NoneReady, new_gate}
-use Rattle.commit_gate.specs.Heads.{is_in}
+use Rattle.commit_gate.specs.Gates.{AreAllAnswered, GateView, IsDoneOf, IsFirstOpen as IsFirstOpenIn, IsPick as IsPickIn, IsReady, NoneReady, is_in, new_gate}
 use Rattle.replay_job.specs.Job.{IsReplayable, JobView}
 use Rattle.replay_job.specs.Runs.{IsDone, IsFirstOpen, IsPauseIn, IsPick, MayStart, NoneMayStart}
 use Rattle.gate_law.specs.Following.{IsGateOf}

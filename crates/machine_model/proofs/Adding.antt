@@ -11,7 +11,7 @@ use Rattle.sql_eval.specs.declared.faults.Faults.{Faults}
 use Rattle.sql_eval.specs.Faults.{divides, overflows, any_fault, joined, noted}
 use Rattle.machine_model.specs.declared.session.Session.{Session}
 use Rattle.machine_model.specs.declared.session.HeldKey.{HeldKey}
-use Rattle.machine_model.specs.Evaluation.{holds_key}
+use Rattle.machine_model.specs.Inside.Evaluation.{holds_key}
 use Rattle.machine_model.specs.Writes.{is_locked_key}
 use Rattle.desk_values.specs.declared.value.Image.{Image}
 use Rattle.sql_tree.specs.Plain.{Term}

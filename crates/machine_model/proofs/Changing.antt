@@ -6,13 +6,13 @@ use Rattle.desk_schema.specs.declared.schema.Column.{Column}
 use Rattle.sql_tree.specs.Plain.{Term, Change}
 use Rattle.machine_model.specs.declared.causes.Causes.{Causes}
 use Rattle.machine_model.specs.declared.session.Session.{Session}
-use Rattle.machine_model.specs.Evaluation.{replaced}
+use Rattle.machine_model.specs.Inside.Evaluation.{replaced}
 use Rattle.machine_model.specs.Found.{Environment, matches, matching}
 use Rattle.machine_model.specs.Rows.{row_key}
 use Rattle.machine_model.specs.View.{View, is_held}
 use Rattle.machine_model.specs.Writes.{any_value, exceeds, leaves, repeats_key, updated, violates_not_null}
 use Rattle.machine_model.specs.Answer.{update_causes}
-use Rattle.machine_model.specs.Parts.{meets_hold, update_first}
+use Rattle.machine_model.specs.Inside.Parts.{meets_hold, update_first}
 use Rattle.machine_model.proofs.Adding.{any_filtered}
 use Rattle.machine_model.proofs.Refusing.{first_of}
 

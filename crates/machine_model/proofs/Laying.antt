@@ -9,7 +9,8 @@ use Rattle.std.proofs.lemmas.List.Sums.{prefix_len_is}
 use Rattle.std.proofs.lemmas.Bool.{ltb-true, eqb-true, lt-ltb, le-ltb, eq-eqb, ne_eqb}
 use Rattle.std.proofs.lemmas.Bool.Decides.{nat_tests}
 use Rattle.desk_values.specs.declared.value.Image.{Image}
-use Rattle.machine_model.specs.Rows.{RisesFrom, IsRising, is_there, lay, lay_all, one, place, placed, shown}
+use Rattle.machine_model.specs.Rows.{RisesFrom, IsRising, is_there, lay, lay_all, one, placed, shown}
+use Rattle.machine_model.specs.Inside.Rows.{place}
 
 -- each row is at least what they rise from
 rises_above : (n : ℕ) (xs : List Image) → RisesFrom n xs → (j : ℕ) (d : Image) → j < length xs → n ≤ (get_or xs j d).row

@@ -5,7 +5,7 @@ use Rattle.std.specs.List.{filter}
 use denote.Ref.{Bor}
 use Rattle.desk_values.specs.declared.value.Image.{Image}
 use Rattle.machine_model.specs.Rows.{IsRising, RisesFrom, lay, lay_all, of_table, shown}
-use Rattle.machine_model.specs.View.{AreLatest}
+use Rattle.machine_model.specs.Inside.Rows.{AreLatest}
 use Rattle.sql_eval.specs.Totals.{looked_at}
 use Rattle.machine_model.proofs.Laying.{lay_below, lay_over, lay_between, lay_last, rises_less}
 

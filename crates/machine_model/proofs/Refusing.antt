@@ -8,7 +8,7 @@ use Rattle.machine_model.specs.declared.effect.Decision.{Decision}
 use Rattle.machine_model.specs.Causes.{no_cause, ranked}
 use Rattle.machine_model.specs.View.{View}
 use Rattle.machine_model.specs.Answer.{done, refused, ruled}
-use Rattle.machine_model.specs.Decision.{Decides}
+use Rattle.machine_model.specs.Inside.Decision.{Decides}
 
 -- ---- causes
 

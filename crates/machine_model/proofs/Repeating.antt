@@ -14,7 +14,7 @@ use Rattle.desk_values.specs.declared.value.Value.{Value}
 use Rattle.desk_values.specs.declared.value.Value.TheVariants.{Null, Int, Text, Row, Draw}
 use Rattle.desk_values.specs.Comparison.{same_key, text_order}
 use Rattle.machine_model.specs.Writes.{repeats_key}
-use Rattle.machine_model.specs.Repeats.{id_number, id_sequence, order_of_keys, same_neighbours}
+use Rattle.machine_model.specs.Inside.Repeats.{id_number, id_sequence, order_of_keys, same_neighbours}
 use Rattle.machine_model.proofs.Ordering.{InOrder, any_put, any_put_all, column_total, in_order_all, put, put_all, sorted_as, then_equal}
 
 pub keys_total : (level : ℕ) → IsTotalOrder (order_of_keys level)

@@ -4,8 +4,8 @@ use Rattle.std.proofs.lemmas.Bool.{eq-eqb, eqb-true, ne_eqb}
 use Rattle.std.proofs.Math.Seq.{map-set_same}
 use Rattle.std.proofs.lemmas.List.{get_or-map, length-map, map-append, map-set, reverse-append}
 use Rattle.desk_values.specs.declared.value.Image.{Image}
-use Rattle.machine_model.specs.Rows.{HaveRoom, Stock, lay, lay_all, lay_tables, of_table, placed, shown, stocked}
-use Rattle.machine_model.specs.View.{AreLatest}
+use Rattle.machine_model.specs.Rows.{lay, lay_all, of_table, placed, shown}
+use Rattle.machine_model.specs.Inside.Rows.{AreLatest, HaveRoom, Stock, lay_tables, stocked}
 use Rattle.machine_model.proofs.Laying.{lay_all_push}
 
 -- ---- the rows of a table at a place

@@ -21,16 +21,17 @@ use Rattle.machine_model.specs.declared.session.Session.{Session}
 use Rattle.desk_schema.specs.Start.{StartView}
 use Rattle.desk_schema.specs.File.{IsStart}
 use Rattle.machine_model.specs.State.{State, disconnected, opening, session_at}
-use Rattle.machine_model.specs.View.{AreLatest, View, plain_view, view_of}
-use Rattle.machine_model.specs.Rows.{lay_tables}
+use Rattle.machine_model.specs.View.{View, plain_view, view_of}
+use Rattle.machine_model.specs.Inside.Rows.{AreLatest, lay_tables}
 use Rattle.machine_model.specs.Causes.{statement_fault}
 use Rattle.machine_model.specs.Draws.{is_draw_of, moved}
 use Rattle.machine_model.specs.Request.{request_of, statement, table_in, unsound}
 use Rattle.machine_model.specs.Answer.{Answer, executed, reply_of, unless}
 use Rattle.machine_model.specs.Step.{after, after_made, answer_in, answer_to, committed_in, reply_in, step, view_for, with_commit}
-use Rattle.machine_model.specs.Decision.{Decides, Executes, done_so}
+use Rattle.machine_model.specs.Inside.Decision.{Decides, Executes, done_so}
 use Rattle.machine_model.specs.Sound.{IsSound}
-use Rattle.machine_model.specs.Machine.{Keeps, Running}
+use Rattle.machine_model.specs.Machine.{Running}
+use Rattle.machine_model.specs.Inside.Machine.{Keeps}
 use Rattle.machine_model.proofs.SoundSteps.{opening_sound, reply_shaped, step_sound}
 use Rattle.machine_model.proofs.Stocking.{latest_more, lay_nothing}
 

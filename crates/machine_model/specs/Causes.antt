@@ -4,7 +4,6 @@ use Rattle.desk_values.specs.declared.fault.Fault.{Fault}
 use Rattle.desk_values.specs.declared.fault.Fault.TheVariants.{UnknownService, Locked, DuplicateKey, NullValue, OutOfRange, TextTooLong, ZeroDivisor, Overflow, ReadOnly, NotConnected, AlreadyConnected, UnderWay, TooManyRows}
 use Rattle.desk_schema.specs.declared.schema.Rights.{Rights}
 use Rattle.desk_schema.specs.declared.schema.Rights.TheVariants as rights
-use Rattle.sql_eval.specs.declared.faults.Faults.{Faults}
 use Rattle.sql_tree.specs.Plain.{Plan, select, next, insert, update, delete, commit, rollback, set_read_only}
 use Rattle.machine_model.specs.declared.causes.Causes.{Causes}
 use Rattle.machine_model.specs.View.{View}
@@ -70,7 +69,3 @@ ranked causes =
 
 abbrev pub no_cause : Causes
 no_cause = record { divides = false; overflows = false; too_many = false; locked = false; null = false; too_long = false; out_of_range = false; duplicate = false }
-
--- those that go before all that holds and new images bring
-abbrev pub first_causes : Faults → Bool → Causes
-first_causes faults too_many = record no_cause { divides = faults.divides; overflows = faults.overflows; too_many = too_many }

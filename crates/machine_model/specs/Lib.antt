@@ -1,11 +1,8 @@
 pub mod Answer
 pub mod Causes
-pub mod Decision
 pub mod Draws
-pub mod Evaluation
 pub mod Found
 pub mod Machine
-pub mod Parts
 pub mod Request
 pub mod Rows
 pub mod Sound
@@ -13,4 +10,4 @@ pub mod State
 pub mod Step
 pub mod View
 pub mod Writes
-pub mod Repeats
+pub mod Inside

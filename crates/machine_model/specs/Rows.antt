@@ -1,6 +1,6 @@
 -- Images of rows, ascending by row: what a start, a commit or a session has of its rows, and how changes are laid over them.
-use Rattle.std.specs.Prelude.{ℕ, ◌+◌, ◌<◌, ◌≤◌, length, slice_index_or, Bool, nat_eq, nat_lt, if◌then◌else◌, List, [], ◌∷◌, ◌++◌, map, is_some}
-use Rattle.std.specs.List.{filter, prefix_len}
+use Rattle.std.specs.Prelude.{ℕ, ◌+◌, ◌≤◌, Bool, nat_eq, nat_lt, if◌then◌else◌, List, [], ◌∷◌, ◌++◌, map, is_some}
+use Rattle.std.specs.List.{filter}
 use Rattle.desk_values.specs.declared.value.Value.{Value}
 use Rattle.desk_values.specs.declared.value.Image.{Image}
 use Rattle.desk_schema.specs.Rules.{key_of}
@@ -26,10 +26,6 @@ row_numbers images = map (λ (image : Image). image.row) images
 -- the row is not gone
 abbrev pub is_there : Image → Bool
 is_there image = is_some image.left
-
--- how many images stand below the row
-abbrev pub place : ℕ → List Image → ℕ
-place row images = prefix_len (λ (image : Image). nat_lt image.row row) images
 
 -- ---- changes
 
@@ -63,22 +59,3 @@ lay_all rows (commit ∷ commits) = lay_all (lay rows commit) commits
 -- those of one table
 abbrev pub of_table : ℕ → List Image → List Image
 of_table table images = filter (λ (image : Image). nat_eq image.table table) images
-
--- ---- rows that are kept by table
-
--- the rows of a table, and for how many more there is room
-pub record Stock : Type 0 where
-  pub rows : List Image
-  pub room : ℕ
-
--- the rows of each table, these being the tables from this one on, with changes laid over them
-abbrev pub lay_tables : ℕ → List (List Image) → List Image → List (List Image)
-lay_tables table [] changes = []
-lay_tables table (rows ∷ others) changes = lay rows (of_table table changes) ∷ lay_tables (table + 1) others changes
-
-abbrev pub stocked : List Stock → List (List Image)
-stocked stocks = map (λ (stock : Stock). stock.rows) stocks
-
--- there is room for so many rows more in each
-abbrev pub HaveRoom : ℕ → List Stock → Type 0
-HaveRoom more stocks = (k : ℕ) (d : Stock) → k < length stocks → more ≤ (slice_index_or stocks k d).room

@@ -1,5 +1,5 @@
 -- What a call can depend on.
-use Rattle.std.specs.Prelude.{◌≡◌, ◌∷◌, ℕ, ◌+◌, Bool, nat_eq, if◌then◌else◌, List, [], ◌++◌, map, take, drop, Option, None, Some, is_some}
+use Rattle.std.specs.Prelude.{ℕ, ◌+◌, Bool, nat_eq, if◌then◌else◌, List, [], ◌++◌, map, take, drop, Option, None, Some, is_some}
 use Rattle.std.specs.List.{filter, filter_map, flat_map, list_any}
 use Rattle.desk_values.specs.declared.value.Value.{Value}
 use Rattle.desk_values.specs.declared.value.Image.{Image}
@@ -66,10 +66,3 @@ view_of state session None = plain_view (session_at state session)
 view_of state session (Some table) =
     let mine = session_at state session in
     with_table (plain_view mine) (others state.sessions session) table (rows_seen state.start.rows state.commits mine table)
-
--- ---- rows that are kept current
-
--- these are the rows of the tables from this one on, after all commits
-abbrev pub AreLatest : List Image → List (List Image) → ℕ → List (List Image) → Type 0
-AreLatest start commits table [] = Unit {0}
-AreLatest start commits table (rows ∷ others) = (rows ≡ lay_all (of_table table start) (map (of_table table) commits)) × AreLatest start commits (table + 1) others

@@ -1,7 +1,8 @@
 //! Why a statement is refused.
 
 ghost use Rattle.std.specs.Prelude.{◌≡◌};
-ghost use Rattle.machine_model.specs.Causes.{first_causes, no_cause, ranked};
+ghost use Rattle.machine_model.specs.Causes.{no_cause, ranked};
+ghost use Rattle.machine_model.specs.Inside.Parts.{first_causes};
 
 use desk_values::Fault;
 use sql_eval::Faults;

@@ -9,7 +9,7 @@ ghost use Rattle.machine_model.specs.Step.{committed_in};
 ghost use Rattle.machine_model.specs.View.{View};
 ghost use Rattle.machine_model.specs.Writes.{is_among};
 ghost use Rattle.machine_model.specs.Answer.{done, is_over, refused, too_many_rows};
-ghost use Rattle.machine_model.specs.Decision.{Decides};
+ghost use Rattle.machine_model.specs.Inside.Decision.{Decides};
 
 use crate::effect::{Decision, Deed, Effect};
 use crate::rows::Rows;

@@ -3,13 +3,13 @@
 ghost use Rattle.std.specs.Prelude.{◌≡◌, [], map, IfOk};
 ghost use Rattle.sql_tree.specs.Plain.{condition_of};
 ghost use Rattle.sql_eval.specs.Totals.{looked_at};
-ghost use Rattle.machine_model.specs.Evaluation.{env_of};
+ghost use Rattle.machine_model.specs.Inside.Evaluation.{env_of};
 ghost use Rattle.machine_model.specs.Causes.{ranked};
 ghost use Rattle.machine_model.specs.Rows.{row_key, row_numbers};
 ghost use Rattle.machine_model.specs.Writes.{gone};
 ghost use Rattle.machine_model.specs.Found.{matching};
 ghost use Rattle.machine_model.specs.Answer.{delete_causes, delete_effect, deletion, ruled};
-ghost use Rattle.machine_model.specs.Decision.{Decides, view_of_seen};
+ghost use Rattle.machine_model.specs.Inside.Decision.{Decides, view_of_seen};
 
 use crate::causes::Causes;
 use crate::deciding::{done, refusal, row_numbers, touch_too_many};

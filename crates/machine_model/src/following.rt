@@ -3,10 +3,10 @@
 ghost use Rattle.std.specs.Prelude.{◌≡◌, true, length, OnOk, OnErr};
 ghost use Rattle.machine_model.specs.State.{nothing};
 ghost use Rattle.machine_model.specs.View.{plain_view};
-ghost use Rattle.machine_model.specs.Rows.{lay_tables, stocked};
+ghost use Rattle.machine_model.specs.Inside.Rows.{lay_tables, stocked};
 ghost use Rattle.machine_model.specs.Writes.{holding};
 ghost use Rattle.machine_model.specs.Step.{snapshot_after, with_commit};
-ghost use Rattle.machine_model.specs.Decision.{committed_by, session_left};
+ghost use Rattle.machine_model.specs.Inside.Decision.{committed_by, session_left};
 
 use crate::effect::{Deed, Writing};
 use crate::holds::{hold_keys, hold_rows};

@@ -8,7 +8,7 @@ ghost use Rattle.sql_eval.specs.Faults.{any_fault, joined, noted};
 ghost use Rattle.sql_eval.specs.Value.{value_of};
 ghost use Rattle.sql_eval.specs.Totals.{looked_at, total_over, values_in};
 ghost use Rattle.machine_model.specs.Found.{is_true, matches, matching, sound, truth_in, value_in, values_for, where_faults};
-ghost use Rattle.machine_model.specs.Evaluation.{env_of};
+ghost use Rattle.machine_model.specs.Inside.Evaluation.{env_of};
 
 use crate::evaluation::Evaluation;
 use desk_values::{Fault, Image, List, Memory, Value, Values};

@@ -4,7 +4,7 @@ ghost use Rattle.std.specs.Prelude.{◌≡◌, ◌++◌, ◌∷◌, [], ◌||◌
 ghost use Rattle.std.specs.List.{list_any};
 ghost use Rattle.sql_eval.specs.Totals.{looked_at};
 ghost use Rattle.machine_model.specs.View.{holds_row, is_held};
-ghost use Rattle.machine_model.specs.Evaluation.{holds_key};
+ghost use Rattle.machine_model.specs.Inside.Evaluation.{holds_key};
 ghost use Rattle.machine_model.specs.Writes.{with_row, with_rows, with_key, with_keys, is_held_key};
 
 use crate::session::{HeldKey, Session};

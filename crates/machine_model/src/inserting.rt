@@ -6,12 +6,12 @@ ghost use Rattle.sql_tree.specs.Plain.{entry_of};
 ghost use Rattle.machine_model.specs.Rows.{row_key};
 ghost use Rattle.sql_eval.specs.Faults.{any_fault, noted};
 ghost use Rattle.sql_eval.specs.Totals.{looked_at};
-ghost use Rattle.machine_model.specs.Evaluation.{env_of};
+ghost use Rattle.machine_model.specs.Inside.Evaluation.{env_of};
 ghost use Rattle.machine_model.specs.Causes.{ranked};
 ghost use Rattle.machine_model.specs.Found.{sound};
 ghost use Rattle.machine_model.specs.Writes.{column_value, input_place, input_value, inputs_for, repeats_key, row_values};
 ghost use Rattle.machine_model.specs.Answer.{insert_causes, insert_effect, new_causes, new_row, ruled};
-ghost use Rattle.machine_model.specs.Decision.{Decides, view_of_seen};
+ghost use Rattle.machine_model.specs.Inside.Decision.{Decides, view_of_seen};
 
 use crate::causes::Causes;
 use crate::deciding::{done, is_full, refusal};

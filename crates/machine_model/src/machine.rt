@@ -11,9 +11,9 @@ ghost use Rattle.machine_model.specs.View.{others, plain_view, rows_seen, view_o
 ghost use Rattle.machine_model.specs.Request.{connect as connect_request, disconnect as disconnect_request, read, request_of, statement as statement_request, unsound};
 ghost use Rattle.machine_model.specs.Answer.{answer, reply_of};
 ghost use Rattle.machine_model.specs.Step.{Gives, after, after_made, answer_in, answer_to, committed_in, view_for};
-ghost use Rattle.machine_model.specs.Decision.{Decides, Executes, committed_by, done_so, view_of_seen};
+ghost use Rattle.machine_model.specs.Inside.Decision.{Decides, Executes, committed_by, done_so, view_of_seen};
 ghost use Rattle.desk_values.specs.Good.{IsGoodReply};
-ghost use Rattle.machine_model.specs.Evaluation.{env_of};
+ghost use Rattle.machine_model.specs.Inside.Evaluation.{env_of};
 ghost use Rattle.machine_model.specs.Sound.{AreStanding, IsSound};
 ghost use Rattle.machine_model.specs.Rows.{IsRising, lay_all};
 
@@ -78,8 +78,9 @@ pub struct PlainMachine {
 impl Model for PlainMachine {
     ghost use Rattle.std.specs.Prelude.{◌≡◌, []};
     ghost use Rattle.desk_values.specs.declared.value.Value.TheVariants.{Null as NoValue};
-    ghost use Rattle.machine_model.specs.Rows.{stocked};
-    ghost use Rattle.machine_model.specs.Machine.{Running, Keeps};
+    ghost use Rattle.machine_model.specs.Inside.Rows.{stocked};
+    ghost use Rattle.machine_model.specs.Machine.{Running};
+    ghost use Rattle.machine_model.specs.Inside.Machine.{Keeps};
 
     ghost Value = { Running };
 

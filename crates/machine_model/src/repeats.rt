@@ -6,7 +6,7 @@ ghost use Rattle.desk_values.specs.declared.value.Value.{Value as AnyValue};
 ghost use Rattle.sql_eval.specs.Totals.{looked_at};
 ghost use Rattle.machine_model.specs.Rows.{row_key};
 ghost use Rattle.machine_model.specs.Writes.{repeats_key};
-ghost use Rattle.machine_model.specs.Repeats.{id_number, id_sequence, order_of_keys, same_neighbours};
+ghost use Rattle.machine_model.specs.Inside.Repeats.{id_number, id_sequence, order_of_keys, same_neighbours};
 
 use crate::evaluation::Evaluation;
 use crate::images::row_key;

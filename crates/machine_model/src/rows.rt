@@ -2,7 +2,8 @@
 
 ghost use Rattle.std.specs.Prelude.{◌≡◌, ◌+◌, ◌<◌, ◌≤◌, ◌++◌, ◌∷◌, [], length, map, vec_len, IfOk, IfSome, OnOk, OnErr, IsOk, false};
 ghost use Rattle.std.specs.Vec.{vec_capacity};
-ghost use Rattle.machine_model.specs.Rows.{IsRising, is_there, lay, noted, of_table, one, place, placed, shown};
+ghost use Rattle.machine_model.specs.Rows.{IsRising, is_there, lay, noted, of_table, one, placed, shown};
+ghost use Rattle.machine_model.specs.Inside.Rows.{place};
 
 use desk_values::{Copied, Image, List, Memory};
 use std::alloc::Global;
@@ -221,7 +222,8 @@ pub struct TableRows {
 impl Model for TableRows {
     ghost use Rattle.std.specs.Prelude.{◌-◌, vec_len};
     ghost use Rattle.std.specs.Vec.{vec_capacity};
-    ghost use Rattle.machine_model.specs.Rows.{IsRising, Stock};
+    ghost use Rattle.machine_model.specs.Rows.{IsRising};
+    ghost use Rattle.machine_model.specs.Inside.Rows.{Stock};
 
     ghost Value = { Stock };
 

@@ -1,9 +1,10 @@
 //! The rows of a table as a session sees them; no row is copied.
 
 ghost use Rattle.std.specs.Prelude.{◌≡◌, ◌++◌, map, IfOk, OnOk};
-ghost use Rattle.machine_model.specs.Rows.{IsRising, lay, lay_all, of_table, shown, stocked};
+ghost use Rattle.machine_model.specs.Rows.{IsRising, lay, lay_all, of_table, shown};
+ghost use Rattle.machine_model.specs.Inside.Rows.{AreLatest, stocked};
 ghost use Rattle.sql_eval.specs.Totals.{looked_at};
-ghost use Rattle.machine_model.specs.View.{AreLatest, commits_seen, rows_seen};
+ghost use Rattle.machine_model.specs.View.{commits_seen, rows_seen};
 
 use crate::rows::{Rows, TableRows};
 use crate::session::Session;

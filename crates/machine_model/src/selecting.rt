@@ -5,12 +5,12 @@ ghost use Rattle.std.specs.List.{list_any};
 ghost use Rattle.sql_tree.specs.Plain.{asked_of, condition_of, term_of, total_of};
 ghost use Rattle.sql_eval.specs.Totals.{looked_at, values_in};
 ghost use Rattle.sql_eval.specs.Faults.{any_fault};
-ghost use Rattle.machine_model.specs.Evaluation.{env_of};
+ghost use Rattle.machine_model.specs.Inside.Evaluation.{env_of};
 ghost use Rattle.machine_model.specs.Causes.{ranked};
 ghost use Rattle.machine_model.specs.Found.{matching, row_faults, values_for};
 ghost use Rattle.machine_model.specs.Answer.{are_totals, asked_faults, is_over, ruled, select_causes, select_effect, select_rows, selection, total_in, totals_in};
 ghost use Rattle.machine_model.specs.View.{is_held};
-ghost use Rattle.machine_model.specs.Decision.{Decides, view_of_seen};
+ghost use Rattle.machine_model.specs.Inside.Decision.{Decides, view_of_seen};
 
 use crate::causes::Causes;
 use crate::deciding::{ROW_LIMIT, done, refusal, row_numbers};

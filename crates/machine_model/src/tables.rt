@@ -2,8 +2,8 @@
 
 ghost use Rattle.std.specs.Prelude.{◌≡◌, ℕ, ◌+◌, List, [], ◌∷◌, vec_len, IfOk, OnOk, OnErr};
 ghost use Rattle.desk_values.specs.declared.value.Image.{Image as AnyImage};
-ghost use Rattle.machine_model.specs.Rows.{HaveRoom, IsRising, lay_tables, stocked};
-ghost use Rattle.machine_model.specs.View.{AreLatest};
+ghost use Rattle.machine_model.specs.Rows.{IsRising};
+ghost use Rattle.machine_model.specs.Inside.Rows.{AreLatest, HaveRoom, lay_tables, stocked};
 
 use crate::rows::TableRows;
 use desk_values::{Image, Memory};

@@ -4,15 +4,15 @@ ghost use Rattle.std.specs.Prelude.{◌≡◌, ◌∷◌, ◌++◌, ◌||◌, []
 ghost use Rattle.sql_tree.specs.Plain.{change_of, condition_of};
 ghost use Rattle.sql_eval.specs.Faults.{any_fault, joined};
 ghost use Rattle.sql_eval.specs.Totals.{looked_at};
-ghost use Rattle.machine_model.specs.Evaluation.{env_of, replaced};
+ghost use Rattle.machine_model.specs.Inside.Evaluation.{env_of, replaced};
 ghost use Rattle.desk_values.specs.declared.call.Outcome.TheVariants.{Count};
 ghost use Rattle.machine_model.specs.Causes.{ranked};
-ghost use Rattle.machine_model.specs.Parts.{meets_hold, update_first};
+ghost use Rattle.machine_model.specs.Inside.Parts.{meets_hold, update_first};
 ghost use Rattle.machine_model.specs.Found.{matches, matching, row_faults, value_in};
 ghost use Rattle.machine_model.specs.Rows.{row_key, row_numbers};
 ghost use Rattle.machine_model.specs.Writes.{keys_moved, moved_keys, repeats_key, sources, updated};
 ghost use Rattle.machine_model.specs.Answer.{meets_lock, ruled, update_causes, update_effect};
-ghost use Rattle.machine_model.specs.Decision.{Decides, view_of_seen};
+ghost use Rattle.machine_model.specs.Inside.Decision.{Decides, view_of_seen};
 
 use crate::causes::Causes;
 use crate::deciding::{done, refusal, row_numbers, touch_too_many};

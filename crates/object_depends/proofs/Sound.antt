@@ -9,7 +9,7 @@ use Rattle.replay_history.specs.declared.mode.Mode.TheVariants.{Off, Scn, Object
 use Rattle.object_depends.specs.declared.fact.Fact.{Fact}
 use Rattle.object_depends.specs.Facts.{fact_at, no_fact, is_commit, commits_below, AreSound}
 use Rattle.object_depends.specs.Required.{has_seen, is_required, required, shares_table, stamps_where}
-use Rattle.object_depends.specs.Tallies.{awaits, awaited, WaitAlike}
+use Rattle.object_depends.specs.Inside.{awaits, awaited, WaitAlike}
 
 commits_rise : (facts : List Fact) (i k : ℕ) → i ≤ k → commits_below facts i ≤ commits_below facts k
 commits_rise facts i k le = rw (take-take i k facts le) at (sum_by-take-le (λ x. cond (is_commit x) 1 0) (take k facts) i)

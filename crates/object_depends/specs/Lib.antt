@@ -3,3 +3,4 @@ pub mod Required
 pub mod Tallies
 pub mod Csv
 pub mod NeedsView
+pub mod Inside

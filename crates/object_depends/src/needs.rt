@@ -19,7 +19,7 @@ pub struct Needs {
 impl Model for Needs {
     ghost use Rattle.std.specs.Prelude.{◌≡◌, ◌≤◌, length};
     ghost use Rattle.object_depends.specs.NeedsView.{NeedsView};
-    ghost use Rattle.object_depends.specs.Tallies.{AreTallies};
+    ghost use Rattle.object_depends.specs.Inside.{AreTallies};
 
     ghost Value = { NeedsView };
 

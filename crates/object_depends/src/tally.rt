@@ -7,7 +7,8 @@
 ghost use Rattle.std.specs.Prelude.{◌≡◌, ◌+◌, ◌++◌, ◌∷◌, [], ◌<◌, ◌≤◌, ℕ, List, length, vec_len, IfOk, IfSome, IsTrue, OnOk, Some};
 ghost use Rattle.object_depends.specs.Facts.{fact_at, AreSound};
 ghost use Rattle.object_depends.specs.Required.{is_required, required, stamps_where};
-ghost use Rattle.object_depends.specs.Tallies.{AreTallied, AreTallies, WaitAlike, awaited, awaits, group_at, tally_of};
+ghost use Rattle.object_depends.specs.Tallies.{tally_of};
+ghost use Rattle.object_depends.specs.Inside.{AreTallied, AreTallies, WaitAlike, awaited, awaits, group_at};
 
 use crate::fact::{Fact, are_sound, is_commit, shares_table};
 use desk_values::Memory;

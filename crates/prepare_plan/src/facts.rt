@@ -10,7 +10,7 @@ ghost use Rattle.sql_reader.specs.Reading.{statement_of};
 ghost use Rattle.capture_verdict.specs.Facts.{facts_of, fact_of, refs_of, refs_of_call, only_table, refs_of_statement, tables_of_images, writes_of};
 ghost use Rattle.std.specs.Prelude.{Some};
 ghost use Rattle.desk_schema.specs.Schema.{place_ignoring_case, table_names};
-ghost use Rattle.capture_verdict.specs.Fit.{IsFit};
+ghost use Rattle.capture_verdict.specs.Inside.{IsFit};
 
 use crate::recorded::is_numbered;
 use desk_schema::Schema;

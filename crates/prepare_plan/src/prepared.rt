@@ -6,7 +6,7 @@ ghost use Rattle.capture_laws.specs.Sessions.{AreSessionsFrom};
 ghost use Rattle.prepare_plan.specs.Lists.{lists_of};
 ghost use Rattle.capture_verdict.specs.Verdict.{verdict, verdict_of, fault_of, IsLegal};
 ghost use Rattle.prepare_plan.specs.Answered.{plan_seen, refusal_told};
-ghost use Rattle.capture_verdict.specs.Fit.{IsFit};
+ghost use Rattle.capture_verdict.specs.Inside.{IsFit};
 ghost use Rattle.prepare_plan.specs.Inside.{passed, told};
 
 use crate::facts::facts_of;

@@ -6,7 +6,7 @@ ghost use Rattle.desk_values.specs.Answers.{Answers};
 ghost use Rattle.desk_values.specs.declared.capture.Captured.{Captured as Call};
 ghost use Rattle.replay_history.specs.Capture.{commits};
 ghost use Rattle.capture_verdict.specs.Tests.{bad_number, bad_seen, bad_times, commits_in, first_refused, right_number};
-ghost use Rattle.capture_verdict.specs.Fit.{IsFit};
+ghost use Rattle.capture_verdict.specs.Inside.{IsFit};
 ghost use Rattle.prepare_plan.specs.Inside.{passed, told};
 
 use capture_verdict::Refusal;

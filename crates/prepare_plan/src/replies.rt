@@ -5,7 +5,7 @@ ghost use Rattle.std.specs.List.{AllByRecursion};
 ghost use Rattle.desk_values.specs.Answers.{Answers};
 ghost use Rattle.capture_laws.specs.Same.{same_reply};
 ghost use Rattle.capture_verdict.specs.Tests.{bad_reply, first_refused};
-ghost use Rattle.capture_verdict.specs.Fit.{IsFit};
+ghost use Rattle.capture_verdict.specs.Inside.{IsFit};
 ghost use Rattle.prepare_plan.specs.Inside.{passed, told};
 
 use capture_verdict::Refusal;

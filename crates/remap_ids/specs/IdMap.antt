@@ -8,11 +8,6 @@ use Rattle.id_pairs.specs.declared.Id.{Id}
 use Rattle.id_pairs.specs.Ids.{id_of}
 use Rattle.id_pairs.specs.Pairs.{IdPair, all_new}
 
--- pairs in the order in which they came, and how many more there is room for
-pub record PairsView : Type 0 where
-  pub pairs : List IdPair
-  pub spare : ℕ
-
 pub record IdMapView : Type 0 where
   -- in the order in which they were learnt
   pub pairs : List IdPair

@@ -2,3 +2,4 @@ pub mod Services
 pub mod IdMap
 pub mod Sent
 pub mod MapsText
+pub mod Inside

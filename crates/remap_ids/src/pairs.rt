@@ -19,7 +19,7 @@ impl Model for Pairs {
     ghost use Rattle.id_pairs.specs.Pairs.{IsIdMap};
     ghost use Rattle.indexmap.specs.IndexMap.{spare};
     ghost use Rattle.indexmap.specs.IndexSet.{spare as spare_of_set};
-    ghost use Rattle.remap_ids.specs.IdMap.{PairsView};
+    ghost use Rattle.remap_ids.specs.Inside.{PairsView};
 
     ghost Value = { PairsView };
 

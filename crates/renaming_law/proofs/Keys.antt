@@ -16,7 +16,7 @@ use Rattle.sql_eval.specs.Totals.{values_in}
 use Rattle.sql_eval.proofs.Moved.{moved_any}
 use Rattle.machine_model.specs.Rows.{row_key}
 use Rattle.machine_model.specs.Writes.{is_locked_key, repeats_key}
-use Rattle.machine_model.specs.Repeats.{order_of_keys}
+use Rattle.machine_model.specs.Inside.Repeats.{order_of_keys}
 use Rattle.machine_model.proofs.Ordering.{then_equal}
 use Rattle.machine_model.proofs.Repeating.{keys_total}
 use Rattle.id_pairs.specs.Pairs.{HasNoIdTwice, IdPair}

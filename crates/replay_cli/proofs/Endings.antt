@@ -18,8 +18,9 @@ use Rattle.replay_cli.specs.Lines.{done_status, refusal_status}
 use Rattle.replay_cli.specs.Command.{command_of}
 use Rattle.replay_cli.specs.Decision.{Decides, Task, Verdict, VerdictOf}
 use Rattle.replay_cli.specs.Done.{IsDone}
-use Rattle.replay_cli.specs.Steps.{Step, Stops}
-use Rattle.replay_cli.specs.Ending.{Causes, Ends, EndsSo, IsOutside, LeftOver, Reports, RunFaults, RunSays, status_of, line_of}
+use Rattle.replay_cli.specs.Inside.Steps.{Step, Stops}
+use Rattle.replay_cli.specs.Ending.{Causes, Ends, EndsSo, IsOutside, Reports, status_of, line_of}
+use Rattle.replay_cli.specs.Inside.Ending.{LeftOver, RunFaults, RunSays}
 use Rattle.replay_cli.proofs.StepLaws.{told, told_both, told_at, some_and}
 use Rattle.replay_cli.proofs.Unique.{verdict_one}
 

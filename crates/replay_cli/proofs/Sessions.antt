@@ -19,7 +19,7 @@ use Rattle.replay_cli.specs.declared.failure.Failure.{Failure}
 use Rattle.replay_cli.specs.declared.failure.Failure.TheVariants.{BadCommand, Refused, DeviceFault, OutOfMemory}
 use Rattle.replay_cli.specs.Decision.{SessionOf}
 use Rattle.replay_cli.specs.Done.{session_files}
-use Rattle.replay_cli.specs.Steps.{FaultFree}
+use Rattle.replay_cli.specs.Inside.Steps.{FaultFree}
 use Rattle.replay_cli.specs.Words.{in_three_digits, session_name, session_names}
 
 -- the first bad line of a session's file

@@ -7,7 +7,8 @@ use Rattle.desk_files.specs.Outside.{FileMap, Told}
 use Rattle.replay_cli.specs.declared.failure.Refusal.{Refusal}
 use Rattle.replay_cli.specs.declared.failure.Failure.{Failure}
 use Rattle.replay_cli.specs.declared.failure.Failure.TheVariants.{BadCommand, Refused, DeviceFault, OutOfMemory}
-use Rattle.replay_cli.specs.Steps.{Answered, Faults, FailedAt, FaultFree, Step, Stops, Is, Reading, Then, file_in}
+use Rattle.replay_cli.specs.Steps.{Is, Reading, Then, file_in}
+use Rattle.replay_cli.specs.Inside.Steps.{Answered, Faults, FailedAt, FaultFree, Step, Stops}
 
 -- ---- what is told
 

@@ -6,7 +6,8 @@ use Rattle.replay_cli.specs.declared.failure.Failure.{Failure}
 use Rattle.replay_cli.specs.declared.failure.Refusal.{Refusal}
 use Rattle.replay_cli.specs.declared.options.Ways.{Ways}
 use Rattle.replay_cli.specs.Decision.{LegalOf, PrepareIn, Read, ReadIn, RemapIn, RunIn, Task, ToReplay, ToTell, job_of}
-use Rattle.replay_cli.specs.Steps.{Answered, FaultFree, Is, Step, Then}
+use Rattle.replay_cli.specs.Steps.{Is, Then}
+use Rattle.replay_cli.specs.Inside.Steps.{Answered, FaultFree, Step}
 use Rattle.replay_cli.proofs.StepLaws.{step_pure, step_stops, step_then}
 
 module _ (capture out : List ℕ) (read : Read) (c0 c1 : Option FileMap) (f0 f1 : ℕ) (reads : Step (λ files. ReadIn files capture) c0 c1 f0 f1 (Ok read)) where

@@ -1,13 +1,13 @@
 -- Which words are a command.
-use Rattle.std.specs.Prelude.{ℕ, ◌≤◌, ◌&&◌, nat_le, if◌then◌else◌, List, [], ◌∷◌, length, codes, Option, None, Some}
+use Rattle.std.specs.Prelude.{ℕ, ◌&&◌, nat_le, if◌then◌else◌, List, [], ◌∷◌, codes, Option, None, Some}
 use Rattle.std.specs.Option.{option_map}
 use Rattle.std.specs.Str.{bytes_eq}
 use Rattle.desk_values.specs.Reading.{number_of}
 use Rattle.replay_cli.specs.declared.words.Command.{Command}
 use Rattle.replay_cli.specs.declared.words.Command.TheVariants.{Run, Prepare, Generate, Trial}
-use Rattle.replay_cli.specs.Options.{HasWays, ways_of}
+use Rattle.replay_cli.specs.Options.{ways_of}
 use Rattle.replay_cli.specs.Path.{is_path}
-use Rattle.replay_cli.specs.declared.words.TheConstants.{GENERATED_LIMIT, PATH_LIMIT}
+use Rattle.replay_cli.specs.declared.words.TheConstants.{GENERATED_LIMIT}
 
 abbrev pub within_limits : Option ℕ → Option ℕ
 within_limits None = None
@@ -46,13 +46,3 @@ command_with word others =
 abbrev pub command_of : List (List ℕ) → Option Command
 command_of [] = None
 command_of (word ∷ others) = command_with word others
-
-abbrev pub IsCallCount : ℕ → Type 0
-IsCallCount n = (1 ≤ n) × (n ≤ GENERATED_LIMIT)
-
--- the folders that a command names are short, and its numbers within their limits
-abbrev pub IsWithinLimits : Command → Type 0
-IsWithinLimits (Run capture out ways) = (length capture ≤ PATH_LIMIT) × (length out ≤ PATH_LIMIT) × HasWays ways
-IsWithinLimits (Prepare capture out) = (length capture ≤ PATH_LIMIT) × (length out ≤ PATH_LIMIT)
-IsWithinLimits (Generate n out) = IsCallCount n × (length out ≤ PATH_LIMIT)
-IsWithinLimits (Trial n) = IsCallCount n

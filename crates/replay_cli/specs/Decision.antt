@@ -147,11 +147,6 @@ MayRefuse command (Refused refusal) = MayBeRefused command refusal
 MayRefuse command DeviceFault = Unit {0}
 MayRefuse command OutOfMemory = Unit {0}
 
--- the failure tells of no remap file
-abbrev pub IsOfCapture : Failure → Type 0
-IsOfCapture (Refused (BadRemap n)) = ⊥
-IsOfCapture other = Unit {0}
-
 -- a refusal as the failure that it is
 abbrev pub Failing : {X : Type 0} → (Result X Refusal → Type 0) → Result X Failure → Type 0
 Failing want (Ok x) = want (Ok x)

@@ -1,5 +1,5 @@
 -- What each task comes to: its files and its line.
-use Rattle.std.specs.Prelude.{◌≡◌, ℕ, ◌≤◌, ◌+◌, false, nat_lt, List, [], ◌∷◌, ◌++◌, length}
+use Rattle.std.specs.Prelude.{◌≡◌, ℕ, ◌+◌, false, nat_lt, List, [], ◌∷◌, ◌++◌, length}
 use Rattle.desk_values.specs.declared.capture.Captured.{Captured}
 use Rattle.desk_values.specs.declared.capture.Event.{Event}
 use Rattle.desk_files.specs.declared.writes.Write.{Write}
@@ -10,28 +10,20 @@ use Rattle.replay_history.specs.Capture.{commits_before}
 use Rattle.replay_history.specs.Texts.{journal_text, report_text, tables_text}
 use Rattle.object_depends.specs.Csv.{requires_text}
 use Rattle.remap_ids.specs.MapsText.{maps_text}
-use Rattle.replay_job.specs.Job.{JobView, seen}
+use Rattle.replay_job.specs.Job.{JobView}
 use Rattle.replay_job.specs.Runs.{Stage, end_tables, learnt_in}
-use Rattle.replay_job.specs.Replays.{IsSoundJob, IsToldReplay}
+use Rattle.replay_job.specs.Replays.{IsToldReplay}
 use Rattle.replay_report.specs.Report.{report_in}
 use Rattle.replay_report.specs.Differences.{csv_text}
 use Rattle.capture_recorder.specs.Generated.{generated}
 use Rattle.capture_laws.specs.Sessions.{session_lists}
-use Rattle.prepare_plan.specs.Lists.{lists_of}
-use Rattle.replay_cli.specs.declared.capture.Legal.{Legal as Loaded}
-use Rattle.replay_cli.specs.declared.capture.Read.{Read as ReadFiles}
-use Rattle.replay_cli.specs.declared.work.Work.{Work}
-use Rattle.replay_cli.specs.declared.work.Work.TheVariants.{Replaying, Telling, Making, Trying}
 use Rattle.replay_cli.specs.declared.plan.Plan.{Plan}
 use Rattle.replay_cli.specs.declared.words.Command.{Command}
 use Rattle.replay_cli.specs.declared.words.Command.TheVariants.{Run, Prepare, Generate, Trial}
-use Rattle.replay_cli.specs.Command.{IsCallCount}
-use Rattle.replay_cli.specs.Decision.{Legal, Read, Task, ToReplay, ToTell, ToMake, ToTry}
+use Rattle.replay_cli.specs.Decision.{Task, ToReplay, ToTell, ToMake, ToTry}
 use Rattle.replay_cli.specs.Lines.{generated_line, prepared_line, replayed_line, trial_line}
 use Rattle.job_laws.specs.Jobs.{IsTrial}
 use Rattle.replay_cli.specs.Words.{journal_name, maps_name, report_name, requires_name, session_name, start_name, table_of_report_name, tables_name}
-use Rattle.replay_cli.specs.declared.words.TheConstants.{PATH_LIMIT}
-use Rattle.replay_history.specs.declared.limits.TheConstants.{CALL_LIMIT}
 
 abbrev pub all_commits : List Captured → ℕ
 all_commits calls = commits_before calls (length calls)
@@ -93,37 +85,7 @@ IsDone (ToTry n) plan =
     (plan.line ≡ trial_line n (length (made_calls n)) (all_commits (made_calls n)))
     × IsTried (made_start n) (made_calls n) × IsQuiet plan × (plan.writes ≡ [])
 
--- the files of a capture as contracts see them
-abbrev pub read_of : ReadFiles → Read
-read_of read = record { start = read.start; sessions = lists_of read.sessions }
-
--- a legal capture as contracts see it
-abbrev pub legal_of : Loaded → Legal
-legal_of loaded = record { start = loaded.start; calls = loaded.calls.items; facts = loaded.facts }
-
--- what the work is of which the code holds this
-abbrev pub task_of : Work → Task
-task_of (Replaying out job) = ToReplay out (seen job)
-task_of (Telling out facts) = ToTell out facts
-task_of (Making n out) = ToMake n out
-task_of (Trying n) = ToTry n
-
--- what the code holds is within the limits, and a job can be replayed
-abbrev pub IsWork : Work → Type 0
-IsWork (Replaying out job) = (length out ≤ PATH_LIMIT) × IsSoundJob (seen job)
-IsWork (Telling out facts) = (length out ≤ PATH_LIMIT) × (length facts ≤ CALL_LIMIT)
-IsWork (Making n out) = IsCallCount n × (length out ≤ PATH_LIMIT)
-IsWork (Trying n) = IsCallCount n
-
 -- ---- by the words alone
-
--- the task is one of this command, with its number
-abbrev pub IsTaskOf : Command → Task → Type 0
-IsTaskOf (Run capture out ways) (ToReplay folder job) = Unit {0}
-IsTaskOf (Prepare capture out) (ToTell folder facts) = Unit {0}
-IsTaskOf (Generate n out) (ToMake calls folder) = calls ≡ n
-IsTaskOf (Trial n) (ToTry calls) = calls ≡ n
-IsTaskOf command other = ⊥
 
 -- a line that the command prints where its work is done; a run may find calls that differ
 abbrev pub IsLineOf : Command → Plan → Type 0

@@ -3,7 +3,7 @@ use Rattle.std.specs.Prelude.{◌≡◌, ℕ, ◌≤◌, ◌⊎◌, List, Option
 use Rattle.desk_files.specs.Outside.{Appends, AppendsPart, FileMap, HasRisen}
 use Rattle.desk_files.specs.Writes.{CutShort, WrittenSoFar, with_all}
 use Rattle.replay_cli.specs.declared.failure.Failure.{Failure}
-use Rattle.replay_cli.specs.declared.failure.Failure.TheVariants.{BadCommand, Refused, DeviceFault, OutOfMemory}
+use Rattle.replay_cli.specs.declared.failure.Failure.TheVariants.{BadCommand, DeviceFault, OutOfMemory}
 use Rattle.replay_cli.specs.declared.plan.Plan.{Plan}
 use Rattle.replay_cli.specs.Command.{command_of}
 use Rattle.replay_cli.specs.declared.words.Command.{Command}
@@ -21,26 +21,6 @@ WrittenInPart plan before after faults_before faults_after =
 -- what is left of a task that was not done, or not told
 abbrev pub LeftOf : Task → FileMap → FileMap → ℕ → ℕ → Type 0
 LeftOf task before after faults_before faults_after = (after ≡ before) ⊎ ((plan : Plan) × IsDone task plan × WrittenInPart plan before after faults_before faults_after)
-
--- the same, whatever the task is
-abbrev pub LeftOver : (Result Task Failure → Type 0) → FileMap → FileMap → ℕ → ℕ → Type 0
-LeftOver wanted before after fb fa = (after ≡ before) ⊎ ((task : Task) × wanted (Ok task) × LeftOf task before after fb fa)
-
--- what doing the work answers
-abbrev pub RunSays : (Result Task Failure → Type 0) → FileMap → FileMap → ℕ → ℕ → Result Plan Failure → Type 0
-RunSays wanted before after fb fa (Ok plan) = (task : Task) × wanted (Ok task) × IsDone task plan × (after ≡ with_all plan.writes before)
-RunSays wanted before after fb fa (Err BadCommand) = wanted (Err BadCommand) × (after ≡ before)
-RunSays wanted before after fb fa (Err (Refused refusal)) = wanted (Err (Refused refusal)) × (after ≡ before)
-RunSays wanted before after fb fa (Err DeviceFault) = LeftOver wanted before after fb fa
-RunSays wanted before after fb fa (Err OutOfMemory) = LeftOver wanted before after fb fa
-
--- how the count of faults moves in it
-abbrev pub RunFaults : Result Plan Failure → ℕ → ℕ → Type 0
-RunFaults (Ok plan) before after = after ≡ before
-RunFaults (Err BadCommand) before after = after ≡ before
-RunFaults (Err (Refused refusal)) before after = after ≡ before
-RunFaults (Err DeviceFault) before after = HasRisen before after × (before ≤ after)
-RunFaults (Err OutOfMemory) before after = after ≡ before
 
 -- ---- the line and the status
 

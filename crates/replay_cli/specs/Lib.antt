@@ -7,3 +7,4 @@ pub mod Lines
 pub mod Decision
 pub mod Done
 pub mod Ending
+pub mod Inside

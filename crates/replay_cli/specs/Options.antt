@@ -1,5 +1,5 @@
 -- The options of a run.
-use Rattle.std.specs.Prelude.{ℕ, ◌≤◌, nat_le, if◌then◌else◌, List, [], ◌∷◌, codes, Option, None, Some, IfSome}
+use Rattle.std.specs.Prelude.{ℕ, nat_le, if◌then◌else◌, List, [], ◌∷◌, codes, Option, None, Some}
 use Rattle.std.specs.Option.{option_map, option_and_then, unwrap_or}
 use Rattle.std.specs.Str.{bytes_eq}
 use Rattle.desk_values.specs.Reading.{number_of}
@@ -73,13 +73,3 @@ whole options = record { mode = unwrap_or options.mode Order; think = unwrap_or 
 
 abbrev pub ways_of : List (List ℕ) → Option Ways
 ways_of words = option_map whole (options_from no_options words)
-
--- ---- limits
-
-pub record HasLimits (options : Options) : Type 0 where
-  pub think : IfSome options.think (λ percent. percent ≤ PERCENT_LIMIT)
-  pub connect : IfSome options.connect (λ percent. percent ≤ PERCENT_LIMIT)
-
-pub record HasWays (ways : Ways) : Type 0 where
-  pub think : ways.think ≤ PERCENT_LIMIT
-  pub connect : ways.connect ≤ PERCENT_LIMIT

@@ -3,10 +3,11 @@
 ghost use Rattle.std.specs.Prelude.{◌≡◌, ◌≤◌, length, IfErr, IfOk};
 ghost use Rattle.desk_files.specs.Outside.{Told};
 ghost use Rattle.replay_job.specs.Job.{AreKnownOf, HasMoments};
-ghost use Rattle.replay_cli.specs.Decision.{IsOfCapture, LegalOf, OpenedIn, ReadIn, SessionOf};
-ghost use Rattle.replay_cli.specs.Done.{legal_of, read_of};
+ghost use Rattle.replay_cli.specs.Decision.{LegalOf, OpenedIn, ReadIn, SessionOf};
+ghost use Rattle.replay_cli.specs.Inside.Steps.{Answered, FaultFree, IsOfCapture, Step, seen_as};
+ghost use Rattle.replay_cli.specs.Inside.Work.{legal_of, read_of};
 ghost use Rattle.capture_verdict.specs.Verdict.{IsLegal};
-ghost use Rattle.replay_cli.specs.Steps.{Answered, FaultFree, Step, Reading, seen_as};
+ghost use Rattle.replay_cli.specs.Steps.{Reading};
 ghost use Rattle.replay_cli.specs.Words.{session_names};
 ghost use Rattle.capture_laws.specs.Sessions.{AreSessionsFrom};
 ghost use Rattle.prepare_plan.specs.Lists.{lists_of};

@@ -3,7 +3,7 @@
 ghost use Rattle.std.specs.Prelude.{◌≡◌, ◌≤◌, length, IfOk, IfSome, Some};
 ghost use Rattle.std.specs.Option.{option_map};
 ghost use Rattle.replay_cli.specs.Options as option;
-ghost use Rattle.replay_cli.specs.Options.{HasWays, HasLimits};
+ghost use Rattle.replay_cli.specs.Inside.Limits.{HasWays, HasLimits};
 
 use crate::words::is_path;
 use desk_values::fields::read_u64;

@@ -5,8 +5,9 @@ ghost use Rattle.desk_files.specs.Outside.{Told};
 ghost use Rattle.capture_laws.specs.Sessions.{AreSessionsFrom};
 ghost use Rattle.prepare_plan.specs.Lists.{lists_of};
 ghost use Rattle.remap_ids.specs.Services.{services_of};
-ghost use Rattle.replay_cli.specs.Decision.{IsOfCapture, RemapIn, SessionOf, StartOf, remap_of};
-ghost use Rattle.replay_cli.specs.Steps.{Answered, FaultFree, Is, Reading, Step, file_in, seen_as};
+ghost use Rattle.replay_cli.specs.Decision.{RemapIn, SessionOf, StartOf, remap_of};
+ghost use Rattle.replay_cli.specs.Inside.Steps.{Answered, FaultFree, IsOfCapture, Step, seen_as};
+ghost use Rattle.replay_cli.specs.Steps.{Is, Reading, file_in};
 
 use crate::failure::{Failure, Refusal};
 use capture_format::{FormErr, StartFile, read_session, read_start};

@@ -4,7 +4,8 @@ ghost use Rattle.std.specs.Prelude.{◌≡◌, ◌⊎◌, IfSome, IsErrOf, IsNon
 ghost use Rattle.desk_files.specs.Outside.{Told};
 ghost use Rattle.replay_cli.specs.Command.{command_of};
 ghost use Rattle.replay_cli.specs.Decision.{Verdict};
-ghost use Rattle.replay_cli.specs.Ending.{MayComeTo, RunFaults, RunSays};
+ghost use Rattle.replay_cli.specs.Ending.{MayComeTo};
+ghost use Rattle.replay_cli.specs.Inside.Ending.{RunFaults, RunSays};
 
 use crate::failure::Failure;
 use crate::plan::{Plan, plan_of};

@@ -4,7 +4,7 @@ ghost use Rattle.std.specs.Prelude.{◌≡◌, ◌≤◌, ◌<◌, ◌++◌, len
 ghost use Rattle.std.specs.Option.{option_map};
 ghost use Rattle.replay_cli.specs.declared.words.Command.TheVariants.{Run as TheRun};
 ghost use Rattle.replay_cli.specs.Command as command;
-ghost use Rattle.replay_cli.specs.Command.{IsCallCount, IsWithinLimits};
+ghost use Rattle.replay_cli.specs.Inside.Limits.{IsCallCount, IsWithinLimits};
 ghost use Rattle.replay_cli.specs.Options.{ways_of};
 ghost use Rattle.replay_cli.specs.Path.{is_path};
 ghost use Rattle.replay_cli.specs.Words as name;

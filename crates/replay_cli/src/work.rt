@@ -5,12 +5,11 @@ ghost use Rattle.desk_files.specs.Outside.{Told};
 ghost use Rattle.replay_job.specs.Job.{AreKnownOf, HasMoments, seen};
 ghost use Rattle.replay_job.specs.Replays.{IsSoundJob};
 ghost use Rattle.replay_cli.specs.declared.words.Command.TheVariants.{Run as TheRun, Prepare as ThePrepare};
-ghost use Rattle.replay_cli.specs.Command.{IsWithinLimits};
+ghost use Rattle.replay_cli.specs.Inside.Limits.{HasWays, IsWithinLimits};
 ghost use Rattle.replay_cli.specs.Decision.{Decides, MayRefuse, PrepareIn, RunIn, job_of};
-ghost use Rattle.replay_cli.specs.Done.{IsTaskOf, IsWork, legal_of, task_of};
-ghost use Rattle.replay_cli.specs.Options.{HasWays};
+ghost use Rattle.replay_cli.specs.Inside.Work.{IsTaskOf, IsWork, legal_of, task_of};
 ghost use Rattle.capture_verdict.specs.Verdict.{IsLegal};
-ghost use Rattle.replay_cli.specs.Steps.{Step, seen_as};
+ghost use Rattle.replay_cli.specs.Inside.Steps.{Step, seen_as};
 
 use crate::capture::{Legal, read_capture, test};
 use crate::failure::Failure;

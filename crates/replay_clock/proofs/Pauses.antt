@@ -10,7 +10,8 @@ use Rattle.replay_clock.specs.declared.gap.Gap.{Gap}
 use Rattle.history_laws.specs.Places.{AreInPlace}
 use Rattle.history_laws.proofs.Items.{at_push}
 use Rattle.history_laws.proofs.Places.{one_at_place, one_gap, one_more, same_call}
-use Rattle.replay_clock.specs.Gaps.{IsGapOf, gap_after}
+use Rattle.replay_clock.specs.Gaps.{IsGapOf}
+use Rattle.replay_clock.specs.Inside.{gap_after}
 
 -- by session when its last call below a stamp ended
 abbrev pub AreEnds : List Captured → ℕ → List ℕ → Type 0

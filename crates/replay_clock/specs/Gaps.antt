@@ -1,5 +1,5 @@
 -- The times before the calls of a capture.
-use Rattle.std.specs.Prelude.{◌≡◌, ℕ, ◌-◌, ◌==◌, if◌then◌else◌, Some, List, length, slice_get}
+use Rattle.std.specs.Prelude.{◌≡◌, ℕ, ◌==◌, Some, List, length, slice_get}
 use Rattle.desk_values.specs.declared.capture.Captured.{Captured}
 use Rattle.replay_history.specs.Gap.{IsCallAt, IsGap}
 use Rattle.replay_clock.specs.declared.gap.Gap.{Gap}
@@ -13,7 +13,3 @@ pub record IsGapOf (calls : List Captured) (call : Captured) (gap : Gap) : Type 
 pub record AreGaps (calls : List Captured) (gaps : List Gap) : Type 0 where
   pub count : length gaps ≡ length calls
   pub each : (k : ℕ) (call : Captured) (gap : Gap) → IsCallAt calls k call → slice_get gaps k ≡ Some gap → IsGapOf calls call gap
-
--- the time before a call, where the call of its session before it ended at this moment
-abbrev pub gap_after : Captured → ℕ → Gap
-gap_after call ended = record { micros = if call.place == 0 then call.began else (call.began - ended); first = call.place == 0 }

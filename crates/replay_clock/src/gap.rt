@@ -1,7 +1,8 @@
 ghost use Rattle.std.specs.Prelude.{◌≡◌, ◌≤◌, IfOk};
 ghost use Rattle.replay_history.specs.Gap.{pause_of};
 ghost use Rattle.history_laws.specs.Places.{AreInPlace};
-ghost use Rattle.replay_clock.specs.Gaps.{AreGaps, gap_after};
+ghost use Rattle.replay_clock.specs.Gaps.{AreGaps};
+ghost use Rattle.replay_clock.specs.Inside.{gap_after};
 
 use desk_values::{CallList, Captured, Copied, List, Memory};
 use replay_history::SESSIONS;

@@ -23,7 +23,8 @@ use Rattle.history_laws.proofs.Truth.{truthful_answer}
 use Rattle.gate_law.proofs.Gates.{answer_follows, in_place, open_room}
 use Rattle.pairs_law.proofs.Pairs.{one_to_one}
 use Rattle.replay_core.specs.declared.desk.Desk.TheInside.{Inside}
-use Rattle.replay_core.specs.Inside.{IsDesk, MayExecute, stage_of}
+use Rattle.replay_core.specs.Inside.{IsDesk, MayExecute}
+use Rattle.replay_core.specs.View.{stage_of}
 use Rattle.replay_core.proofs.Ids.{draws_few, has_low_ids}
 
 pub iff_then : {P Q R : Type 0} → P ↔ Q → Q ↔ R → P ↔ R

@@ -21,14 +21,8 @@ use Rattle.replay_job.specs.Runs.{IsTruthfulFor, Stage}
 use Rattle.gate_law.specs.Following.{IsGateOf}
 use Rattle.replay_core.specs.declared.desk.Desk.TheInside.{Inside}
 use Rattle.replay_core.specs.declared.desk.Parts.{Parts}
-use Rattle.replay_core.specs.Desk.{DeskView}
 use Rattle.replay_history.specs.declared.limits.TheConstants.{SESSIONS}
-
-abbrev pub stage_of : Inside → Stage
-stage_of a = record { state = a.engine.state; pairs = a.map.pairs }
-
-abbrev pub view_of : Inside → DeskView
-view_of a = record { job = seen a.job; history = a.history.items; stage = stage_of a; stopped = a.stopped }
+use Rattle.replay_core.specs.View.{stage_of}
 
 pub record IsDesk (a : Inside) : Type 0 where
   pub target : IsSoundStart a.job.target

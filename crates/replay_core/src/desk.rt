@@ -45,7 +45,8 @@ impl Model for Desk {
 
     ghost Value = { DeskView };
 
-    ghost use Rattle.replay_core.specs.Inside.{IsDesk, view_of};
+    ghost use Rattle.replay_core.specs.Inside.{IsDesk};
+    ghost use Rattle.replay_core.specs.View.{view_of};
 
     ghost view = { view_of };
 

@@ -21,7 +21,7 @@ use Rattle.divergence.specs.Class.{class_between}
 use Rattle.replay_report.specs.Last.{last_of}
 use Rattle.replay_report.specs.Report.{class_at, class_by, class_of, counts_of, difference, gained, marked, report_in}
 use Rattle.replay_history.specs.Gap.{IsStamped}
-use Rattle.replay_report.specs.Written.{differences, noted, noted_on, walked}
+use Rattle.replay_report.specs.Inside.Written.{differences, noted, noted_on, walked}
 use Rattle.replay_report.proofs.Lasts.{map_same, map_set, or_assoc, or_none}
 
 -- ---- the pairs

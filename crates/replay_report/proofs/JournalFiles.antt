@@ -10,9 +10,9 @@ use Rattle.desk_values.specs.Text.{reply_text}
 use Rattle.file_lines.specs.declared.reader.FormErr.{FormErr}
 use Rattle.file_lines.specs.declared.reader.FormErr.TheVariants.{Bad, Memory}
 use Rattle.file_lines.specs.File.{Is, IsFile, ReadsFile, Says}
-use Rattle.file_lines.specs.Form.{Comes, AreLines, text_of, state_after}
+use Rattle.file_lines.specs.Form.{Comes, text_of}
 use Rattle.file_lines.proofs.Files.{once}
-use Rattle.file_lines.proofs.Forms.{IsSound, file_has_lines, lines_are_file, says_one}
+use Rattle.file_lines.proofs.Forms.{AreLines, IsSound, state_after, file_has_lines, lines_are_file, says_one}
 use Rattle.capture_format.proofs.Alphabet.{text_decimal, text_reply, text_then, text_word}
 use Rattle.capture_format.proofs.SessionTexts.{visible_all}
 use Rattle.replay_history.specs.declared.mode.Mode.{Mode}

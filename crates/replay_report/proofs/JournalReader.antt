@@ -15,7 +15,7 @@ use Rattle.replay_history.specs.Mode.{mode_word, all_modes, modes_have_own_words
 use Rattle.replay_report.specs.declared.journal_line.JournalLine.{JournalLine}
 use Rattle.replay_report.specs.declared.journal_line.JournalLine.TheVariants.{Head, Event, End}
 use Rattle.replay_report.specs.JournalFile.{IsJournalLine, journal_line_text}
-use Rattle.replay_report.specs.JournalReading.{version_of, mode_of, line_behind, worded_of, journal_line_of}
+use Rattle.replay_report.specs.Inside.JournalReading.{version_of, mode_of, line_behind, worded_of, journal_line_of}
 
 stamps : IsReader (number_below (2 ^ 32)) (λ n. n < 2 ^ 32) decimal
 stamps = numbers_below (2 ^ 32) (lit≤ tt)

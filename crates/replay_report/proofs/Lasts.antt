@@ -14,7 +14,7 @@ use Rattle.desk_values.specs.declared.capture.Event.{Event}
 use Rattle.desk_values.specs.declared.capture.Event.TheVariants.{Start, Answer}
 use Rattle.replay_history.specs.declared.report.Line.{Line}
 use Rattle.replay_report.specs.Differences.{captured_reply, csv_text, fields_of, head_fields, line_record, record_text, reply_at, reply_in, replayed_reply}
-use Rattle.replay_report.specs.Written.{slot_record, with_answer}
+use Rattle.replay_report.specs.Inside.Written.{slot_record, with_answer}
 
 pub or_assoc : {X : Type 0} (a b c : Option X) → option_or (option_or a b) c ≡ option_or a (option_or b c)
 or_assoc None b c = refl

@@ -1,8 +1,7 @@
 pub mod JournalView
 pub mod JournalFile
-pub mod JournalReading
 pub mod Last
 pub mod Report
 pub mod Differences
 pub mod Laws
-pub mod Written
+pub mod Inside

@@ -5,7 +5,7 @@ ghost use Rattle.std.specs.List.{flat_map, fold};
 ghost use Rattle.std.specs.Option.{option_copied};
 ghost use Rattle.std.specs.Fmt.{decimal};
 ghost use Rattle.replay_report.specs.Differences.{captured_reply, csv_text, fields_of, head_fields, record_text, reply_field};
-ghost use Rattle.replay_report.specs.Written.{IsBetween, slot_record, with_answer, written};
+ghost use Rattle.replay_report.specs.Inside.Written.{IsBetween, slot_record, with_answer, written};
 
 use capture_format::append_reply;
 use csv::{Writer, WriterBuilder};

@@ -2,7 +2,7 @@
 
 ghost use Rattle.std.specs.Prelude.{◌≡◌, true};
 ghost use Rattle.file_lines.specs.File.{ReadsFile};
-ghost use Rattle.file_lines.specs.Form.{AddsLine};
+ghost use Rattle.file_lines.specs.Inside.{AddsLine};
 ghost use Rattle.replay_report.specs.JournalFile.{journal_form, is_ended, new_view, IsBadJournal, IsJournal};
 
 use crate::journal_line::{JournalLine, read_journal_line};

@@ -4,9 +4,9 @@ ghost use Rattle.std.specs.Prelude.{◌≡◌, ◌^◌};
 ghost use Rattle.std.specs.Option.{option_map};
 ghost use Rattle.desk_values.specs.declared.capture.Event.TheVariants.{Start, Answer};
 ghost use Rattle.desk_values.specs.Reading.{Reads, number_of, number_below};
-ghost use Rattle.capture_format.specs.Fields.{two_of};
+ghost use Rattle.capture_format.specs.Inside.Fields.{two_of};
 ghost use Rattle.capture_format.specs.ReplyReading.{reply_of};
-ghost use Rattle.replay_report.specs.JournalReading.{version_of, mode_of, line_behind, worded_of, journal_line_of};
+ghost use Rattle.replay_report.specs.Inside.JournalReading.{version_of, mode_of, line_behind, worded_of, journal_line_of};
 
 use capture_format::read_reply;
 use desk_values::fields::{cut, read_u32, read_u64};
@@ -26,7 +26,7 @@ pub enum JournalLine {
 }
 
 /// The line that the bytes spell, without its line feed. `Bad` where they spell none.
-#[tactic(auto, unfolding(crate::specs::JournalReading::journal_line_of))]
+#[tactic(auto, unfolding(crate::specs::Inside::JournalReading::journal_line_of))]
 pub(crate) fn read_journal_line(alloc: Global, bytes: &[u8]) -> Result<JournalLine, ReadErr>
     ensures { Reads result (journal_line_of bytes.now) }
 {
@@ -36,7 +36,7 @@ pub(crate) fn read_journal_line(alloc: Global, bytes: &[u8]) -> Result<JournalLi
     read_worded(alloc, bytes)
 }
 
-#[tactic(auto, unfolding(crate::specs::JournalReading::worded_of))]
+#[tactic(auto, unfolding(crate::specs::Inside::JournalReading::worded_of))]
 fn read_worded(alloc: Global, bytes: &[u8]) -> Result<JournalLine, ReadErr>
     ensures { Reads result (worded_of bytes.now) }
 {
@@ -45,7 +45,7 @@ fn read_worded(alloc: Global, bytes: &[u8]) -> Result<JournalLine, ReadErr>
 }
 
 // The line with this first field.
-#[tactic(auto, unfolding(crate::specs::JournalReading::line_behind))]
+#[tactic(auto, unfolding(crate::specs::Inside::JournalReading::line_behind))]
 fn read_behind(alloc: Global, word: &[u8], rest: &[u8]) -> Result<JournalLine, ReadErr>
     ensures { Reads result (line_behind word.now rest.now) }
 {
@@ -60,7 +60,7 @@ fn read_behind(alloc: Global, word: &[u8], rest: &[u8]) -> Result<JournalLine, R
     }
 }
 
-#[tactic(auto, unfolding(capture_format::specs::Fields::two_of))]
+#[tactic(auto, unfolding(capture_format::specs::Inside::Fields::two_of))]
 fn read_head(bytes: &[u8]) -> Option<JournalLine>
     ensures { result ≡ option_map (λ p. JournalLine.Head p.1) (two_of 32 version_of mode_of bytes.now) }
 {
@@ -69,7 +69,7 @@ fn read_head(bytes: &[u8]) -> Option<JournalLine>
     Some(JournalLine::Head(find_word(mode)?))
 }
 
-#[tactic(auto, unfolding(crate::specs::JournalReading::version_of))]
+#[tactic(auto, unfolding(crate::specs::Inside::JournalReading::version_of))]
 fn read_version(bytes: &[u8]) -> Option<()>
     ensures { result ≡ version_of bytes.now }
 {
@@ -80,7 +80,7 @@ fn read_version(bytes: &[u8]) -> Option<()>
     }
 }
 
-#[tactic(auto, unfolding(capture_format::specs::Fields::two_of))]
+#[tactic(auto, unfolding(capture_format::specs::Inside::Fields::two_of))]
 fn read_start(bytes: &[u8]) -> Option<JournalLine>
     ensures { result ≡ option_map (λ p. JournalLine.Event (Start p.0 p.1)) (two_of 32 (number_below (2 ^ 32)) number_of bytes.now) }
 {
@@ -89,7 +89,7 @@ fn read_start(bytes: &[u8]) -> Option<JournalLine>
     Some(JournalLine::Event(Event::Start(stamp, read_u64(pause)?)))
 }
 
-#[tactic(auto, unfolding(capture_format::specs::Fields::two_of))]
+#[tactic(auto, unfolding(capture_format::specs::Inside::Fields::two_of))]
 fn read_answer(alloc: Global, bytes: &[u8]) -> Result<JournalLine, ReadErr>
     ensures { Reads result (option_map (λ p. JournalLine.Event (Answer p.0 p.1)) (two_of 32 (number_below (2 ^ 32)) reply_of bytes.now)) }
 {

@@ -7,7 +7,7 @@ ghost use Rattle.replay_job.specs.Job.{IsReplayable, seen};
 ghost use Rattle.replay_job.specs.Runs.{IsCompleteFor, Stage, learnt_in};
 ghost use Rattle.divergence.specs.Class.{class_between};
 ghost use Rattle.replay_report.specs.Report.{counts_of, difference, gained, is_class, report_in};
-ghost use Rattle.replay_report.specs.Written.{differences, noted, walked};
+ghost use Rattle.replay_report.specs.Inside.Written.{differences, noted, walked};
 
 use desk_schema::Start;
 use desk_values::{Captured, Event, History, List, Memory, Reply};

@@ -6,7 +6,7 @@ use Rattle.std.specs.Int.{w64, CanDivide, IsNonZero}
 use Rattle.std.proofs.lemmas.Bool.{lt-ltb, ltb-true}
 use Rattle.desk_values.specs.declared.value.Value.TheVariants.{Int}
 use Rattle.sql_eval.specs.Value.{is_in_range, is_zero, number}
-use Rattle.sql_eval.specs.ValueRef.{computed_of}
+use Rattle.sql_eval.specs.Inside.ValueRef.{computed_of}
 
 false_from : (b : Bool) → (b ≡ true → ⊥) → b ≡ false
 false_from true h = absurd (h refl)

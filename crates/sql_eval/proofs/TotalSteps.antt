@@ -10,7 +10,7 @@ use Rattle.desk_values.specs.declared.fault.Fault.{Fault}
 use Rattle.sql_eval.specs.declared.faults.Faults.{Faults}
 use Rattle.sql_eval.specs.Faults.{divides, overflows, any_fault, joined, noted, told}
 use Rattle.sql_eval.specs.Totals.{looked_at, members, over}
-use Rattle.sql_eval.specs.ValueRef.{ref_outcome}
+use Rattle.sql_eval.specs.Inside.ValueRef.{ref_outcome}
 use Rattle.sql_eval.specs.declared.value_ref.ValueRef.{ValueRef}
 
 or_assoc : (a b c : Bool) → ((a || b) || c) ≡ (a || (b || c))

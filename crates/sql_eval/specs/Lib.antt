@@ -1,6 +1,5 @@
 pub mod Logic
 pub mod Value
-pub mod ValueRef
 pub mod Kinds
 pub mod SchemaNames
 pub mod Check
@@ -10,3 +9,4 @@ pub mod Totals
 pub mod Moved
 pub mod TotalLaws
 pub mod CheckLaws
+pub mod Inside

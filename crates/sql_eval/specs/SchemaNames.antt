@@ -8,7 +8,6 @@ use Rattle.desk_schema.specs.Schema.{SchemaView, column_names, columns_of, place
 use Rattle.sql_tree.specs.Plain.{Name, Plan}
 use Rattle.sql_tree.specs.Plain as source
 use Rattle.sql_tree.specs.Naming.{Naming, map_plan}
-use Rattle.sql_eval.specs.declared.scope.Scope.{Scope}
 
 -- no name of the list is this one
 abbrev pub is_unknown : List (List ℕ) → List ℕ → Bool
@@ -59,17 +58,3 @@ numbered schema statement = map_plan (numbers (table_number schema.tables (table
 abbrev pub has_twice : {X : Type 0} → (X → ℕ) → List X → Bool
 has_twice number [] = false
 has_twice number (first ∷ others) = list_any (λ other. nat_eq (number other) (number first)) others || has_twice number others
-
--- ---- in the scope of a statement
-
--- the columns of the statement's table
-abbrev pub scope_columns : Scope → List Column
-scope_columns scope = columns_of scope.schema.now.tables scope.table
-
--- their names
-abbrev pub scope_column_names : Scope → List (List ℕ)
-scope_column_names scope = column_names (scope_columns scope)
-
--- the names of the sequences
-abbrev pub scope_sequences : Scope → List (List ℕ)
-scope_sequences scope = scope.schema.now.sequences

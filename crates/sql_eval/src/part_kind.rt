@@ -1,7 +1,7 @@
 ghost use Rattle.std.specs.Prelude.{◌≡◌, option_map};
 ghost use Rattle.sql_eval.specs.Kinds.{has_order, is_comparable, is_null_kind, is_number, is_same_kind, is_taken, is_truth, kept, kind_at, kind_of, kind_of_column, kind_of_value, operator_kind};
 ghost use Rattle.sql_tree.specs.Plain.{term_of};
-ghost use Rattle.sql_eval.specs.SchemaNames.{scope_columns};
+ghost use Rattle.sql_eval.specs.Inside.Scope.{scope_columns};
 ghost use Rattle.sql_eval.specs.Value.{bind_at};
 
 use crate::ready::Checked;

@@ -3,7 +3,8 @@
 ghost use Rattle.std.specs.Prelude.{◌≡◌};
 ghost use Rattle.desk_schema.specs.Schema.{place_ignoring_case};
 ghost use Rattle.sql_eval.specs.Kinds.{kind_at};
-ghost use Rattle.sql_eval.specs.SchemaNames.{number_of, scope_column_names, scope_columns, scope_sequences};
+ghost use Rattle.sql_eval.specs.SchemaNames.{number_of};
+ghost use Rattle.sql_eval.specs.Inside.Scope.{scope_column_names, scope_columns, scope_sequences};
 
 use crate::part_kind::{PartKind, declared_kind};
 use desk_schema::{Column, Schema};
@@ -66,7 +67,7 @@ fn sequence_number(scope: Scope<'_>, name: &Txt) -> u32
 
 impl<'a> Renames<Txt> for Scope<'a> {
     ghost use Rattle.sql_eval.specs.SchemaNames.{numbers};
-    ghost use Rattle.sql_eval.specs.SchemaNames.{scope_column_names as names, scope_sequences as sequences};
+    ghost use Rattle.sql_eval.specs.Inside.Scope.{scope_column_names as names, scope_sequences as sequences};
 
     type To = u32;
 

@@ -7,7 +7,7 @@ ghost use Rattle.sql_eval.specs.declared.part_kind.PartKind.{PartKind as Kind};
 ghost use Rattle.sql_eval.specs.declared.scope.Scope.{Scope as AnyScope};
 ghost use Rattle.sql_eval.specs.Kinds.{are_inputs, entry_kind, fits_column, has_order, is_asked, is_change, is_item, is_key, is_number, is_total, is_where, kind_at, kind_of, kind_of_column, kinds_agree, passes, target_kinds};
 ghost use Rattle.sql_tree.specs.Plain.{asked_of, change_of, entry_of, condition_of, plan_of, term_of, total_of};
-ghost use Rattle.sql_eval.specs.SchemaNames.{scope_columns};
+ghost use Rattle.sql_eval.specs.Inside.Scope.{scope_columns};
 
 use crate::part_kind::{PartKind, declared_kind, expr_kind};
 use crate::ready::{
@@ -134,7 +134,7 @@ impl Target for Column {
 
 impl Target for u32 {
     ghost use Rattle.sql_eval.specs.Kinds.{kind_at as kind_at_number};
-    ghost use Rattle.sql_eval.specs.SchemaNames.{scope_columns as columns};
+    ghost use Rattle.sql_eval.specs.Inside.Scope.{scope_columns as columns};
 
     ghost kind_in = { λ scope number. kind_at_number (columns scope) number };
 

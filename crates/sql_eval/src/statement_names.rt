@@ -6,7 +6,7 @@ ghost use Rattle.std.specs.List.{cons_option, list_any};
 ghost use Rattle.sql_tree.specs.Plain.{entry_of, plan_of};
 ghost use Rattle.sql_eval.specs.Check.{drawn_sequences, entry_sequence, given_columns, listed_columns, misplaces_column};
 ghost use Rattle.sql_eval.specs.SchemaNames.{has_twice, is_unknown, is_unknown_table, table_number, table_of};
-ghost use Rattle.sql_eval.specs.SchemaNames.{scope_column_names, scope_sequences};
+ghost use Rattle.sql_eval.specs.Inside.Scope.{scope_column_names, scope_sequences};
 
 use crate::ready::{Ready, ReadySetting};
 use crate::scope::Scope;
@@ -58,7 +58,7 @@ struct UnknownColumn<'a> {
 
 impl<'a> LeafTest<Txt> for UnknownColumn<'a> {
     ghost use Rattle.sql_eval.specs.Check.{is_unknown_column as unknown};
-    ghost use Rattle.sql_eval.specs.SchemaNames.{scope_column_names as names};
+    ghost use Rattle.sql_eval.specs.Inside.Scope.{scope_column_names as names};
 
     ghost test = { λ of leaf. unknown (names of.scope) leaf };
 

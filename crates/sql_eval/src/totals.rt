@@ -8,7 +8,7 @@ ghost use Rattle.sql_tree.specs.Plain.{term_of, total_of};
 ghost use Rattle.sql_eval.specs.Faults.{noted};
 ghost use Rattle.sql_eval.specs.Totals.{extreme_of, first_of, first_value, looked_at, number_in, number_order, over, part_in, sum_of, sum_value, text_in, tied_order, total_over};
 ghost use Rattle.sql_eval.specs.Value.{IsTextOf};
-ghost use Rattle.sql_eval.specs.ValueRef.{ref_outcome, ref_value};
+ghost use Rattle.sql_eval.specs.Inside.ValueRef.{ref_outcome, ref_value};
 
 use crate::error::EvalErr;
 use crate::faults::Faults;

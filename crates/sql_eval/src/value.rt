@@ -1,7 +1,7 @@
 ghost use Rattle.std.specs.Prelude.{◌≡◌, ◌↔◌, IfOk, IsErrOf, slice_get, unwrap_or};
 ghost use Rattle.sql_eval.specs.Logic.{truth_of_test};
 ghost use Rattle.sql_tree.specs.Plain.{term_of};
-ghost use Rattle.sql_eval.specs.ValueRef.{ref_outcome, ref_value};
+ghost use Rattle.sql_eval.specs.Inside.ValueRef.{ref_outcome, ref_value};
 ghost use Rattle.sql_eval.specs.Value.{IsTextOf, bind_at, both, connected, is_connective, then_apply, truth_value, value_of};
 
 use crate::error::EvalErr;

@@ -3,7 +3,7 @@
 ghost use Rattle.std.specs.Prelude.{◌≡◌};
 ghost use Rattle.sql_eval.specs.Value.{both, worse, of_numbers, arithmetic, minus, comparison, is_null_value};
 ghost use Rattle.desk_values.specs.Comparison.{value_equal, value_order};
-ghost use Rattle.sql_eval.specs.ValueRef.{ref_value, ref_outcome, ref_pair, computed_of};
+ghost use Rattle.sql_eval.specs.Inside.ValueRef.{ref_value, ref_outcome, ref_pair, computed_of};
 
 use desk_values::{Fault, Txt, Value, text_order};
 use sql_tree::Op;

@@ -6,12 +6,18 @@ use Rattle.std.proofs.lemmas.List.{append-nil}
 use Rattle.sql_reader.specs.declared.token.Token.{Token}
 use Rattle.sql_reader.specs.declared.error.SqlErr.{SqlErr}
 use Rattle.sql_reader.specs.declared.error.SqlErr.TheVariants as error
-use Rattle.sql_reader.specs.Spelling.{Fails}
-use Rattle.sql_reader.specs.Reading.{◌>>=◌, keep, begins_quote, content_at, step_at, tokens_at, operator_at, more_at, chain_at, inner_at, part_at, after_sign, list_at}
+use Rattle.desk_values.specs.Answers.{IsTold}
+use Rattle.sql_reader.specs.Spelling.{told}
+use Rattle.sql_reader.specs.Reading.{◌>>=◌, keep, content_at, step_at, tokens_at, operator_at, more_at, chain_at, inner_at, part_at, after_sign, list_at}
+use Rattle.sql_reader.specs.Inside.{begins_quote}
 use Rattle.sql_tree.specs.declared.tree.Op.{Op}
 use Rattle.sql_reader.specs.declared.part.Part.{Part}
 use Rattle.sql_tree.specs.Plain.{Term, bin, Name}
 use Rattle.sql_reader.specs.declared.token.Sign.TheVariants as sign
+
+-- the error tells what was to be read, if it tells anything
+abbrev pub Fails : {Y : Type 0} → SqlErr → Option Y → Type 0
+Fails e read = IsTold (told e) read
 
 -- ---- What was read before, and what is still read.
 

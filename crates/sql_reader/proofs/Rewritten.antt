@@ -19,7 +19,8 @@ use Rattle.sql_reader.specs.declared.token.Token.TheVariants as token
 use Rattle.desk_values.specs.Keyword.{keyword_word}
 use Rattle.sql_reader.specs.Lexical as l
 use Rattle.sql_reader.specs.Lexical.{is_space, is_part, is_word, is_numeral, folded, lengthens, goes_on, EndsBefore, Lexeme, Tokens, mark}
-use Rattle.sql_reader.specs.Written.{token_text, spaced, spaced_all, part_of, bare_tokens, expression_tokens, whole, joined, first_word, further_tokens, written, called, aggregate_tokens, given_tokens, assignment_tokens, key_tokens, name_tokens, selection_tokens, where_tokens, order_tokens, for_update_tokens, columns_tokens, inputs_tokens, statement_tokens}
+use Rattle.sql_reader.specs.Written.{token_text, part_of, bare_tokens, expression_tokens, whole, joined, first_word, further_tokens, written, called, aggregate_tokens, given_tokens, assignment_tokens, key_tokens, name_tokens, selection_tokens, where_tokens, order_tokens, for_update_tokens, columns_tokens, inputs_tokens, statement_tokens}
+use Rattle.sql_reader.specs.Inside.{spaced, spaced_all}
 use Rattle.sql_reader.proofs.Scanning.{length_folded}
 use Rattle.sql_tree.specs.declared.tree.Op.{Op}
 use Rattle.sql_reader.specs.declared.part.Part.{Part}

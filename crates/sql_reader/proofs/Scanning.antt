@@ -8,7 +8,7 @@ use Rattle.std.proofs.lemmas.Bool.Decides.{nat_tests}
 use Rattle.std.proofs.lemmas.Str.{IsUtf8-from_is_utf8, is_utf8-from_IsUtf8, IsUtf8-from_ascii}
 use Rattle.desk_values.specs.declared.text.TxtErr.{TxtErr}
 use Rattle.desk_values.specs.declared.text.TxtErr.TheVariants as text_error
-use Rattle.sql_reader.specs.Spelling.{Fails, sql_err}
+use Rattle.sql_reader.specs.Spelling.{sql_err}
 use Rattle.sql_reader.specs.Reading.{txt_at, run_of, behind_run, keyword_at, value_after, bind_number, keep, content_at, begins, all_signs, sign_behind, sign_at, ◌>>=◌, name_or, word_at, value_at, number_at, bind_at, string_at, with_rest, token_at, step_at, tokens_at, scanned}
 use Rattle.desk_values.specs.Good.{IsTxt}
 use Rattle.std.specs.List.{list_all, prefix_len, flat_map, find, cons_option}
@@ -27,7 +27,7 @@ use Rattle.sql_reader.specs.declared.token.Sign.TheVariants as sign
 use Rattle.sql_reader.specs.declared.token.Token.{Token}
 use Rattle.sql_reader.specs.declared.token.Token.TheVariants as token
 use Rattle.sql_reader.specs.Words.{sign_text}
-use Rattle.sql_reader.proofs.Loops.{content_next}
+use Rattle.sql_reader.proofs.Loops.{Fails, content_next}
 
 -- ---- Which bytes are a text of the desk.
 

@@ -76,10 +76,6 @@ bind_at run = do
   n ← bind_number run
   Some (token.Bind n)
 
-abbrev pub begins_quote : List ℕ → Bool
-begins_quote [] = false
-begins_quote (first ∷ others) = first == 39
-
 -- one more byte before what is read
 abbrev pub keep : ℕ → Option (List ℕ × List ℕ) → Option (List ℕ × List ℕ)
 keep byte read = do

@@ -1,6 +1,6 @@
 -- Which text spells which statement.
-use Rattle.std.specs.Prelude.{◌≡◌, ℕ, List, Option, None, Some, Result}
-use Rattle.desk_values.specs.Answers.{Answers, IsTold}
+use Rattle.std.specs.Prelude.{ℕ, List, Option, None, Some, Result}
+use Rattle.desk_values.specs.Answers.{Answers}
 use Rattle.sql_reader.specs.declared.error.SqlErr.{SqlErr}
 use Rattle.sql_reader.specs.declared.error.SqlErr.TheVariants as error
 use Rattle.desk_values.specs.declared.text.TxtErr.{TxtErr}
@@ -29,15 +29,6 @@ abbrev pub told : {Y : Type 0} → SqlErr → Option (Option Y)
 told error.Syntax = Some None
 told error.Memory = None
 
--- the error tells what was to be read, if it tells anything
-abbrev pub Fails : {Y : Type 0} → SqlErr → Option Y → Type 0
-Fails e read = IsTold (told e) read
-
 -- what was returned, seen by view, is what was to be read, unless memory ran out
 abbrev pub Gives : {X Y : Type 0} → (X → Y) → Result X SqlErr → Option Y → Type 0
 Gives view returned read = Answers (λ x. Some (view x)) told returned read
-
--- the same of what may be absent
-abbrev pub Finds : {X Y : Type 0} → (X → Y) → Option X → Option Y → Type 0
-Finds view None read = read ≡ None
-Finds view (Some x) read = read ≡ Some (view x)

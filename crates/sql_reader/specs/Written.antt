@@ -4,7 +4,7 @@ use Rattle.std.specs.List.{flat_map, join_with_byte}
 use Rattle.std.specs.Char.{to_ascii_uppercase}
 use Rattle.std.specs.Fmt.{decimal, signed_decimal}
 use Rattle.sql_tree.specs.declared.tree.Key.{Key}
-use Rattle.sql_tree.specs.Plain.{Name}
+use Rattle.sql_tree.specs.Plain.{Name, Term, null, int, text, bind, column, rowid, neg, not, bin, is_null, not_null, Total, count, total, least, greatest, Entry, value, drawn, Change, Asked, columns, values, totals, Plan, select, next, insert, update, delete, commit, rollback, set_read_only}
 use Rattle.desk_values.specs.declared.keyword.Keyword.{Keyword}
 use Rattle.desk_values.specs.declared.keyword.Keyword.TheVariants as word
 use Rattle.sql_reader.specs.declared.token.Sign.TheVariants as sign
@@ -12,7 +12,6 @@ use Rattle.sql_reader.specs.declared.token.Token.{Token}
 use Rattle.sql_reader.specs.declared.token.Token.TheVariants as token
 use Rattle.desk_values.specs.Keyword.{keyword_word}
 use Rattle.sql_reader.specs.Words.{sign_text}
-use Rattle.sql_tree.specs.Plain.{Term, null, int, text, bind, column, rowid, neg, not, bin, is_null, not_null, Total, count, total, least, greatest, Entry, value, drawn, Change, Asked, columns, values, totals, Plan, select, next, insert, update, delete, commit, rollback, set_read_only, Name}
 use Rattle.sql_reader.specs.Lexical.{quoted}
 use Rattle.sql_reader.specs.declared.part.Part.{Part}
 use Rattle.sql_reader.specs.declared.part.Part.TheVariants.{Disjunction, Negation, Comparison, Sum, Factor, Primary}
@@ -164,11 +163,3 @@ opened (t ∷ ts) = opening t + opened ts
 -- the written text: the tokens, parted by single spaces
 unfoldable pub written : Plan Name → List ℕ
 written statement = join_with_byte 32 (map token_text (statement_tokens statement))
-
--- a token after a space
-unfoldable pub spaced : Token → List ℕ
-spaced t = 32 ∷ token_text t
-
--- tokens, each after a space
-abbrev pub spaced_all : List Token → List ℕ
-spaced_all ts = flat_map spaced ts

@@ -4,7 +4,8 @@
 ghost use Rattle.std.specs.Prelude.{◌≡◌, ◌<◌};
 ghost use Rattle.sql_tree.specs.Plain.{term_of};
 ghost use Rattle.sql_reader.specs.Grammar.{looseness, right_of};
-ghost use Rattle.sql_reader.specs.Spelling.{Gives, Finds};
+ghost use Rattle.sql_reader.specs.Spelling.{Gives};
+ghost use Rattle.sql_reader.specs.Inside.{Finds};
 ghost use Rattle.sql_reader.specs.Reading.{after_word, after_sign, operator_of, operator_at, chain_at, null_test, primary_in, factor_in, compared_in, comparison_in, negation_in, part_in, inner_at, part_at};
 
 use crate::error::SqlErr;

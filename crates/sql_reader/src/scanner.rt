@@ -4,7 +4,8 @@ ghost use Rattle.std.specs.Prelude.{◌≡◌, ◌∷◌, IfOk, MatchOption, fal
 ghost use Rattle.std.specs.List.{prefix_len};
 ghost use Rattle.sql_reader.specs.Spelling.{Gives};
 ghost use Rattle.sql_reader.specs.Lexical.{is_space, is_part, folded};
-ghost use Rattle.sql_reader.specs.Reading.{begins_quote, txt_at, word_at, value_at, number_at, bind_number, bind_at, content_at, string_at, sign_at, run_of, behind_run, token_at, step_at, tokens_at, scanned};
+ghost use Rattle.sql_reader.specs.Reading.{txt_at, word_at, value_at, number_at, bind_number, bind_at, content_at, string_at, sign_at, run_of, behind_run, token_at, step_at, tokens_at, scanned};
+ghost use Rattle.sql_reader.specs.Inside.{begins_quote};
 
 use crate::error::SqlErr;
 use crate::token::{SIGNS, Sign, Token};

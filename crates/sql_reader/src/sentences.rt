@@ -3,7 +3,8 @@
 ghost use Rattle.std.specs.Prelude.{◌≡◌, map, ◌∷◌, [], List, Option};
 ghost use Rattle.sql_reader.specs.declared.token.Token.{Token as OneToken};
 ghost use Rattle.sql_tree.specs.Plain.{Term, Total, Entry, Change, term_of, condition_of, total_of, entry_of, change_of, asked_of, plan_of, Name};
-ghost use Rattle.sql_reader.specs.Spelling.{Gives, Finds};
+ghost use Rattle.sql_reader.specs.Spelling.{Gives};
+ghost use Rattle.sql_reader.specs.Inside.{Finds};
 ghost use Rattle.sql_reader.specs.Reading.{expression_at, list_at, name_at, key_at, enclosed_at, counted_at, aggregate_at, draw_at, input_at, setting_at, where_at, order_at, for_update_at, from_at, is_aggregate_word, begins_aggregate, aggregates_at, rows_at, listed_at, dual_at, items_at, select_at, columns_at, inputs_at, insert_at, update_at, delete_at, set_at, body_at, statement_at};
 
 use crate::descent::{after_sign, after_word, expect_sign, expect_word, part};

@@ -10,7 +10,8 @@ ghost use Rattle.sql_tree.specs.Plain.{term_of, condition_of, total_of, entry_of
 ghost use Rattle.sql_reader.specs.Lexical.{quoted};
 ghost use Rattle.sql_reader.specs.Grammar.{operator_token};
 ghost use Rattle.desk_values.specs.Keyword.{keyword_word};
-ghost use Rattle.sql_reader.specs.Written.{spaced, spaced_all, part_of, bare_tokens, expression_tokens, joined, aggregate_tokens, given_tokens, assignment_tokens, key_tokens, name_tokens, selection_tokens, where_tokens, order_tokens, for_update_tokens, columns_tokens, called, whole, inputs_tokens, further_tokens, first_word, written};
+ghost use Rattle.sql_reader.specs.Written.{part_of, bare_tokens, expression_tokens, joined, aggregate_tokens, given_tokens, assignment_tokens, key_tokens, name_tokens, selection_tokens, where_tokens, order_tokens, for_update_tokens, columns_tokens, called, whole, inputs_tokens, further_tokens, first_word, written};
+ghost use Rattle.sql_reader.specs.Inside.{spaced, spaced_all};
 
 use crate::part::Part;
 use crate::token::Sign;
@@ -31,7 +32,7 @@ fn upper(out: &mut Bytes, keyword: Keyword) -> Result<(), Memory>
     Ok(())
 }
 
-#[tactic(auto, unfolding(crate::specs::Written::spaced))]
+#[tactic(auto, unfolding(crate::specs::Inside::spaced))]
 fn word(out: &mut Bytes, keyword: Keyword) -> Result<(), Memory>
     ensures { OnOk result (out.new ≡ out.old ++ spaced (token.Word keyword)) }
 {
@@ -39,7 +40,7 @@ fn word(out: &mut Bytes, keyword: Keyword) -> Result<(), Memory>
     upper(out, keyword)
 }
 
-#[tactic(auto, unfolding(crate::specs::Written::spaced))]
+#[tactic(auto, unfolding(crate::specs::Inside::spaced))]
 fn sign(out: &mut Bytes, sign: Sign) -> Result<(), Memory>
     ensures { OnOk result (out.new ≡ out.old ++ spaced (token.Sign sign)) }
 {
@@ -47,7 +48,7 @@ fn sign(out: &mut Bytes, sign: Sign) -> Result<(), Memory>
     out.append(sign.text())
 }
 
-#[tactic(auto, unfolding(crate::specs::Written::spaced))]
+#[tactic(auto, unfolding(crate::specs::Inside::spaced))]
 fn name(out: &mut Bytes, name: &Txt) -> Result<(), Memory>
     ensures { OnOk result (out.new ≡ out.old ++ spaced (token.Name name.now)) }
 {
@@ -55,7 +56,7 @@ fn name(out: &mut Bytes, name: &Txt) -> Result<(), Memory>
     out.append(name.as_str().as_bytes())
 }
 
-#[tactic(auto, unfolding(crate::specs::Written::spaced))]
+#[tactic(auto, unfolding(crate::specs::Inside::spaced))]
 fn number(out: &mut Bytes, number: i64) -> Result<(), Memory>
     ensures { OnOk result (out.new ≡ out.old ++ spaced (token.Number number)) }
 {
@@ -63,7 +64,7 @@ fn number(out: &mut Bytes, number: i64) -> Result<(), Memory>
     append_i64(number, out)
 }
 
-#[tactic(auto, unfolding(crate::specs::Written::spaced))]
+#[tactic(auto, unfolding(crate::specs::Inside::spaced))]
 fn bind(out: &mut Bytes, number: u32) -> Result<(), Memory>
     ensures { OnOk result (out.new ≡ out.old ++ spaced (token.Bind number)) }
 {
@@ -85,7 +86,7 @@ fn content(out: &mut Bytes, bytes: &[u8]) -> Result<(), Memory>
     Ok(())
 }
 
-#[tactic(auto, unfolding(crate::specs::Written::spaced))]
+#[tactic(auto, unfolding(crate::specs::Inside::spaced))]
 fn string(out: &mut Bytes, text: &Txt) -> Result<(), Memory>
     ensures { OnOk result (out.new ≡ out.old ++ spaced (token.Text text.now)) }
 {

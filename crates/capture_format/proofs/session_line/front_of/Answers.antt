@@ -1,5 +1,5 @@
 use Rattle.std.proofs.Common.{sym, ap, ◌∙◌, ◌∷◌, [], ◌++◌, ℕ}
-use Rattle.capture_format.specs.SessionReading.{before_space}
+use Rattle.capture_format.specs.Inside.SessionReading.{before_space}
 use Rattle.capture_format.proofs.Spaces.{before_space-joined, before_space-other}
 use Rattle.capture_format.proofs.session_line.front_of.Goals as goal
 

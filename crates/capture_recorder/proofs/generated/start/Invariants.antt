@@ -1,4 +1,4 @@
-use Rattle.capture_recorder.specs.Declaring.{IsDeclaring}
+use Rattle.capture_recorder.proofs.Generating.{IsDeclaring}
 use Rattle.capture_recorder.proofs.generated.start.Given as goal
 
 abbrev pub invariant-loop-k : goal.invariant-loop-k

@@ -1,6 +1,6 @@
 use Rattle.std.proofs.Common.{◌≡◌, ℕ, ◌<◌, ◌≤◌, true}
 use Rattle.object_depends.specs.Facts.{has_table}
-use Rattle.commit_gate.specs.Marks.{mark_at}
+use Rattle.commit_gate.specs.Inside.Marks.{mark_at}
 use Rattle.commit_gate.proofs.gate.tables_passed.Given as goal
 
 abbrev pub invariant-loop-table : goal.invariant-loop-table

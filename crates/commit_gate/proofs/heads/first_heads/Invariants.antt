@@ -1,7 +1,7 @@
 use Rattle.std.proofs.Common.{◌≡◌, ◌-◌, length, vec_len}
 use Rattle.std.specs.Ordering.{nat_cmp}
 use Rattle.std.specs.BTreeMap.{get}
-use Rattle.commit_gate.specs.Heads.{AreFirstHeads, AreNexts}
+use Rattle.commit_gate.specs.Inside.Heads.{AreFirstHeads, AreNexts}
 use Rattle.commit_gate.proofs.heads.first_heads.Given as goal
 
 abbrev pub invariant-loop-step : goal.invariant-loop-step

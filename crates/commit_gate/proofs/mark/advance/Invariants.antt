@@ -1,4 +1,4 @@
-use Rattle.commit_gate.specs.Marks.{IsPassed}
+use Rattle.commit_gate.specs.Inside.Marks.{IsPassed}
 use Rattle.commit_gate.proofs.mark.advance.Given as goal
 
 abbrev pub invariant-loop-at : goal.invariant-loop-at

@@ -1,6 +1,6 @@
 use Rattle.std.proofs.Common.{ℕ, ◌<◌, ◌≤◌}
 use Rattle.commit_gate.specs.declared.mark.Watch.TheVariants.{Table}
-use Rattle.commit_gate.specs.Marks.{AreTableMarks, IsPassed, mark_at}
+use Rattle.commit_gate.specs.Inside.Marks.{AreTableMarks, IsPassed, mark_at}
 use Rattle.commit_gate.proofs.mark.advance_tables.Given as goal
 
 abbrev pub invariant-loop-table : goal.invariant-loop-table

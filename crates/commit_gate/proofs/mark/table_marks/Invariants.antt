@@ -1,5 +1,5 @@
 use Rattle.std.proofs.Common.{◌≡◌, vec_len}
-use Rattle.commit_gate.specs.Marks.{AreTableMarks}
+use Rattle.commit_gate.specs.Inside.Marks.{AreTableMarks}
 use Rattle.commit_gate.proofs.mark.table_marks.Given as goal
 
 abbrev pub invariant-loop-table : goal.invariant-loop-table

@@ -5,13 +5,14 @@ use Rattle.sql_tree.specs.Plain.{Term, condition_of}
 use Rattle.sql_eval.specs.declared.faults.Faults.{Faults}
 use Rattle.sql_eval.specs.Totals.{looked_at}
 use Rattle.machine_model.specs.declared.causes.Causes.{Causes}
-use Rattle.machine_model.specs.Evaluation.{env_of}
-use Rattle.machine_model.specs.Causes.{first_causes, ranked}
+use Rattle.machine_model.specs.Inside.Evaluation.{env_of}
+use Rattle.machine_model.specs.Causes.{ranked}
+use Rattle.machine_model.specs.Inside.Parts.{first_causes}
 use Rattle.machine_model.specs.View.{View, is_held}
 use Rattle.machine_model.specs.Found.{Environment, matches, matching, where_faults}
 use Rattle.machine_model.specs.Answer.{delete_causes}
 use Rattle.machine_model.specs.Answer.{too_many_rows}
-use Rattle.machine_model.specs.Decision.{view_of_seen}
+use Rattle.machine_model.specs.Inside.Decision.{view_of_seen}
 use Rattle.machine_model.proofs.Adding.{any_filtered}
 use Rattle.machine_model.proofs.Refusing.{first_of, first_told, rest_told}
 use Rattle.machine_model.proofs.deleting.judged.Goals as goal

@@ -4,7 +4,7 @@ use Rattle.desk_values.specs.declared.value.Image.{Image}
 use Rattle.sql_tree.specs.Plain.{term_of}
 use Rattle.sql_eval.specs.Faults.{noted}
 use Rattle.sql_eval.specs.Totals.{looked_at}
-use Rattle.machine_model.specs.Evaluation.{env_of}
+use Rattle.machine_model.specs.Inside.Evaluation.{env_of}
 use Rattle.machine_model.specs.Found.{is_true, truth_in}
 use Rattle.machine_model.proofs.Adding.{fault_step, fault_end, filter_step}
 use Rattle.machine_model.proofs.found.sifted_by.Goals as goal

@@ -2,7 +2,7 @@ use Rattle.std.proofs.Common.{◌≡◌, ◌++◌, drop, Some}
 use Rattle.sql_tree.specs.Plain.{term_of}
 use Rattle.sql_eval.specs.Faults.{any_fault, joined}
 use Rattle.sql_eval.specs.Totals.{looked_at}
-use Rattle.machine_model.specs.Evaluation.{env_of}
+use Rattle.machine_model.specs.Inside.Evaluation.{env_of}
 use Rattle.machine_model.specs.Found.{matching, truth_in}
 use Rattle.machine_model.proofs.found.sifted_by.Given as goal
 

@@ -1,6 +1,6 @@
 use Rattle.std.proofs.Common.{arith, ℕ}
 use Rattle.sql_tree.specs.Plain.{Term, term_of}
-use Rattle.machine_model.specs.Evaluation.{env_of}
+use Rattle.machine_model.specs.Inside.Evaluation.{env_of}
 use Rattle.machine_model.specs.Found.{sound, value_in}
 use Rattle.machine_model.proofs.Adding.{fault_step, fault_end, value_step}
 use Rattle.machine_model.proofs.found.values_for.Goals as goal

@@ -1,6 +1,6 @@
 use Rattle.std.proofs.Common.{arith, ℕ, refl}
 use Rattle.sql_tree.specs.Plain.{Entry, entry_of}
-use Rattle.machine_model.specs.Evaluation.{env_of}
+use Rattle.machine_model.specs.Inside.Evaluation.{env_of}
 use Rattle.machine_model.specs.Found.{sound}
 use Rattle.machine_model.specs.Writes.{input_value}
 use Rattle.machine_model.proofs.Adding.{fault_step, fault_end, none_joined, value_step}

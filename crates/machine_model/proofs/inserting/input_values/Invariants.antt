@@ -1,7 +1,7 @@
 use Rattle.std.proofs.Common.{◌≡◌, ◌++◌, drop, map}
 use Rattle.sql_tree.specs.Plain.{entry_of}
 use Rattle.sql_eval.specs.Faults.{any_fault, joined}
-use Rattle.machine_model.specs.Evaluation.{env_of}
+use Rattle.machine_model.specs.Inside.Evaluation.{env_of}
 use Rattle.machine_model.specs.Writes.{input_value, inputs_for}
 use Rattle.machine_model.proofs.inserting.input_values.Given as goal
 

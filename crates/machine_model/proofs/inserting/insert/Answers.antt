@@ -9,12 +9,12 @@ use Rattle.sql_eval.specs.Faults.{any_fault}
 use Rattle.machine_model.specs.declared.effect.Effect.{Effect}
 use Rattle.machine_model.specs.declared.effect.Decision.{Decision}
 use Rattle.machine_model.specs.Causes.{ranked}
-use Rattle.machine_model.specs.Evaluation.{env_of}
+use Rattle.machine_model.specs.Inside.Evaluation.{env_of}
 use Rattle.machine_model.specs.Found.{Environment}
 use Rattle.machine_model.specs.View.{View}
 use Rattle.machine_model.specs.Writes.{input_value}
 use Rattle.machine_model.specs.Answer.{done, insert_causes, insert_effect, new_causes, new_row, refused, ruled}
-use Rattle.machine_model.specs.Decision.{Decides, view_of_seen}
+use Rattle.machine_model.specs.Inside.Decision.{Decides, view_of_seen}
 use Rattle.machine_model.proofs.Refusing.{ruled_done, ruled_refused}
 use Rattle.machine_model.proofs.inserting.insert.Goals as goal
 

@@ -1,10 +1,10 @@
 use Rattle.std.proofs.Common.{◌++◌, ap, ◌∙◌}
 use Rattle.machine_model.specs.Causes.{ranked}
-use Rattle.machine_model.specs.Evaluation.{env_of}
+use Rattle.machine_model.specs.Inside.Evaluation.{env_of}
 use Rattle.machine_model.specs.View.{keys_held}
 use Rattle.machine_model.specs.Writes.{is_locked_key}
 use Rattle.machine_model.specs.Answer.{new_causes}
-use Rattle.machine_model.specs.Decision.{view_of_seen}
+use Rattle.machine_model.specs.Inside.Decision.{view_of_seen}
 use Rattle.machine_model.proofs.Adding.{any_held}
 use Rattle.machine_model.proofs.Refusing.{all_told, first_told}
 use Rattle.machine_model.proofs.inserting.insert_fault.Goals as goal

@@ -5,7 +5,7 @@ use Rattle.desk_values.specs.declared.value.Value.{Value}
 use Rattle.std.specs.Ordering.{is_lt}
 use Rattle.std.proofs.lemmas.List.MinMax.{ranks_by}
 use Rattle.machine_model.specs.Writes.{repeats_key}
-use Rattle.machine_model.specs.Repeats.{order_of_keys, same_neighbours}
+use Rattle.machine_model.specs.Inside.Repeats.{order_of_keys, same_neighbours}
 use Rattle.machine_model.proofs.Repeating.{keys_total, repeats_sorted}
 use Rattle.machine_model.proofs.repeats.repeats_key.Goals as goal
 

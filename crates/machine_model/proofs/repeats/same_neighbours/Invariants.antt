@@ -1,7 +1,7 @@
 use Rattle.std.proofs.Common.{◌≡◌, length, map}
 use denote.Ref.{Bor}
 use Rattle.desk_values.specs.declared.value.Value.{Value}
-use Rattle.machine_model.specs.Repeats.{same_neighbours}
+use Rattle.machine_model.specs.Inside.Repeats.{same_neighbours}
 use Rattle.machine_model.proofs.repeats.same_neighbours.Given as goal
 
 abbrev pub invariant-loop-rest : goal.invariant-loop-rest

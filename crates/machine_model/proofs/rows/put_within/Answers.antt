@@ -1,7 +1,8 @@
 use Rattle.std.proofs.Common.{◌≡◌, ◌≤◌, length, ltb, arith, ◌∙◌}
 use Rattle.std.proofs.lemmas.List.Sums.{prefix_len-le-length}
 use Rattle.desk_values.specs.declared.value.Image.{Image}
-use Rattle.machine_model.specs.Rows.{one, place, placed}
+use Rattle.machine_model.specs.Rows.{one, placed}
+use Rattle.machine_model.specs.Inside.Rows.{place}
 use Rattle.machine_model.proofs.Laying.{put_over, put_between, put_last, rising_put}
 use Rattle.machine_model.proofs.rows.put_within.Goals as goal
 use Rattle.machine_model.proofs.rows.put_within.Goals.{else-at-len-via-then-at-len+else-index-image, else-at-len-via-else-at-len}

@@ -1,6 +1,6 @@
 use Rattle.std.proofs.Common.{◌≡◌, ◌<◌, List, IfOk, length, subst, ◌∙◌, arith}
 use Rattle.desk_values.specs.declared.value.Image.{Image}
-use Rattle.machine_model.specs.Rows.{stocked}
+use Rattle.machine_model.specs.Inside.Rows.{stocked}
 use Rattle.sql_eval.specs.Totals.{looked_at}
 use Rattle.machine_model.proofs.Looks.{latest_at}
 use Rattle.machine_model.proofs.Stocking.{stock_at, stocked_length}

@@ -2,7 +2,7 @@ use Rattle.std.proofs.Common.{◌≡◌, drop, map}
 use Rattle.sql_tree.specs.Plain.{term_of}
 use Rattle.sql_eval.specs.Faults.{joined}
 use Rattle.sql_eval.specs.Totals.{looked_at}
-use Rattle.machine_model.specs.Evaluation.{env_of}
+use Rattle.machine_model.specs.Inside.Evaluation.{env_of}
 use Rattle.machine_model.specs.Found.{row_faults}
 use Rattle.machine_model.proofs.selecting.row_faults.Given as goal
 

@@ -1,7 +1,7 @@
 use Rattle.std.proofs.Common.{arith}
 use Rattle.sql_tree.specs.Plain.{total_of}
 use Rattle.sql_eval.specs.Totals.{looked_at}
-use Rattle.machine_model.specs.Evaluation.{env_of}
+use Rattle.machine_model.specs.Inside.Evaluation.{env_of}
 use Rattle.machine_model.specs.Answer.{total_in}
 use Rattle.machine_model.proofs.Adding.{fault_step}
 use Rattle.machine_model.proofs.selecting.total_faults.Goals as goal

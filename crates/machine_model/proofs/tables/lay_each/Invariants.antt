@@ -1,5 +1,5 @@
 use Rattle.std.proofs.Common.{◌≡◌, vec_len, reverse}
-use Rattle.machine_model.specs.Rows.{HaveRoom, lay_tables, stocked}
+use Rattle.machine_model.specs.Inside.Rows.{HaveRoom, lay_tables, stocked}
 use Rattle.machine_model.proofs.tables.lay_each.Given as goal
 
 abbrev pub decreases-loop-image : goal.decreases-loop-image

@@ -1,5 +1,5 @@
 use Rattle.std.proofs.Common.{◌≡◌, ℕ, ◌<◌, ◌≤◌, get_or}
-use Rattle.machine_model.specs.Rows.{Stock, stocked}
+use Rattle.machine_model.specs.Inside.Rows.{Stock, stocked}
 use Rattle.machine_model.proofs.tables.reserve_each.Given as goal
 
 abbrev pub invariant-loop-table : goal.invariant-loop-table

@@ -1,8 +1,8 @@
 use Rattle.std.proofs.Common.{◌≡◌, ◌+◌, ◌∷◌, [], ◌++◌, List, length, map, vec_len, ap, subst, sym, ◌∙◌, zero-add, arith}
 use Rattle.std.proofs.lemmas.List.{map-append}
 use Rattle.desk_values.specs.declared.value.Image.{Image}
-use Rattle.machine_model.specs.Rows.{Stock, of_table, stocked}
-use Rattle.machine_model.specs.View.{AreLatest}
+use Rattle.machine_model.specs.Rows.{of_table}
+use Rattle.machine_model.specs.Inside.Rows.{AreLatest, Stock, stocked}
 use Rattle.machine_model.proofs.Stocking.{latest_pushed, stocked_length}
 use Rattle.machine_model.proofs.tables.tables_of.Goals as goal
 

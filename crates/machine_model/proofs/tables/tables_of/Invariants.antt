@@ -1,6 +1,5 @@
 use Rattle.std.proofs.Common.{◌≡◌, [], vec_len}
-use Rattle.machine_model.specs.Rows.{stocked}
-use Rattle.machine_model.specs.View.{AreLatest}
+use Rattle.machine_model.specs.Inside.Rows.{AreLatest, stocked}
 use Rattle.machine_model.proofs.tables.tables_of.Given as goal
 
 abbrev pub invariant-loop-table : goal.invariant-loop-table

@@ -3,7 +3,7 @@ use denote.Ref.{Bor}
 use Rattle.desk_values.specs.declared.value.Image.{Image}
 use Rattle.sql_tree.specs.Plain.{change_of}
 use Rattle.sql_eval.specs.Faults.{any_fault}
-use Rattle.machine_model.specs.Evaluation.{env_of}
+use Rattle.machine_model.specs.Inside.Evaluation.{env_of}
 use Rattle.machine_model.specs.Found.{value_in}
 use Rattle.machine_model.specs.Writes.{sources}
 use Rattle.machine_model.proofs.Adding.{faults_step, faults_end}

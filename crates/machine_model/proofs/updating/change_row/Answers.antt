@@ -4,7 +4,7 @@ use Rattle.desk_values.specs.declared.value.Image.{Image}
 use Rattle.desk_values.specs.Comparison.{same_key}
 use Rattle.sql_tree.specs.Plain.{change_of}
 use Rattle.machine_model.specs.declared.updating.Changed.{Changed}
-use Rattle.machine_model.specs.Evaluation.{env_of}
+use Rattle.machine_model.specs.Inside.Evaluation.{env_of}
 use Rattle.machine_model.specs.Rows.{row_key}
 use Rattle.machine_model.specs.View.{keys_held}
 use Rattle.machine_model.specs.Writes.{is_locked_key, updated}

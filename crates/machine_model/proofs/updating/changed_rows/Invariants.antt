@@ -2,8 +2,8 @@ use Rattle.std.proofs.Common.{◌≡◌, ◌++◌, ◌||◌, drop, map}
 use Rattle.std.specs.List.{list_any}
 use Rattle.sql_tree.specs.Plain.{change_of}
 use Rattle.sql_eval.specs.Totals.{looked_at}
-use Rattle.machine_model.specs.Evaluation.{env_of}
-use Rattle.machine_model.specs.Decision.{view_of_seen}
+use Rattle.machine_model.specs.Inside.Evaluation.{env_of}
+use Rattle.machine_model.specs.Inside.Decision.{view_of_seen}
 use Rattle.machine_model.specs.Answer.{meets_lock}
 use Rattle.machine_model.specs.Writes.{moved_keys, updated}
 use Rattle.machine_model.proofs.updating.changed_rows.Given as goal

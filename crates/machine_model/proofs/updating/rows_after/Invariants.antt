@@ -1,7 +1,7 @@
 use Rattle.std.proofs.Common.{◌≡◌, ◌++◌, drop}
 use Rattle.sql_tree.specs.Plain.{condition_of}
 use Rattle.sql_eval.specs.Totals.{looked_at}
-use Rattle.machine_model.specs.Evaluation.{env_of, replaced}
+use Rattle.machine_model.specs.Inside.Evaluation.{env_of, replaced}
 use Rattle.machine_model.specs.Found.{matches}
 use Rattle.machine_model.proofs.updating.rows_after.Given as goal
 

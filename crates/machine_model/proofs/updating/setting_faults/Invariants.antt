@@ -2,7 +2,7 @@ use Rattle.std.proofs.Common.{◌≡◌, ℕ, drop, map}
 use Rattle.sql_tree.specs.declared.tree.Setting.{Setting}
 use Rattle.sql_tree.specs.Plain.{term_of}
 use Rattle.sql_eval.specs.Faults.{any_fault, joined}
-use Rattle.machine_model.specs.Evaluation.{env_of}
+use Rattle.machine_model.specs.Inside.Evaluation.{env_of}
 use Rattle.machine_model.specs.Found.{value_in}
 use Rattle.machine_model.proofs.updating.setting_faults.Given as goal
 

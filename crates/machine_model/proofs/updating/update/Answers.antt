@@ -1,8 +1,8 @@
 use Rattle.std.proofs.Common.{ℕ, [], map}
 use Rattle.sql_tree.specs.Plain.{change_of, condition_of}
 use Rattle.sql_eval.specs.Totals.{looked_at}
-use Rattle.machine_model.specs.Evaluation.{env_of}
-use Rattle.machine_model.specs.Decision.{view_of_seen}
+use Rattle.machine_model.specs.Inside.Evaluation.{env_of}
+use Rattle.machine_model.specs.Inside.Decision.{view_of_seen}
 use Rattle.machine_model.specs.Answer.{update_causes, update_effect}
 use Rattle.machine_model.proofs.Refusing.{first_told, ruled_refused}
 use Rattle.machine_model.proofs.Changing.{first_is_first}

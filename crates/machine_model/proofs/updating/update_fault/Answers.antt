@@ -1,9 +1,9 @@
 use Rattle.std.proofs.Common.{◌++◌, ℕ, map, refl, ap, ◌∙◌}
 use Rattle.sql_tree.specs.Plain.{change_of, condition_of}
 use Rattle.machine_model.specs.Causes.{ranked}
-use Rattle.machine_model.specs.Evaluation.{env_of}
+use Rattle.machine_model.specs.Inside.Evaluation.{env_of}
 use Rattle.machine_model.specs.Found.{matching}
-use Rattle.machine_model.specs.Decision.{view_of_seen}
+use Rattle.machine_model.specs.Inside.Decision.{view_of_seen}
 use Rattle.machine_model.proofs.Changing.{update_rest}
 use Rattle.machine_model.proofs.updating.update_fault.Goals as goal
 

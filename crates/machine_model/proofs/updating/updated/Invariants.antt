@@ -1,7 +1,7 @@
 use Rattle.std.proofs.Common.{◌≡◌, drop, map}
 use Rattle.sql_tree.specs.Plain.{change_of}
 use Rattle.sql_eval.specs.Totals.{values_in}
-use Rattle.machine_model.specs.Evaluation.{env_of}
+use Rattle.machine_model.specs.Inside.Evaluation.{env_of}
 use Rattle.machine_model.specs.Found.{values_for}
 use Rattle.machine_model.specs.Writes.{assigned, sources, targets}
 use Rattle.machine_model.proofs.updating.updated.Given as goal

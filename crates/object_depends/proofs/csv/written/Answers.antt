@@ -3,7 +3,7 @@ use Rattle.replay_history.specs.Texts.{line}
 use Rattle.replay_history.specs.declared.mode.Mode.TheVariants.{Off, Scn, Object, Order}
 use Rattle.object_depends.specs.Csv.{need_line}
 use Rattle.std.proofs.lemmas.List.{get_or_read}
-use Rattle.object_depends.specs.Tallies.{no_tally}
+use Rattle.object_depends.specs.Inside.{no_tally}
 use Rattle.object_depends.proofs.Lines.{lines_more}
 use Rattle.object_depends.proofs.csv.written.Goals as goal
 

@@ -1,5 +1,5 @@
 use Rattle.std.proofs.Common.{◌≡◌, vec_len}
-use Rattle.object_depends.specs.Tallies.{AreTallies}
+use Rattle.object_depends.specs.Inside.{AreTallies}
 use Rattle.object_depends.proofs.tally.compared.Given as goal
 
 abbrev pub invariant-loop-k : goal.invariant-loop-k

@@ -1,7 +1,7 @@
 use Rattle.std.proofs.Common.{◌≡◌, ap, arith, length}
 use Rattle.object_depends.specs.declared.tally.Tally.{Tally}
 use Rattle.object_depends.specs.Facts.{fact_at}
-use Rattle.object_depends.specs.Tallies.{awaited, awaits}
+use Rattle.object_depends.specs.Inside.{awaited, awaits}
 use Rattle.object_depends.proofs.Sound.{where_few}
 use Rattle.object_depends.proofs.tally.counted.Goals as goal
 

@@ -1,5 +1,6 @@
 use Rattle.std.proofs.Common.{◌≡◌, ℕ, ◌+◌, ◌<◌, ◌≤◌, length}
-use Rattle.object_depends.specs.Tallies.{awaited, group_at, tally_of}
+use Rattle.object_depends.specs.Tallies.{tally_of}
+use Rattle.object_depends.specs.Inside.{awaited, group_at}
 use Rattle.object_depends.proofs.tally.note.Given as goal
 
 abbrev pub invariant-loop-i : goal.invariant-loop-i

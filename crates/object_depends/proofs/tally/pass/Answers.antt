@@ -1,7 +1,8 @@
 use Rattle.std.proofs.Common.{◌≡◌, ◌∙◌, ◌<◌, ap, arith, length}
 use Rattle.std.proofs.lemmas.List.{get_or_read, with_items_is}
 use Rattle.object_depends.specs.declared.tally.Group.{Group}
-use Rattle.object_depends.specs.Tallies.{group_at, no_group, tally_of}
+use Rattle.object_depends.specs.Tallies.{tally_of}
+use Rattle.object_depends.specs.Inside.{group_at, no_group}
 use Rattle.object_depends.proofs.Sound.{alike_is}
 use Rattle.object_depends.proofs.tally.pass.Goals as goal
 

@@ -1,5 +1,5 @@
 use Rattle.std.proofs.Common.{◌≡◌, vec_len}
-use Rattle.object_depends.specs.Tallies.{AreTallied, AreTallies}
+use Rattle.object_depends.specs.Inside.{AreTallied, AreTallies}
 use Rattle.object_depends.proofs.tally.passed.Given as goal
 
 abbrev pub invariant-loop-k : goal.invariant-loop-k

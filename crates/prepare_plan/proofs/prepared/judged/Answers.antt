@@ -9,7 +9,7 @@ use Rattle.capture_laws.specs.Sessions.{AreSessionsFrom}
 use Rattle.capture_laws.specs.Stamps.{all_calls, by_stamp}
 use Rattle.capture_laws.proofs.Stamping.{by_stamp_len}
 use Rattle.capture_verdict.specs.declared.refusal.Refusal.{Refusal}
-use Rattle.capture_verdict.specs.Fit.{IsFit}
+use Rattle.capture_verdict.specs.Inside.{IsFit}
 use Rattle.capture_verdict.specs.Tests.{bad_stamp}
 use Rattle.capture_verdict.proofs.Legality.{all_stamped, fit_by_stamp, fit_lists, ok_is}
 use Rattle.prepare_plan.specs.Inside.{ordered, ordered_or, shown}

@@ -2,7 +2,7 @@ use Rattle.std.proofs.Common.{◌≡◌, List, sym, subst, refl, ◌∙◌, arit
 use Rattle.std.specs.Prelude.{slice_index, slice_set}
 use Rattle.std.proofs.lemmas.List.{get_or-replicate}
 use Rattle.desk_values.specs.declared.capture.Captured.{Captured}
-use Rattle.capture_verdict.specs.Fit.{IsFit}
+use Rattle.capture_verdict.specs.Inside.{IsFit}
 use Rattle.capture_laws.specs.Moments.{ended_in}
 use Rattle.capture_verdict.specs.Tests.{bad_times}
 use Rattle.capture_laws.proofs.Scanning.{each_at, taken, walk_on}

@@ -1,5 +1,6 @@
 use Rattle.std.proofs.Common.{◌≡◌, length}
-use Rattle.replay_cli.specs.Options.{HasLimits, no_options, options_from}
+use Rattle.replay_cli.specs.Options.{no_options, options_from}
+use Rattle.replay_cli.specs.Inside.Limits.{HasLimits}
 use Rattle.replay_cli.proofs.options.options_of.Given as goal
 
 abbrev pub invariant-loop-rest : goal.invariant-loop-rest

@@ -4,7 +4,7 @@ use Rattle.desk_values.specs.declared.capture.Captured.{Captured}
 use Rattle.std.proofs.lemmas.Result.{err_from_is_err_and}
 use Rattle.prepare_plan.specs.Lists.{lists_of}
 use Rattle.replay_cli.specs.Decision.{SessionOf}
-use Rattle.replay_cli.specs.Steps.{Stops}
+use Rattle.replay_cli.specs.Inside.Steps.{Stops}
 use Rattle.replay_cli.proofs.Sessions.{are_more, count_lists, free_error, lists_more}
 use Rattle.replay_cli.proofs.StepLaws.{parse_stop, read_on}
 use Rattle.replay_cli.proofs.reading.read_sessions.Goals as goal

@@ -2,7 +2,7 @@ use Rattle.std.proofs.Common.{◌≡◌, ◌∙◌, Some, sym}
 use Rattle.std.proofs.lemmas.Result.{err_from_is_err_and}
 use Rattle.desk_files.specs.declared.fault.WriteErr.TheVariants.{Failed, Memory}
 use Rattle.replay_cli.specs.Command.{command_of}
-use Rattle.replay_cli.specs.Done.{task_of}
+use Rattle.replay_cli.specs.Inside.Work.{task_of}
 use Rattle.replay_cli.proofs.Endings.{run_cut, run_done, run_stopped}
 use Rattle.replay_cli.proofs.running.run.Goals as goal
 

@@ -3,7 +3,7 @@ use Rattle.std.proofs.lemmas.Result.{err_from_is_err_and}
 use Rattle.replay_cli.specs.declared.capture.Legal.{Legal as Loaded}
 use Rattle.replay_job.specs.Job.{JobView}
 use Rattle.replay_cli.specs.Decision.{LegalOf, Task, ToReplay, job_of}
-use Rattle.replay_cli.specs.Done.{legal_of, read_of}
+use Rattle.replay_cli.specs.Inside.Work.{legal_of, read_of}
 use Rattle.replay_cli.specs.Steps.{Is}
 use Rattle.replay_cli.proofs.Sessions.{free_error}
 use Rattle.replay_cli.proofs.StepLaws.{stops_here}

@@ -1,7 +1,7 @@
 use Rattle.std.proofs.Common.{◌≡◌, ◌∙◌, ◌++◌, ◌∷◌, [], length, length-append, length-set, get_or, arith, sym, ap, subst}
 use Rattle.replay_history.specs.Gap.{IsCallAt}
 use Rattle.replay_clock.specs.declared.gap.Gap.{Gap}
-use Rattle.replay_clock.specs.Gaps.{gap_after}
+use Rattle.replay_clock.specs.Inside.{gap_after}
 use Rattle.replay_clock.proofs.Pauses.{AreGapsBelow, ends_more, gaps_more}
 use Rattle.history_laws.proofs.Items.{item_at}
 use Rattle.replay_clock.proofs.gap.gaps_of.Goals as goal

@@ -1,7 +1,7 @@
 use Rattle.std.proofs.Common.{◌∙◌, ap, map, sym}
 use Rattle.std.specs.Prelude.{option_copied}
 use Rattle.std.proofs.lemmas.List.{map-set}
-use Rattle.replay_report.specs.Written.{with_answer}
+use Rattle.replay_report.specs.Inside.Written.{with_answer}
 use Rattle.replay_report.proofs.differences.note.Goals as goal
 
 pub returns-then-stamp-len : goal.returns-then-stamp-len

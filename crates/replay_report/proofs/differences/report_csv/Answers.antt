@@ -3,7 +3,7 @@ use Rattle.std.specs.Prelude.{IfOk}
 use Rattle.std.specs.List.{flat_map}
 use Rattle.replay_history.specs.declared.report.Line.{Line}
 use Rattle.replay_report.specs.Differences.{csv_text, head_fields, record_text}
-use Rattle.replay_report.specs.Written.{slot_record, written}
+use Rattle.replay_report.specs.Inside.Written.{slot_record, written}
 use Rattle.replay_report.proofs.Lasts.{csv_is}
 use Rattle.replay_report.proofs.differences.report_csv.Goals as goal
 

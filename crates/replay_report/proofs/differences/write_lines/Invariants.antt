@@ -1,6 +1,6 @@
 use Rattle.std.proofs.Common.{◌≡◌, ◌++◌, take}
 use Rattle.std.specs.List.{flat_map}
-use Rattle.replay_report.specs.Written.{IsBetween, slot_record, written}
+use Rattle.replay_report.specs.Inside.Written.{IsBetween, slot_record, written}
 use Rattle.replay_report.proofs.differences.write_lines.Given as goal
 
 abbrev pub invariant-loop-line : goal.invariant-loop-line

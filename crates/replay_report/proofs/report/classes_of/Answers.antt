@@ -2,7 +2,7 @@ use Rattle.std.proofs.Common.{◌∙◌, ◌+◌, ◌++◌, ap, drop, List, subs
 use Rattle.desk_values.specs.declared.capture.Event.{Event}
 use Rattle.id_pairs.specs.Pairs.{HasNoIdTwice}
 use Rattle.replay_job.specs.Runs.{learnt_in}
-use Rattle.replay_report.specs.Written.{walked}
+use Rattle.replay_report.specs.Inside.Written.{walked}
 use Rattle.replay_report.proofs.Classes.{dropped, known_more, once_front}
 use Rattle.replay_report.proofs.report.classes_of.Goals as goal
 

@@ -2,7 +2,7 @@ use Rattle.std.proofs.Common.{◌≡◌, ◌++◌, None, drop, length, replicate
 use Rattle.id_pairs.specs.Pairs.{HasNoIdTwice}
 use Rattle.remap_ids.specs.IdMap.{start_pairs}
 use Rattle.replay_job.specs.Runs.{learnt_in}
-use Rattle.replay_report.specs.Written.{walked}
+use Rattle.replay_report.specs.Inside.Written.{walked}
 use Rattle.replay_report.proofs.report.classes_of.Given as goal
 
 abbrev pub invariant-loop-event : goal.invariant-loop-event

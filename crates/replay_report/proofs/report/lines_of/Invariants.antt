@@ -1,5 +1,5 @@
 use Rattle.std.proofs.Common.{◌≡◌, ◌++◌, drop}
-use Rattle.replay_report.specs.Written.{differences}
+use Rattle.replay_report.specs.Inside.Written.{differences}
 use Rattle.replay_report.proofs.report.lines_of.Given as goal
 
 abbrev pub invariant-loop-i : goal.invariant-loop-i

@@ -4,7 +4,7 @@ use Rattle.replay_history.specs.declared.report.Class.{Class}
 use Rattle.std.specs.Prelude.{List, Option}
 use Rattle.replay_job.specs.Job.{seen}
 use Rattle.replay_report.specs.Report.{counts_of}
-use Rattle.replay_report.specs.Written.{differences}
+use Rattle.replay_report.specs.Inside.Written.{differences}
 use Rattle.replay_report.proofs.Classes.{report_is}
 use Rattle.replay_report.proofs.Once.{once_of}
 use Rattle.replay_report.proofs.report.report_of.Goals as goal

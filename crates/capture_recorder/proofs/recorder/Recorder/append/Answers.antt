@@ -10,7 +10,7 @@ use Rattle.machine_model.specs.State.{State}
 use Rattle.machine_model.specs.Step.{reply_in, step}
 use Rattle.capture_recorder.specs.declared.progress.Progress.{Progress}
 use Rattle.capture_recorder.specs.Recording.{Recording, captured, connected_count, cut, is_stranger, kept_ended, recorded}
-use Rattle.capture_recorder.specs.Keeping.{progress_of}
+use Rattle.capture_recorder.specs.Inside.Keeping.{progress_of}
 use Rattle.capture_laws.proofs.Counts.{count_within}
 use Rattle.capture_laws.specs.Sessions.{is_of}
 use Rattle.capture_recorder.proofs.Keeping.{captured_is, keeps_added, progress}

@@ -4,9 +4,9 @@ use Rattle.std.specs.Ordering.{nat_cmp}
 use Rattle.std.specs.BTreeMap.{get}
 use Rattle.std.proofs.lemmas.List.{with_items_is, get_or_read}
 use Rattle.object_depends.specs.Facts.{fact_at}
-use Rattle.commit_gate.specs.Heads.{is_in}
+use Rattle.commit_gate.specs.Gates.{is_in}
 use Rattle.commit_gate.specs.declared.mark.Watch.TheVariants.{Every, Commits}
-use Rattle.commit_gate.specs.Marks.{IsMark, AreTableMarks}
+use Rattle.commit_gate.specs.Inside.Marks.{IsMark, AreTableMarks}
 use Rattle.commit_gate.proofs.Keeping.{answer_kept, in_more, in_within}
 use Rattle.commit_gate.proofs.Sessions.{has_head, heads_kept}
 use Rattle.commit_gate.proofs.gate.Gate.answer.Goals as goal

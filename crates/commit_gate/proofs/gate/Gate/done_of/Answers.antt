@@ -1,6 +1,7 @@
 use Rattle.std.proofs.Common.{◌<◌, arith, inl, inr, refl, length}
 use Rattle.std.proofs.lemmas.Bool.{leb-true, le-leb, cases_lt, both_ways}
-use Rattle.commit_gate.specs.Heads.{is_in, IsHead}
+use Rattle.commit_gate.specs.Gates.{is_in}
+use Rattle.commit_gate.specs.Inside.Heads.{IsHead}
 use Rattle.commit_gate.proofs.gate.Gate.done_of.Goals as goal
 
 pub returns-in-Some : goal.returns-in-Some

@@ -1,5 +1,5 @@
 use Rattle.std.proofs.Common.{◌<◌, length, arith}
-use Rattle.commit_gate.specs.Inside.{view_of}
+use Rattle.commit_gate.specs.View.{view_of}
 use Rattle.commit_gate.proofs.Readiness.{first_is_ready, first_by_mark}
 use Rattle.commit_gate.proofs.gate.Gate.first_open.Goals as goal
 

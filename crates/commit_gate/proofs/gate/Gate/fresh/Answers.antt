@@ -1,6 +1,6 @@
 use Rattle.std.proofs.Common.{◌≡◌, length, replicate, false, rules}
 use Rattle.commit_gate.specs.declared.mark.Watch.TheVariants.{Every, Commits}
-use Rattle.commit_gate.specs.Marks.{IsMark}
+use Rattle.commit_gate.specs.Inside.Marks.{IsMark}
 use Rattle.commit_gate.proofs.Readiness.{fresh_is_gate}
 use Rattle.commit_gate.proofs.gate.Gate.fresh.Goals as goal
 

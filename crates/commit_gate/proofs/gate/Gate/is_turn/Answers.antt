@@ -1,7 +1,7 @@
 use Rattle.std.proofs.Common.{◌≡◌, ◌<◌, arith, sym, length}
 use Rattle.object_depends.specs.Facts.{fact_at}
 use Rattle.std.proofs.lemmas.Bool.{leb-true, le-leb}
-use Rattle.commit_gate.specs.Heads.{IsHead}
+use Rattle.commit_gate.specs.Inside.Heads.{IsHead}
 use Rattle.commit_gate.proofs.Sessions.{turn_by_head}
 use Rattle.commit_gate.proofs.gate.Gate.is_turn.Goals as goal
 

@@ -1,6 +1,6 @@
 use Rattle.std.proofs.lemmas.Bool.{false≢true}
 use Rattle.object_depends.specs.Facts.{fact_at}
-use Rattle.commit_gate.specs.Heads.{IsHead}
+use Rattle.commit_gate.specs.Inside.Heads.{IsHead}
 use Rattle.commit_gate.proofs.Readiness.{ready_at_head}
 use Rattle.commit_gate.proofs.gate.Gate.ready_of.Goals as goal
 

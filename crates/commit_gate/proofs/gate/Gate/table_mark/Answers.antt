@@ -2,7 +2,7 @@ use Rattle.std.proofs.Common.{◌≡◌, ◌∙◌, ap, arith}
 use Rattle.std.proofs.lemmas.List.{get_or_read}
 use Rattle.commit_gate.specs.declared.mark.Mark.{Mark}
 use Rattle.commit_gate.specs.declared.mark.Watch.TheVariants.{Table}
-use Rattle.commit_gate.specs.Marks.{mark_at, no_mark}
+use Rattle.commit_gate.specs.Inside.Marks.{mark_at, no_mark}
 use Rattle.commit_gate.proofs.Readiness.{front_is_kind}
 use Rattle.commit_gate.proofs.gate.Gate.table_mark.Goals as goal
 

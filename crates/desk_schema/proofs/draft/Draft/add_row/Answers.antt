@@ -4,9 +4,9 @@ use Rattle.std.proofs.lemmas.Bool.{OnTrue_at, OnFalse_at}
 use Rattle.desk_values.specs.declared.value.Value.{Value}
 use Rattle.desk_values.specs.declared.value.Image.{Image}
 use Rattle.desk_schema.specs.declared.line.StartLine.TheVariants.{Row}
-use Rattle.desk_schema.specs.Keys.{row_key, IsWith}
+use Rattle.desk_schema.specs.Inside.Keys.{row_key, IsWith}
 use Rattle.desk_schema.specs.Rules.{key_of}
-use Rattle.desk_schema.specs.Draft.{AreKeys}
+use Rattle.desk_schema.specs.Inside.Draft.{AreKeys}
 use Rattle.desk_schema.proofs.Drafting.{row_may, row_may_not, keys_with, grown}
 use Rattle.desk_schema.proofs.draft.Draft.add_row.Goals as goal
 

@@ -3,7 +3,7 @@ use Rattle.std.specs.BTreeMap.{is_at}
 use Rattle.std.specs.List.{Contains, list_any}
 use Rattle.std.proofs.lemmas.Bool.{false≢true, OnTrue_from, OnFalse_from}
 use Rattle.desk_values.specs.declared.value.Value.{Value}
-use Rattle.desk_schema.specs.Keys.{row_key, IsWith}
+use Rattle.desk_schema.specs.Inside.Keys.{row_key, IsWith}
 use Rattle.desk_schema.proofs.RowKeys.{found_there, there_found, with_key, row_cmp}
 use Rattle.desk_schema.proofs.keys.KeySet.insert.Goals as goal
 

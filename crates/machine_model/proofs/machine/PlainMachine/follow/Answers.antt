@@ -2,15 +2,16 @@ use Rattle.std.proofs.Common.{◌≡◌, ℕ, ◌+◌, List, ◌++◌, take, dro
 use Rattle.desk_values.specs.declared.value.Image.{Image}
 use Rattle.desk_values.specs.declared.value.Value.{Value}
 use Rattle.machine_model.specs.declared.session.Session.{Session}
-use Rattle.machine_model.specs.Rows.{lay_tables, stocked}
+use Rattle.machine_model.specs.Inside.Rows.{lay_tables, stocked}
 use Rattle.machine_model.specs.State.{State, session_at}
 use Rattle.machine_model.specs.View.{plain_view}
 use Rattle.machine_model.specs.Step.{after, committed_in, with_commit}
 use Rattle.machine_model.specs.Answer.{Answer}
-use Rattle.machine_model.specs.Decision.{committed_by, done_so, session_left}
+use Rattle.machine_model.specs.Inside.Decision.{committed_by, done_so, session_left}
 use Rattle.machine_model.specs.Draws.{moved}
 use Rattle.machine_model.specs.Sound.{IsSound}
-use Rattle.machine_model.specs.Machine.{Keeps, Running}
+use Rattle.machine_model.specs.Machine.{Running}
+use Rattle.machine_model.specs.Inside.Machine.{Keeps}
 use Rattle.std.proofs.lemmas.List.{get_or_default}
 use Rattle.machine_model.proofs.Telling.{kept}
 use Rattle.machine_model.proofs.machine.PlainMachine.follow.Goals as goal

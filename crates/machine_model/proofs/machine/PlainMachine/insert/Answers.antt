@@ -5,7 +5,7 @@ use Rattle.sql_tree.specs.Plain.{change_of, condition_of, entry_of}
 use Rattle.machine_model.specs.Found.{Environment}
 use Rattle.machine_model.specs.View.{View}
 use Rattle.machine_model.specs.Answer.{insert_causes, insert_effect, new_row, ruled, update_causes, update_effect}
-use Rattle.machine_model.specs.Decision.{Decides, Executes}
+use Rattle.machine_model.specs.Inside.Decision.{Decides, Executes}
 use Rattle.machine_model.proofs.Telling.{along_six}
 use Rattle.machine_model.proofs.machine.PlainMachine.insert.Goals as goal
 

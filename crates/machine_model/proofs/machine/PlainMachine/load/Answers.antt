@@ -1,8 +1,8 @@
 use Rattle.std.proofs.Common.{◌≡◌, [], refl, subst, rules, sym, ◌∙◌}
-use Rattle.machine_model.specs.Rows.{IsRising, stocked}
+use Rattle.machine_model.specs.Rows.{IsRising}
+use Rattle.machine_model.specs.Inside.Rows.{AreLatest, stocked}
 use Rattle.machine_model.specs.State.{State, opening}
-use Rattle.machine_model.specs.View.{AreLatest}
-use Rattle.machine_model.specs.Machine.{Keeps}
+use Rattle.machine_model.specs.Inside.Machine.{Keeps}
 use Rattle.machine_model.proofs.SoundRows.{ascending_rises}
 use Rattle.machine_model.proofs.SoundSteps.{opening_sound}
 use Rattle.machine_model.proofs.Telling.{opened, opening_is}

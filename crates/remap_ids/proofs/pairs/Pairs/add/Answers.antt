@@ -1,6 +1,6 @@
 use Rattle.std.proofs.Common.{◌≡◌, ◌∙◌, ◌+◌, ◌++◌, ◌∷◌, [], false, sym, ap, arith, length, length-append}
 use Rattle.id_pairs.specs.Pairs.{is_known, with_new}
-use Rattle.remap_ids.specs.IdMap.{PairsView}
+use Rattle.remap_ids.specs.Inside.{PairsView}
 use Rattle.remap_ids.proofs.Entries.{goes_last, grows, keys_go_last, one_more, replayed_of}
 use Rattle.remap_ids.proofs.pairs.Pairs.add.Goals as goal
 

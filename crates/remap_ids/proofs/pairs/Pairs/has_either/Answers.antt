@@ -5,7 +5,7 @@ use Rattle.id_pairs.specs.declared.Id.{Id}
 use Rattle.id_pairs.specs.Ids.{same_id}
 use Rattle.id_pairs.specs.Pairs.{IdPair, image_in}
 use Rattle.id_pairs.proofs.SameIds.{derived_is_same}
-use Rattle.remap_ids.specs.IdMap.{PairsView}
+use Rattle.remap_ids.specs.Inside.{PairsView}
 use Rattle.remap_ids.proofs.Entries.{replayed_of, tests}
 use Rattle.remap_ids.proofs.pairs.Pairs.has_either.Goals as goal
 

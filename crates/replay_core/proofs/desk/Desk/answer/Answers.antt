@@ -9,7 +9,7 @@ use Rattle.replay_job.specs.Runs.{Executes, Stage, first_stage}
 use Rattle.history_laws.proofs.Truth.{truthful_answer}
 use Rattle.gate_law.proofs.Gates.{answer_follows, open_in_gate}
 use Rattle.replay_core.specs.Desk.{DeskView, IsAnswer}
-use Rattle.replay_core.specs.Inside.{stage_of, view_of}
+use Rattle.replay_core.specs.View.{stage_of, view_of}
 use Rattle.replay_core.proofs.Desks.{may_execute, open_call}
 use Rattle.replay_core.proofs.desk.Desk.answer.Goals as goal
 

@@ -6,7 +6,7 @@ use Rattle.replay_job.specs.Job.{seen}
 use Rattle.replay_job.specs.Runs.{Executes, first_stage}
 use Rattle.history_laws.proofs.Truth.{truthful_start}
 use Rattle.gate_law.proofs.Gates.{ready_tells, start_follows, start_waits}
-use Rattle.replay_core.specs.Inside.{stage_of}
+use Rattle.replay_core.specs.View.{stage_of}
 use Rattle.replay_core.proofs.Desks.{open_call}
 use Rattle.replay_core.proofs.desk.Desk.start.Goals as goal
 

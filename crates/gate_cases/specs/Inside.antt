@@ -1,6 +1,6 @@
 -- What holds of a gate that is played.
 use Rattle.std.specs.Prelude.{◌≡◌, ℕ, true, false}
-use Rattle.commit_gate.specs.Heads.{is_in}
+use Rattle.commit_gate.specs.Gates.{is_in}
 use Rattle.gate_cases.specs.declared.play.Play.TheInside.{Inside}
 
 -- the open calls are started and not answered

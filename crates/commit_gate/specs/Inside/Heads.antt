@@ -1,11 +1,8 @@
 -- The first call of each session that is not answered, and the call of its session behind each call.
-use Rattle.std.specs.Prelude.{◌≡◌, ℕ, ◌<◌, ◌≤◌, Bool, true, false, ◌+◌, List, length, slice_index, slice_index_or, Option, MatchOption}
+use Rattle.std.specs.Prelude.{◌≡◌, ℕ, ◌<◌, ◌≤◌, Bool, true, false, ◌+◌, List, length, slice_index, Option, MatchOption}
 use Rattle.object_depends.specs.declared.fact.Fact.{Fact}
 use Rattle.object_depends.specs.Facts.{fact_at}
-
--- whether a stamp stands in a set of stamps
-abbrev pub is_in : List Bool → ℕ → Bool
-is_in stamps k = slice_index_or stamps k false
+use Rattle.commit_gate.specs.Gates.{is_in}
 
 -- no call of the session stands between the first stamp and the second
 abbrev pub NoneBetween : List Fact → ℕ → ℕ → ℕ → Type 0

@@ -11,8 +11,8 @@ use Rattle.desk_schema.specs.declared.line.ColumnKind.{ColumnKind}
 use Rattle.desk_schema.specs.declared.line.ColumnKind.TheVariants as kind
 use Rattle.desk_schema.specs.declared.schema.Rights.{Rights}
 use Rattle.desk_schema.specs.Schema.{rights_word, all_rights}
-use Rattle.capture_format.specs.Fields.{two_of}
-use Rattle.capture_format.specs.NameReading.{as_name}
+use Rattle.capture_format.specs.Inside.Fields.{two_of}
+use Rattle.capture_format.specs.Inside.NameReading.{as_name}
 
 -- what a service may do
 abbrev pub rights_of : List ℕ → Option Rights

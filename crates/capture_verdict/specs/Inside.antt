@@ -1,5 +1,5 @@
 -- What holds of the calls of sessions.
-use Rattle.std.specs.Prelude.{ℕ, ◌<◌}
+use Rattle.std.specs.Prelude.{◌<◌}
 use Rattle.desk_values.specs.Good.{IsGoodReply}
 use Rattle.desk_values.specs.declared.capture.Captured.{Captured}
 use Rattle.replay_history.specs.declared.limits.TheConstants.{SESSIONS}

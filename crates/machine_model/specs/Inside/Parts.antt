@@ -1,16 +1,21 @@
 -- What the bodies find on the way to a decision.
-use Rattle.std.specs.Prelude.{ℕ, Bool, ◌||◌, List, Option}
+use Rattle.std.specs.Prelude.{Bool, ℕ, ◌||◌, List, Option}
 use Rattle.std.specs.List.{list_any}
+use Rattle.sql_eval.specs.declared.faults.Faults.{Faults}
+use Rattle.machine_model.specs.declared.causes.Causes.{Causes}
+use Rattle.machine_model.specs.Causes.{no_cause}
 use Rattle.desk_values.specs.declared.value.Image.{Image}
 use Rattle.sql_tree.specs.Plain.{Term, Change}
 use Rattle.sql_eval.specs.Faults.{joined}
-use Rattle.machine_model.specs.declared.causes.Causes.{Causes}
 use Rattle.machine_model.specs.declared.session.Session.{Session}
 use Rattle.machine_model.specs.View.{View, is_held}
-use Rattle.machine_model.specs.Causes.{first_causes}
 use Rattle.machine_model.specs.Found.{Environment, row_faults, where_faults}
 use Rattle.machine_model.specs.Writes.{sources}
 use Rattle.machine_model.specs.Answer.{meets_lock, too_many_rows}
+
+-- those that go before all that holds and new images bring
+abbrev pub first_causes : Faults → Bool → Causes
+first_causes faults too_many = record no_cause { divides = faults.divides; overflows = faults.overflows; too_many = too_many }
 
 -- what is found first of an UPDATE, where it finds these rows
 abbrev pub update_first : Environment → View → List (Change ℕ) → Option (Term ℕ) → List Image → Causes

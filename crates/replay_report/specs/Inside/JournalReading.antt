@@ -6,7 +6,7 @@ use Rattle.desk_values.specs.declared.capture.Event.TheVariants.{Start, Answer}
 use Rattle.desk_values.specs.Fields.{cut_at}
 use Rattle.desk_values.specs.Reading.{◌>>=◌, number_of, number_below}
 use Rattle.desk_values.specs.Word.{member_with_word}
-use Rattle.capture_format.specs.Fields.{two_of}
+use Rattle.capture_format.specs.Inside.Fields.{two_of}
 use Rattle.capture_format.specs.ReplyReading.{reply_of}
 use Rattle.replay_history.specs.declared.mode.Mode.{Mode}
 use Rattle.replay_history.specs.Mode.{mode_word, all_modes}

@@ -1,18 +1,12 @@
 -- What a mark stands for.
-use Rattle.std.specs.Prelude.{◌≡◌, ℕ, ◌<◌, ◌≤◌, Bool, true, false, ◌&&◌, List, length, take, slice_index_or, count_by}
+use Rattle.std.specs.Prelude.{◌≡◌, ℕ, ◌<◌, ◌≤◌, Bool, true, false, List, length, take, slice_index_or, count_by}
 use Rattle.object_depends.specs.declared.fact.Fact.{Fact}
-use Rattle.object_depends.specs.Facts.{fact_at, has_table, is_commit}
+use Rattle.object_depends.specs.Facts.{fact_at, has_table}
 use Rattle.commit_gate.specs.declared.mark.Watch.{Watch}
-use Rattle.commit_gate.specs.declared.mark.Watch.TheVariants.{Every, Commits, Table}
+use Rattle.commit_gate.specs.declared.mark.Watch.TheVariants.{Table}
 use Rattle.commit_gate.specs.declared.mark.Mark.{Mark}
-use Rattle.commit_gate.specs.Heads.{is_in}
+use Rattle.commit_gate.specs.Gates.{is_in, watches}
 use Rattle.desk_values.specs.declared.value.TheConstants.{TABLE_LIMIT}
-
--- whether a call is of the kind that is watched: every call, the numbered commits, those that wrote a table
-abbrev pub watches : Watch → Fact → Bool
-watches Every fact = true
-watches Commits fact = is_commit fact
-watches (Table table) fact = is_commit fact && has_table fact.writes table
 
 abbrev pub IsWatch : Watch → Type 0
 IsWatch (Table table) = table < TABLE_LIMIT

@@ -1,0 +1,15 @@
+-- What a machine keeps beside its state.
+use Rattle.std.specs.Prelude.{ℕ, ◌+◌, ◌≤◌, List}
+use Rattle.std.specs.List.{All}
+use Rattle.desk_values.specs.declared.value.Image.{Image}
+use Rattle.machine_model.specs.Sound.{IsSound}
+use Rattle.machine_model.specs.Inside.Rows.{AreLatest}
+use Rattle.machine_model.specs.Machine.{Running}
+
+-- what it keeps: the rows that are there after all commits, and how large its numbers can have become
+pub record Keeps (running : Running) (current : List (List Image)) : Type 0 where
+  pub sound : IsSound running.state
+  pub latest : AreLatest running.state.start.rows running.state.commits 0 current
+  pub steps : running.steps ≤ 1048576
+  pub next_row : running.state.next_row ≤ 549755813888 + running.steps
+  pub next_values : All (λ (n : ℕ). n ≤ 549755813888 + running.steps) running.state.next_values
