@@ -9,7 +9,7 @@ use Rattle.desk_schema.specs.Start.{StartView, file_lines}
 use Rattle.desk_schema.specs.State.{State, nothing, added, state_of}
 use Rattle.desk_schema.specs.Rules.{MayFollow, AreLinesFrom}
 use Rattle.desk_schema.specs.File.{IsStart}
-use Rattle.desk_schema.specs.declared.line.TheConstants.{SESSION_LIMIT}
+use Rattle.desk_values.specs.declared.limits.TheConstants.{SESSION_LIMIT}
 use Rattle.desk_schema.proofs.Files.{read_back, written_lines, read_start, read_sessions}
 use Rattle.desk_schema.proofs.Steps.{sound_nothing}
 use Rattle.file_lines.specs.declared.reader.FormErr.{FormErr}

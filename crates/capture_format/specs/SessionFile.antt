@@ -8,7 +8,7 @@ use Rattle.desk_values.specs.Text.{call_text, reply_text}
 use Rattle.file_lines.specs.File.{IsBadAt}
 use Rattle.file_lines.specs.Form.{Form, Comes, text_of}
 use Rattle.capture_format.specs.declared.session_line.CallLine.{CallLine}
-use Rattle.capture_format.specs.declared.session_line.TheConstants.{LAST_MOMENT}
+use Rattle.desk_values.specs.declared.limits.TheConstants.{LAST_MOMENT}
 use Rattle.capture_format.specs.declared.session_line.SessionLine.{SessionLine}
 use Rattle.capture_format.specs.declared.session_line.SessionLine.TheVariants.{Head, Call, End}
 use Rattle.capture_format.specs.declared.session.Stage.{Stage}

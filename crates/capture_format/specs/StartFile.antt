@@ -2,7 +2,7 @@
 use Rattle.std.specs.Prelude.{◌≡◌, ℕ, ◌<◌, ◌≤◌, ◌^◌, ◌==◌, Bool, List, FitsSigned}
 use Rattle.std.specs.Int.{w64}
 use Rattle.desk_values.specs.Good.{IsValues}
-use Rattle.desk_schema.specs.declared.line.TheConstants.{SESSION_LIMIT}
+use Rattle.desk_values.specs.declared.limits.TheConstants.{SESSION_LIMIT}
 use Rattle.desk_schema.specs.declared.line.StartLine.{StartLine}
 use Rattle.desk_schema.specs.declared.line.StartLine.TheVariants.{Head, Level, Seq as SeqLine, Service, Table, Column, Row, NextRow, Sessions, End}
 use Rattle.desk_schema.specs.declared.line.ColumnKind.{ColumnKind}

@@ -24,7 +24,7 @@ pub use call::{append_call, read_call, write_call};
 pub use file_lines::FormErr;
 pub use reply::{append_left, append_reply, read_reply, write_reply};
 pub use session::read_session;
-pub use session_line::{CallLine, LAST_MOMENT, SessionLine};
+pub use session_line::{CallLine, SessionLine};
 pub use session_writer::write_session;
 pub use start::{StartFile, read_start};
 pub use start_writer::write_start;

@@ -19,7 +19,7 @@ use std::marker::Model;
 /// `Bad` exactly where the bytes are no file of this session, with the first line that is not whole or may not come where
 /// it stands; `Memory` for want of memory.
 ///
-/// [`LAST_MOMENT`]: crate::LAST_MOMENT
+/// [`LAST_MOMENT`]: desk_values::LAST_MOMENT
 pub fn read_session(alloc: Global, bytes: &[u8], session: u32) -> Result<CallList, FormErr>
     ensures { ReadsFile result (λ calls. IsSessionFile session bytes.now calls.items) (IsBadSession session bytes.now) }
 {

@@ -6,11 +6,8 @@ ghost use Rattle.capture_format.specs.Inside.SessionReading.{number_at, commit_n
 use crate::call::read_call;
 use crate::reply::read_reply;
 use desk_values::fields::{cut, read_u32, read_u64};
-use desk_values::{Call, ReadErr, Reply};
+use desk_values::{Call, LAST_MOMENT, ReadErr, Reply};
 use std::alloc::Global;
-
-/// The greatest moment of a call, in microseconds from the capture's start: some 11 days and a half.
-pub const LAST_MOMENT: u64 = 1_000_000_000_000;
 
 /// A line of a session file, without its line feed.
 #[derive(Drop)]

@@ -10,7 +10,7 @@ ghost use Rattle.capture_format.specs.StartFile.{start_form, is_ended, IsBadStar
 ghost use Rattle.capture_format.specs.Inside.StartStage.{IsStage, LeadsTo, state_at};
 
 use crate::start_line::read_start_line;
-use desk_schema::{ColumnKind, Draft, Kind, SESSION_LIMIT, Start, StartLine};
+use desk_schema::{ColumnKind, Draft, Kind, Start, StartLine};
 use desk_values::ReadErr;
 use file_lines::{FormErr, LineFile, read_lines};
 use std::alloc::Global;
@@ -137,7 +137,7 @@ fn next_stage(alloc: Global, stage: Stage, line: StartLine) -> Result<Stage, Rea
         Stage::Drafting(draft) => next_of_draft(draft, line),
         Stage::Declared(start) => match line {
             StartLine::Sessions(count) => {
-                if count <= SESSION_LIMIT {
+                if count as usize <= SESSION_LIMIT {
                     Ok(Stage::Counted(start, count))
                 } else {
                     Err(ReadErr::Bad)

@@ -3,7 +3,7 @@ use Rattle.std.specs.Prelude.{◌≡◌, ◌≤◌, ℕ, List}
 use Rattle.desk_values.specs.declared.value.Image.{Image}
 use Rattle.desk_values.specs.declared.capture.Captured.{Captured}
 use Rattle.desk_values.specs.Good.{IsGoodReply}
-use Rattle.capture_format.specs.declared.session_line.TheConstants.{LAST_MOMENT}
+use Rattle.desk_values.specs.declared.limits.TheConstants.{LAST_MOMENT}
 use Rattle.replay_history.specs.Capture.{FitsIn, session_calls_before}
 use Rattle.replay_history.specs.Gap.{IsCallAt}
 

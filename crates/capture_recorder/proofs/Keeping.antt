@@ -10,7 +10,7 @@ use Rattle.desk_values.specs.declared.call.Call.{Call}
 use Rattle.desk_values.specs.declared.capture.Captured.{Captured}
 use Rattle.desk_values.specs.Good.{IsGoodReply}
 use Rattle.desk_schema.specs.Start.{StartView}
-use Rattle.capture_format.specs.declared.session_line.TheConstants.{LAST_MOMENT}
+use Rattle.desk_values.specs.declared.limits.TheConstants.{LAST_MOMENT}
 use Rattle.replay_history.specs.Capture.{FitsIn, IsKnown, binds_of, commits, commits_before, session_calls_before}
 use Rattle.capture_laws.specs.Moments.{ended_in}
 use Rattle.capture_laws.specs.Sessions.{is_of}

@@ -2,9 +2,9 @@
 use Rattle.std.specs.Prelude.{◌<◌}
 use Rattle.desk_values.specs.Good.{IsGoodReply}
 use Rattle.desk_values.specs.declared.capture.Captured.{Captured}
-use Rattle.replay_history.specs.declared.limits.TheConstants.{SESSIONS}
+use Rattle.desk_values.specs.declared.limits.TheConstants.{SESSION_LIMIT}
 
 -- a session that there is, and a reply that can be written
 pub record IsFit (call : Captured) : Type 0 where
-  pub session : call.session < SESSIONS
+  pub session : call.session < SESSION_LIMIT
   pub reply : IsGoodReply call.reply

@@ -4,7 +4,7 @@ use Rattle.std.specs.List.{AllByRecursion}
 use Rattle.std.proofs.lemmas.List.{append_assoc, append-nil}
 use Rattle.std.proofs.lemmas.List.Sums.{fold-append}
 use Rattle.desk_schema.specs.declared.line.StartLine.{StartLine}
-use Rattle.desk_schema.specs.declared.line.TheConstants.{SESSION_LIMIT}
+use Rattle.desk_values.specs.declared.limits.TheConstants.{SESSION_LIMIT}
 use Rattle.desk_schema.specs.declared.line.StartLine.TheVariants.{NextRow, Sessions, End}
 use Rattle.desk_schema.specs.declared.schema.Table.{Table}
 use Rattle.desk_schema.specs.Schema.{HasColumns, IsSchema}

@@ -1,7 +1,7 @@
 -- A whole file, and the start that it declares.
 use Rattle.std.specs.Prelude.{ℕ, ◌≡◌, ◌≤◌, List}
 use Rattle.desk_schema.specs.declared.line.StartLine.{StartLine}
-use Rattle.desk_schema.specs.declared.line.TheConstants.{SESSION_LIMIT}
+use Rattle.desk_values.specs.declared.limits.TheConstants.{SESSION_LIMIT}
 use Rattle.desk_schema.specs.Start.{StartView, lines_of, file_lines}
 use Rattle.desk_schema.specs.State.{state_of}
 use Rattle.desk_schema.specs.Rules.{AreLines}

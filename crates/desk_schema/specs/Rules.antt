@@ -8,9 +8,10 @@ use Rattle.desk_values.specs.declared.value.Value.TheVariants as value
 use Rattle.desk_values.specs.declared.value.Image.{Image}
 use Rattle.desk_values.specs.Comparison.{same_key}
 use Rattle.desk_values.specs.Good.{IsTxt}
+use Rattle.desk_values.specs.declared.limits.TheConstants.{SESSION_LIMIT}
 use Rattle.desk_values.specs.declared.value.TheConstants.{TABLE_LIMIT}
+use Rattle.desk_schema.specs.declared.draft.TheConstants.{LEVEL}
 use Rattle.desk_schema.specs.declared.rules.TheConstants.{SEQUENCE_LIMIT, SERVICE_LIMIT, COLUMN_LIMIT, ROW_LIMIT, LENGTH_LIMIT, NEXT_LIMIT}
-use Rattle.desk_schema.specs.declared.line.TheConstants.{SESSION_LIMIT}
 use Rattle.desk_schema.specs.declared.line.StartLine.{StartLine}
 use Rattle.desk_schema.specs.declared.line.StartLine.TheVariants.{Head, Level as LevelLine, Seq as SeqLine, Service as ServiceLine, Table as TableLine, Column as ColumnLine, Row as RowLine, NextRow, Sessions, End}
 use Rattle.desk_schema.specs.declared.line.ColumnKind.{ColumnKind}
@@ -138,7 +139,7 @@ pub record NextRowMayFollow (last : ℕ) (rows : List Image) (next : ℕ) : Type
 -- the line has what it needs
 abbrev pub MayFollow : State → StartLine → Type 0
 MayFollow state Head = state.last ≡ 0
-MayFollow state (LevelLine level) = (state.last ≡ 1) × (level ≡ 1)
+MayFollow state (LevelLine level) = (state.last ≡ 1) × (level ≡ LEVEL)
 MayFollow state (SeqLine name next) = SequenceMayFollow state.last state.start.schema.sequences name next
 MayFollow state (ServiceLine name rights) = ServiceMayFollow state.last state.start.schema.services name
 MayFollow state (TableLine name) = TableMayFollow state.last state.start.schema.tables name

@@ -6,6 +6,7 @@ use Rattle.desk_values.specs.declared.value.Image.{Image}
 use Rattle.desk_values.specs.Comparison.{same_key}
 use Rattle.desk_values.specs.Good.{Ascend}
 use Rattle.desk_values.specs.declared.value.TheConstants.{TABLE_LIMIT}
+use Rattle.desk_schema.specs.declared.draft.TheConstants.{LEVEL}
 use Rattle.desk_schema.specs.declared.rules.TheConstants.{SEQUENCE_LIMIT, SERVICE_LIMIT, COLUMN_LIMIT, ROW_LIMIT, LENGTH_LIMIT, NEXT_LIMIT}
 use Rattle.desk_schema.specs.declared.schema.Kind.{Kind}
 use Rattle.desk_schema.specs.declared.schema.Kind.TheVariants.{Int, Text, Seq}
@@ -80,7 +81,7 @@ pub record IsSoundNextRow (start : StartView) : Type 0 where
 
 -- what holds of every start that keeps the rules
 pub record IsSoundStart (start : StartView) : Type 0 where
-  pub level : start.schema.level ≡ 1
+  pub level : start.schema.level ≡ LEVEL
   pub is_schema : IsSchema start.schema
   pub sound : IsSound start
   pub next_row : IsSoundNextRow start

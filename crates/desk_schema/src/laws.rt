@@ -6,7 +6,7 @@ ghost use Rattle.desk_values.specs.Comparison.{same_key};
 ghost use Rattle.desk_values.specs.declared.value.Value.{Value};
 ghost use Rattle.desk_values.specs.declared.value.Value.TheVariants.{Null};
 ghost use Rattle.desk_schema.specs.declared.line.StartLine.{StartLine};
-ghost use Rattle.desk_schema.specs.declared.line.TheConstants.{SESSION_LIMIT};
+ghost use Rattle.desk_values.specs.declared.limits.TheConstants.{SESSION_LIMIT};
 ghost use Rattle.desk_schema.specs.Start.{StartView, file_lines};
 ghost use Rattle.desk_schema.specs.State.{state_of};
 ghost use Rattle.desk_schema.specs.Rules.{AreLines, MayFollow};

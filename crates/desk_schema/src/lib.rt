@@ -16,7 +16,7 @@ mod schema;
 mod start;
 
 pub use draft::{Draft, DraftErr};
-pub use line::{ColumnKind, SESSION_LIMIT, StartLine};
+pub use line::{ColumnKind, StartLine};
 pub use names::is_name;
 pub use schema::{Column, Kind, Rights, Schema, Service, Table};
 pub use start::Start;

@@ -1,9 +1,6 @@
 use crate::schema::Rights;
 use desk_values::{Txt, Values};
 
-/// The greatest number of sessions of a capture. They are numbered from 0.
-pub const SESSION_LIMIT: u32 = 64;
-
 /// What a column line says that the column holds.
 #[derive(Drop)]
 pub enum ColumnKind {

@@ -78,7 +78,7 @@ IsUtf8-small bytes is = subst AllSmall is.1.1 (encodes_small is.0 is.1.0)
 
 -- ---- the texts of the desk
 
-txt_in_taken : (bytes text : List ℕ) → txt_in bytes ≡ Some text → IsTxt bytes × (bytes ≡ text)
+pub txt_in_taken : (bytes text : List ℕ) → txt_in bytes ≡ Some text → IsTxt bytes × (bytes ≡ text)
 unfolding txt_in
 txt_in_taken bytes text e =
     let test = if_some (leb (length bytes) 1000 && is_utf8 bytes) bytes text e in

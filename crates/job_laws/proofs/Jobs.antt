@@ -13,7 +13,7 @@ use Rattle.replay_history.specs.Gap.{IsCallAt}
 use Rattle.object_depends.specs.declared.fact.Fact.{Fact}
 use Rattle.object_depends.specs.Facts.{AreSound, commits_below, fact_at, is_commit}
 use Rattle.desk_schema.specs.Start.{StartView}
-use Rattle.capture_format.specs.declared.session_line.TheConstants.{LAST_MOMENT}
+use Rattle.desk_values.specs.declared.limits.TheConstants.{LAST_MOMENT}
 use Rattle.capture_format.specs.SessionFile.{AreCallsFrom}
 use Rattle.capture_laws.specs.Sessions.{AreSessionsFrom}
 use Rattle.capture_laws.specs.Stamps.{all_calls, by_stamp}

@@ -33,6 +33,6 @@ mod session;
 mod tables;
 mod updating;
 
-pub use machine::{Copies, PlainMachine};
+pub use machine::{Copies, PlainMachine, STEP_LIMIT};
 pub use rows::Rows;
 pub use session::{HeldKey, Session, Transaction};

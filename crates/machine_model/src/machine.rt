@@ -37,7 +37,8 @@ use crate::tables::tables_of;
 use crate::updating::update;
 use desk_schema::{Column, Start};
 use desk_values::{
-    Binds, Call, Copied, Fault, Image, Images, List, Memory, Outcome, Reply, Txt, Value, Values,
+    Binds, Call, Copied, Fault, Image, Images, List, Memory, Outcome, Reply, SESSION_LIMIT, Txt,
+    Value, Values,
 };
 use sql_eval::{
     CheckErr, Checked, Columns, Ready, ReadyInputs, ReadyItems, ReadyKeys, ReadySets, check,
@@ -46,8 +47,8 @@ use sql_reader::{SqlErr, Statement, read_statement};
 use std::alloc::Global;
 use std::marker::Model;
 
-/// How many sessions a machine has.
-pub const SESSIONS: usize = 64;
+/// How many steps a machine takes at most.
+pub const STEP_LIMIT: u64 = 1_048_576;
 
 /// A reply three times.
 #[derive(Drop)]
@@ -580,7 +581,7 @@ fn nobody(alloc: Global) -> Result<Vec<Session>, Memory>
     ensures { IfOk result (λ sessions. sessions.items ≡ replicate 64 disconnected) }
 {
     let mut sessions = Vec::new(alloc);
-    for _ in 0..SESSIONS {
+    for _ in 0..SESSION_LIMIT {
         sessions.push(Session::new(alloc))?;
     }
     Ok(sessions)

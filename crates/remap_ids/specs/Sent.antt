@@ -1,5 +1,5 @@
 -- What is sent in the place of a captured call.
-use Rattle.std.specs.Prelude.{ℕ, ◌+◌, ◌<◌, ◌^◌, List, map, Option, None, Some}
+use Rattle.std.specs.Prelude.{ℕ, ◌+◌, ◌<◌, List, map, Option, None, Some}
 use Rattle.std.specs.List.{AllByRecursion}
 use Rattle.std.specs.Option.{unwrap_or}
 use Rattle.desk_values.specs.declared.call.Call.{Call}
@@ -10,12 +10,13 @@ use Rattle.id_pairs.specs.declared.Id.{Id}
 use Rattle.id_pairs.specs.declared.Id.TheVariants.{Row, Draw}
 use Rattle.id_pairs.specs.Ids.{id_of, id_value}
 use Rattle.id_pairs.specs.Pairs.{IdPair, image_in}
+use Rattle.remap_ids.specs.declared.low_ids.TheConstants.{UNKNOWN_FROM}
 use Rattle.remap_ids.specs.Services.{ServicePair, sent_for}
 
--- below 2 ^ 40, where the ids are that a server gives out
+-- below the number, where the ids are that a server gives out
 abbrev pub IsLow : Value → Type 0
-IsLow (value.Row n) = n < 2 ^ 40
-IsLow (value.Draw sequence n) = n < 2 ^ 40
+IsLow (value.Row n) = n < UNKNOWN_FROM
+IsLow (value.Draw sequence n) = n < UNKNOWN_FROM
 IsLow other = Unit {0}
 
 abbrev pub HasLowIds : Call → Type 0
@@ -24,8 +25,8 @@ HasLowIds other = Unit {0}
 
 -- the same kind of id, where no server ever gives one out
 abbrev pub unknown : Id → Id
-unknown (Row n) = Row (n + 2 ^ 40)
-unknown (Draw sequence n) = Draw sequence (n + 2 ^ 40)
+unknown (Row n) = Row (n + UNKNOWN_FROM)
+unknown (Draw sequence n) = Draw sequence (n + UNKNOWN_FROM)
 
 -- the id's image; where it has none, an id that no server knows
 abbrev pub sent_id : List IdPair → Id → Id

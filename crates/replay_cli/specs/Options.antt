@@ -10,7 +10,7 @@ use Rattle.replay_history.specs.Mode.{all_modes, mode_word}
 use Rattle.replay_cli.specs.declared.options.Ways.{Ways}
 use Rattle.replay_cli.specs.declared.options.Options.{Options}
 use Rattle.replay_cli.specs.Path.{is_path}
-use Rattle.replay_cli.specs.declared.options.TheConstants.{PERCENT_LIMIT}
+use Rattle.replay_history.specs.declared.limits.TheConstants.{PERCENT_LIMIT}
 
 abbrev pub no_options : Options
 no_options = record { mode = None; think = None; connect = None; remap = None }

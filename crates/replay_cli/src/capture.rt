@@ -11,7 +11,7 @@ ghost use Rattle.replay_cli.specs.Steps.{Reading};
 ghost use Rattle.replay_cli.specs.Words.{session_names};
 ghost use Rattle.capture_laws.specs.Sessions.{AreSessionsFrom};
 ghost use Rattle.prepare_plan.specs.Lists.{lists_of};
-ghost use Rattle.desk_schema.specs.declared.line.TheConstants.{SESSION_LIMIT};
+ghost use Rattle.desk_values.specs.declared.limits.TheConstants.{SESSION_LIMIT};
 
 use crate::failure::{Failure, Refusal};
 use crate::reading::{parse_start, read_file, read_sessions};

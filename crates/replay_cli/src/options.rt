@@ -8,10 +8,7 @@ ghost use Rattle.replay_cli.specs.Inside.Limits.{HasWays, HasLimits};
 use crate::words::is_path;
 use desk_values::fields::read_u64;
 use desk_values::{Copied, Memory, Txt, find_word};
-use replay_history::Mode;
-
-/// The greatest percentage.
-const PERCENT_LIMIT: u64 = 1_000;
+use replay_history::{Mode, PERCENT_LIMIT};
 
 /// How a run goes.
 #[derive(Drop)]
@@ -158,7 +155,7 @@ fn percent_of(word: &Txt) -> Option<u32>
     ensures limit { IfSome result (λ percent. percent ≤ 1000) }
 {
     match read_u64(word.as_str().as_bytes()) {
-        Some(percent) if percent <= PERCENT_LIMIT => Some(percent as u32),
+        Some(percent) if percent <= u64::from(PERCENT_LIMIT) => Some(percent as u32),
         _ => None,
     }
 }

@@ -1,11 +1,12 @@
 ghost use Rattle.std.specs.Prelude.{◌≡◌, ◌≤◌, IfOk};
+ghost use Rattle.desk_values.specs.declared.limits.TheConstants.{LAST_MOMENT};
+ghost use Rattle.replay_history.specs.declared.limits.TheConstants.{PERCENT_LIMIT};
 ghost use Rattle.replay_history.specs.Gap.{pause_of};
 ghost use Rattle.history_laws.specs.Places.{AreInPlace};
 ghost use Rattle.replay_clock.specs.Gaps.{AreGaps};
 ghost use Rattle.replay_clock.specs.Inside.{gap_after};
 
-use desk_values::{CallList, Captured, Copied, List, Memory};
-use replay_history::SESSIONS;
+use desk_values::{CallList, Captured, Copied, List, Memory, SESSION_LIMIT};
 use std::alloc::Global;
 
 /// The time before a call of a capture.
@@ -28,8 +29,8 @@ pub type Gaps = List<Gap>;
 
 /// So many hundredths of a time, rounded down.
 pub fn pause(micros: u64, percent: u32) -> u64
-    requires micros { micros ≤ 1000000000000 }
-    requires percent { percent ≤ 1000 }
+    requires micros { micros ≤ LAST_MOMENT }
+    requires percent { percent ≤ PERCENT_LIMIT }
     ensures { result ≡ pause_of micros percent }
 {
     micros * u64::from(percent) / 100
@@ -40,7 +41,7 @@ pub fn gaps_of(alloc: Global, calls: &CallList) -> Result<Gaps, Memory>
     requires { AreInPlace calls.now.items }
     ensures { IfOk result (AreGaps calls.now.items) }
 {
-    let mut ended = [0; SESSIONS];
+    let mut ended = [0; SESSION_LIMIT];
     let mut gaps = List::new(alloc);
     for call in calls.as_slice() {
         let session = call.session as usize;

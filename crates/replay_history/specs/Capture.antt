@@ -1,7 +1,8 @@
 -- Which calls are a legal capture, whatever machine answers them.
 use Rattle.std.specs.Prelude.{◌≡◌, ℕ, ◌+◌, ◌<◌, ◌≤◌, ◌⊎◌, Bool, true, false, IsTrue, if◌then◌else◌, nat_eq, Some, List, [], ◌∷◌, length, take, count_by}
 use Rattle.std.specs.List.{AllByRecursion, Any}
-use Rattle.replay_history.specs.declared.limits.TheConstants.{CALL_LIMIT, SESSIONS}
+use Rattle.desk_values.specs.declared.limits.TheConstants.{SESSION_LIMIT}
+use Rattle.replay_history.specs.declared.limits.TheConstants.{CALL_LIMIT}
 use Rattle.desk_values.specs.declared.value.Value.{Value}
 use Rattle.desk_values.specs.declared.value.Value.TheVariants.{Row, Draw}
 use Rattle.desk_values.specs.declared.value.Image.{Image}
@@ -67,7 +68,7 @@ IsRun {S} gives first (call ∷ calls) last = (next : S) × gives first call.ses
 -- what is said of each call by itself and the calls before it
 pub record FitsIn (rows : List Image) (calls : List Captured) (k : ℕ) (call : Captured) : Type 0 where
   pub stamp : call.stamp ≡ k
-  pub session : call.session < SESSIONS
+  pub session : call.session < SESSION_LIMIT
   pub place : call.place ≡ session_calls_before calls call.session k
   pub number : call.number ≡ number_of calls k call
   pub seen : call.seen ≡ commits_before calls k

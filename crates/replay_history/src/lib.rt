@@ -10,6 +10,6 @@ mod limits;
 mod mode;
 mod report;
 
-pub use limits::{CALL_LIMIT, SESSIONS};
+pub use limits::{CALL_LIMIT, PERCENT_LIMIT};
 pub use mode::Mode;
 pub use report::{Class, Line, Lines, Report};

@@ -1,5 +1,5 @@
 /// How many calls a capture has at most.
 pub const CALL_LIMIT: usize = 100_000;
 
-/// How many sessions a capture has at most.
-pub const SESSIONS: usize = 64;
+/// How many hundredths of its time a pause is at most.
+pub const PERCENT_LIMIT: u32 = 1_000;

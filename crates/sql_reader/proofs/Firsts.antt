@@ -16,7 +16,8 @@ use Rattle.desk_values.specs.Keyword.{keyword_number, same_keyword}
 use Rattle.sql_reader.specs.Words.{sign_number, same_sign, keyword_operator, sign_operator}
 use Rattle.sql_reader.specs.Grammar.{looseness, line_of, operator_token}
 use Rattle.desk_values.specs.Keyword.{all_keywords}
-use Rattle.sql_reader.specs.Reading.{◌>>=◌, after_word, after_sign, operator_of, operator_among, operator_at}
+use Rattle.desk_values.specs.Reading.{◌>>=◌}
+use Rattle.sql_reader.specs.Reading.{after_word, after_sign, operator_of, operator_among, operator_at}
 use Rattle.sql_reader.proofs.Options.{bind_then, guard_some, some_is, nothing_is}
 
 keyword_back : (k : Keyword) → get_or all_keywords (keyword_number k) word.And ≡ k

@@ -8,7 +8,8 @@ use Rattle.sql_reader.specs.declared.error.SqlErr.{SqlErr}
 use Rattle.sql_reader.specs.declared.error.SqlErr.TheVariants as error
 use Rattle.desk_values.specs.Answers.{IsTold}
 use Rattle.sql_reader.specs.Spelling.{told}
-use Rattle.sql_reader.specs.Reading.{◌>>=◌, keep, content_at, step_at, tokens_at, operator_at, more_at, chain_at, inner_at, part_at, after_sign, list_at}
+use Rattle.desk_values.specs.Reading.{◌>>=◌}
+use Rattle.sql_reader.specs.Reading.{keep, content_at, step_at, tokens_at, operator_at, more_at, chain_at, inner_at, part_at, after_sign, list_at}
 use Rattle.sql_reader.specs.Inside.{begins_quote}
 use Rattle.sql_tree.specs.declared.tree.Op.{Op}
 use Rattle.sql_reader.specs.declared.part.Part.{Part}

@@ -1,7 +1,8 @@
 -- Steps that may give nothing.
 use Rattle.std.proofs.Common.{◌≡◌, ◌⊎◌, inl, inr, Bool, true, false, cond, ◌||◌, List, [], ◌∷◌, Option, Some, None, refl, sym, ap}
 use Rattle.std.specs.List.{find}
-use Rattle.sql_reader.specs.Reading.{◌>>=◌, cases}
+use Rattle.desk_values.specs.Reading.{◌>>=◌}
+use Rattle.sql_reader.specs.Reading.{cases}
 
 -- the value of a step that gave one
 pub bind_some : {A B : Type 0} (r : Option A) (f : A → Option B) (y : B) → (r >>= f) ≡ Some y → (x : A) × (r ≡ Some x) × (f x ≡ Some y)

@@ -1,15 +1,16 @@
 -- What is scanned are the tokens, and the tokens are scanned.
 use Rattle.std.proofs.Common.{◌≡◌, ℕ, ◌<◌, ◌≤◌, Bool, true, false, List, length, Some, None, refl, arith, suc, [], ◌∷◌, ◌++◌, take, drop, ap, ◌∙◌, inl, inr, ◌≢◌, ◌+◌, ◌-◌, ◌*◌, ◌/◌, ◌%◌, ◌^◌, cond, ◌&&◌, Option, sym, lit<, zero, subst, append_assoc, length-append, lit≤}
 use Rattle.std.specs.Prelude.{nat_le, ◌&&◌, nat_lt, ◌==◌, codes, ℤ, pos}
-use Rattle.std.specs.Str.{IsUtf8, is_utf8, bytes_eq, IsAscii}
+use Rattle.std.specs.Str.{IsUtf8, bytes_eq, IsAscii}
 use Rattle.std.proofs.lemmas.Bool.{and_parts, leb-true, and_from, ltb-true, lt-ltb, le-leb, eqb-true, cases_lt, ltb-false, le-ltb}
 use Rattle.sql_reader.proofs.Options.{guard_some, either_way, find_passes, some, some_is, bind_some, chosen, pair_is, nothing_is, or_none, bind_then}
 use Rattle.std.proofs.lemmas.Bool.Decides.{nat_tests}
-use Rattle.std.proofs.lemmas.Str.{IsUtf8-from_is_utf8, is_utf8-from_IsUtf8, IsUtf8-from_ascii}
+use Rattle.std.proofs.lemmas.Str.{IsUtf8-from_ascii}
 use Rattle.desk_values.specs.declared.text.TxtErr.{TxtErr}
 use Rattle.desk_values.specs.declared.text.TxtErr.TheVariants as text_error
 use Rattle.sql_reader.specs.Spelling.{sql_err}
-use Rattle.sql_reader.specs.Reading.{txt_at, run_of, behind_run, keyword_at, value_after, bind_number, keep, content_at, begins, all_signs, sign_behind, sign_at, ◌>>=◌, name_or, word_at, value_at, number_at, bind_at, string_at, with_rest, token_at, step_at, tokens_at, scanned}
+use Rattle.desk_values.specs.Reading.{txt_in, ◌>>=◌}
+use Rattle.sql_reader.specs.Reading.{run_of, behind_run, keyword_at, value_after, bind_number, keep, content_at, begins, all_signs, sign_behind, sign_at, name_or, word_at, value_at, number_at, bind_at, string_at, with_rest, token_at, step_at, tokens_at, scanned}
 use Rattle.desk_values.specs.Good.{IsTxt}
 use Rattle.std.specs.List.{list_all, prefix_len, flat_map, find, cons_option}
 use Rattle.sql_reader.specs.Lexical.{is_part, quoted, lengthens, EndsBefore, Lexeme, mark, other_not_equal, is_space, is_word, is_numeral, folded, goes_on, word, name, number, string, bind, Tokens, end, space, then}
@@ -27,52 +28,14 @@ use Rattle.sql_reader.specs.declared.token.Sign.TheVariants as sign
 use Rattle.sql_reader.specs.declared.token.Token.{Token}
 use Rattle.sql_reader.specs.declared.token.Token.TheVariants as token
 use Rattle.sql_reader.specs.Words.{sign_text}
+use Rattle.desk_values.proofs.Escapes.{txt_in_again, txt_in_none, txt_in_taken}
 use Rattle.sql_reader.proofs.Loops.{Fails, content_next}
 
 -- ---- Which bytes are a text of the desk.
 
-utf8_or : (bytes : List ℕ) (b : Bool) → is_utf8 bytes ≡ b → ¬ (¬ (IsUtf8 bytes)) → is_utf8 bytes ≡ true
-utf8_or bytes true e n = e
-utf8_or bytes false e n = absurd (n (λ u. let t = is_utf8-from_IsUtf8 bytes u in cc))
-
-not_utf8 : (bytes : List ℕ) (b : Bool) → is_utf8 bytes ≡ b → ¬ (IsUtf8 bytes) → is_utf8 bytes ≡ false
-not_utf8 bytes true e n = absurd (n (IsUtf8-from_is_utf8 bytes e))
-not_utf8 bytes false e n = e
-
-pub txt_fits : (bytes : List ℕ) → length bytes ≤ 1000 → is_utf8 bytes ≡ true → txt_at bytes ≡ Some bytes
-unfolding txt_at
-txt_fits bytes short e = rw e (grind (arith, nat_tests))
-
-pub txt_ok : (bytes : List ℕ) → ¬ (1000 < length bytes) → ¬ ((length bytes ≤ 1000) × ¬ (IsUtf8 bytes)) → txt_at bytes ≡ Some bytes
-txt_ok bytes short utf8 =
-    let le : length bytes ≤ 1000 = omega arith in
-    txt_fits bytes le (utf8_or bytes (is_utf8 bytes) refl (λ n. utf8 (le, n)))
-
-pub txt_long : (bytes : List ℕ) → 1000 < length bytes → txt_at bytes ≡ None
-unfolding txt_at
-txt_long bytes long = grind (arith, nat_tests)
-
-txt_at_false : (bytes : List ℕ) → is_utf8 bytes ≡ false → txt_at bytes ≡ None
-unfolding txt_at
-txt_at_false bytes e = rw e (grind (arith, nat_tests))
-
-pub txt_not_utf8 : (bytes : List ℕ) → ¬ (IsUtf8 bytes) → txt_at bytes ≡ None
-txt_not_utf8 bytes utf8 = txt_at_false bytes (not_utf8 bytes (is_utf8 bytes) refl utf8)
-
-pub txt_sound : (bytes text : List ℕ) → txt_at bytes ≡ Some text → bytes ≡ text
-unfolding txt_at
-txt_sound bytes text e = (guard_some (nat_le (length bytes) 1000 && is_utf8 bytes) bytes text e).1
-
-pub txt_is : (bytes text : List ℕ) → txt_at bytes ≡ Some text → IsTxt text
-unfolding txt_at
-txt_is bytes text e =
-    let g = guard_some (nat_le (length bytes) 1000 && is_utf8 bytes) bytes text e in
-    let t = and_parts (nat_le (length bytes) 1000) (is_utf8 bytes) g.0 in
-    rw (← g.1) (record { limit = leb-true _ _ t.0; utf8 = IsUtf8-from_is_utf8 bytes t.1 })
-
-pub txt_err : (bytes : List ℕ) (e : TxtErr) → (e ≡ text_error.TooLong → 1000 < length bytes) → (e ≡ text_error.NotUtf8 → (length bytes ≤ 1000) × ¬ (IsUtf8 bytes)) → Fails (sql_err e) (txt_at bytes)
-txt_err bytes text_error.TooLong long utf8 = txt_long bytes (long refl)
-txt_err bytes text_error.NotUtf8 long utf8 = txt_not_utf8 bytes (utf8 refl).1
+pub txt_err : (bytes : List ℕ) (e : TxtErr) → (e ≡ text_error.TooLong → 1000 < length bytes) → (e ≡ text_error.NotUtf8 → (length bytes ≤ 1000) × ¬ (IsUtf8 bytes)) → Fails (sql_err e) (txt_in bytes)
+txt_err bytes text_error.TooLong long utf8 = txt_in_none bytes (λ is. let most : length bytes ≤ 1000 = is.limit in let least : 1000 < length bytes = long refl in omega arith)
+txt_err bytes text_error.NotUtf8 long utf8 = txt_in_none bytes (λ is. (utf8 refl).1 is.utf8)
 txt_err bytes text_error.Memory long utf8 = tt
 
 -- ---- The letters, digits and `_` at the front.
@@ -435,10 +398,10 @@ length_folded (b ∷ bs) = ap suc (length_folded bs)
 front_word : (run : List ℕ) (t : Token) (o : Option Keyword) → keyword_at (folded run) ≡ o → is_word run ≡ true → name_or o (folded run) ≡ Some t → Spelled run t
 front_word run t (Some k) f w e = subst (Spelled run) (some_is (token.Word k) t e) (word w (keyword_sound (folded run) k f), λ b. refl)
 front_word run t None f w e =
-    let g = not_long (nat_lt 30 (length (folded run))) (txt_at (folded run) >>= λ n. Some (token.Name n)) t e in
+    let g = not_long (nat_lt 30 (length (folded run))) (txt_in (folded run) >>= λ n. Some (token.Name n)) t e in
     let short : length run ≤ 30 = omega (arith, ltb-false 30 (length (folded run)) g.0, length_folded run) in
-    bind_then (txt_at (folded run)) (λ n. Some (token.Name n)) t g.1 (λ n en e1.
-    subst (Spelled run) (ap (λ (x : List ℕ). token.Name x) (txt_sound (folded run) n en) ∙ some_is (token.Name n) t e1) (name w (keyword_none (folded run) f) short, λ b. refl))
+    bind_then (txt_in (folded run)) (λ n. Some (token.Name n)) t g.1 (λ n en e1.
+    subst (Spelled run) (ap (λ (x : List ℕ). token.Name x) ((txt_in_taken (folded run) n en).1) ∙ some_is (token.Name n) t e1) (name w (keyword_none (folded run) f) short, λ b. refl))
 
 pub word_sound : (run : List ℕ) (t : Token) → is_word run ≡ true → word_at run ≡ Some t → Spelled run t
 unfolding word_at
@@ -468,10 +431,10 @@ bind_token_sound run t e =
 pub string_sound : (bytes : List ℕ) (t : Token) (rest : List ℕ) → string_at bytes ≡ Some (t, rest) → IsFront (39 ∷ bytes) t rest
 unfolding string_at
 string_sound bytes t rest e =
-    bind_then (content_at bytes) (λ x. txt_at x.0 >>= λ text. Some (token.Text text, x.1)) (t, rest) e (λ x ex e1.
-    bind_then (txt_at x.0) (λ text. Some (token.Text text, x.1)) (t, rest) e1 (λ text et e2.
+    bind_then (content_at bytes) (λ x. txt_in x.0 >>= λ text. Some (token.Text text, x.1)) (t, rest) e (λ x ex e1.
+    bind_then (txt_in x.0) (λ text. Some (token.Text text, x.1)) (t, rest) e1 (λ text et e2.
     let k = content_sound bytes x.0 x.1 ex in
-    let same = txt_sound x.0 text et in
+    let same = (txt_in_taken x.0 text et).1 in
     let parts : 39 ∷ bytes ≡ (39 ∷ (flat_map quoted text ++ 39 ∷ [])) ++ x.1 = ap (λ (bs : List ℕ). 39 ∷ bs) (k.parts ∙ ap (λ (c : List ℕ). flat_map quoted c ++ 39 ∷ x.1) same ∙ sym (append_assoc (flat_map quoted text) (39 ∷ []) x.1)) in
     subst (λ (q : Token × List ℕ). IsFront (39 ∷ bytes) q.0 q.1) (some_is {A = Token × List ℕ} (token.Text text, x.1) (t, rest) e2) (record { text = 39 ∷ (flat_map quoted text ++ 39 ∷ []); parts = parts; lexeme = string (txt_is x.0 text et); ends = ends_quote text x.1 k.stops })))
 
@@ -643,7 +606,7 @@ unfolding word_at
 name_again run w other short =
     let none = keyword_refused (folded run) (keyword_at (folded run)) refl other in
     let len = length_folded run in
-    let fits = txt_fits (folded run) (omega (arith, len)) (is_utf8-from_IsUtf8 (folded run) (IsUtf8-from_ascii (folded run) (folded_ascii run (word_parts run w)))) in
+    let fits = txt_in_again (folded run) (record { limit = omega (arith, len); utf8 = IsUtf8-from_ascii (folded run) (folded_ascii run (word_parts run w)) }) in
     let test : nat_lt 30 (length (folded run)) ≡ false = le-ltb _ _ (omega (arith, len)) in
     rw (none, test, fits) refl
 
@@ -655,7 +618,7 @@ string_again : (text rest : List ℕ) → IsTxt text → NoQuote rest → string
 unfolding string_at
 string_again text rest is stops =
     let e : (flat_map quoted text ++ 39 ∷ []) ++ rest ≡ flat_map quoted text ++ 39 ∷ rest = append_assoc (flat_map quoted text) (39 ∷ []) rest in
-    let fits = txt_fits text is.limit (is_utf8-from_IsUtf8 text is.utf8) in
+    let fits = txt_in_again text is in
     rw (e, content_complete text rest stops, fits) refl
 
 token_quote : (others : List ℕ) → token_at 39 others ≡ string_at others

@@ -10,7 +10,8 @@ use Rattle.sql_reader.specs.declared.token.Token.{Token}
 use Rattle.sql_reader.specs.declared.token.Token.TheVariants as token
 use Rattle.sql_tree.specs.Plain.{Term, null, int, text, bind, column, rowid, neg, not, bin, is_null, not_null, Name, Total, count, total, least, greatest, value, drawn, Change, Entry, Asked, columns, values, totals, Plan, select, next, insert, update, delete, commit, rollback, set_read_only}
 use Rattle.sql_reader.specs.Grammar.{line_of, operator_token, Reads, conjunction, or_, negation, and_, comparison, not_, sum_, compare_, is_null_, not_null_, product, add_, factor, multiply_, primary, minus_, number, string, null_, bind_, name, rowid_, parentheses, IsExpression, Joined, IsList, IsName, IsKey, IsAggregate, IsInput, IsSetting, IsWhere, IsOrder, IsForUpdate, IsSelection, IsColumns, IsBody, IsStatementOf}
-use Rattle.sql_reader.specs.Reading.{◌>>=◌, cases, after_word, after_sign, operator_at, more_at, chain_at, null_test, primary_in, factor_in, product_in, sum_in, compared_in, comparison_in, negation_in, conjunction_in, disjunction_in, part_in, inner_at, part_at, expression_at, list_at, name_at, key_at, enclosed_at, counted_at, made_of, aggregate_at, draw_at, input_at, setting_at, where_at, order_at, for_update_at, from_at, begins_aggregate, aggregates_at, rows_at, listed_at, dual_at, items_at, select_at, columns_at, inputs_at, insert_at, update_at, delete_at, set_at, body_at, without_semicolon, only_if_empty, statement_at}
+use Rattle.desk_values.specs.Reading.{◌>>=◌}
+use Rattle.sql_reader.specs.Reading.{cases, after_word, after_sign, operator_at, more_at, chain_at, null_test, primary_in, factor_in, product_in, sum_in, compared_in, comparison_in, negation_in, conjunction_in, disjunction_in, part_in, inner_at, part_at, expression_at, list_at, name_at, key_at, enclosed_at, counted_at, made_of, aggregate_at, draw_at, input_at, setting_at, where_at, order_at, for_update_at, from_at, begins_aggregate, aggregates_at, rows_at, listed_at, dual_at, items_at, select_at, columns_at, inputs_at, insert_at, update_at, delete_at, set_at, body_at, without_semicolon, only_if_empty, statement_at}
 use Rattle.sql_reader.proofs.Options.{bind_then, some, some_is, nothing_is, cases_are, chosen}
 use Rattle.sql_reader.proofs.Firsts.{after_word_is, after_sign_is, operator_sound}
 use Rattle.sql_tree.specs.declared.tree.Key.{Key}

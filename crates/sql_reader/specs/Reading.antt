@@ -1,13 +1,13 @@
 -- How a text is read, as a function: bytes to tokens, and tokens to the tree of a statement, from left to right.
 -- Nothing of this has to be believed: the law `statement_as_spelled` says that `statement_of`, the last word here, is
 -- `Some` exactly where the text spells that statement, and what a text spells stands in Lexical, Grammar and Spelling.
-use Rattle.std.specs.Prelude.{ℕ, zero, suc, ◌+◌, ◌-◌, ◌*◌, ◌^◌, ℤ, pos, Bool, false, ◌&&◌, ◌==◌, nat_lt, nat_le, if◌then◌else◌, List, [], ◌∷◌, length, take, drop, Option, None, Some, option_and_then, codes, true}
+use Rattle.std.specs.Prelude.{ℕ, zero, suc, ◌+◌, ◌-◌, ◌*◌, ◌^◌, ℤ, pos, Bool, false, ◌&&◌, ◌==◌, nat_lt, nat_le, if◌then◌else◌, List, [], ◌∷◌, length, take, drop, Option, None, Some, codes, true}
 use Rattle.std.specs.List.{find, prefix_len, cons_option}
 use Rattle.std.specs.Char.{is_ascii_alphabetic, is_ascii_digit}
-use Rattle.std.specs.Str.{is_utf8, bytes_eq}
+use Rattle.std.specs.Str.{bytes_eq}
 use Rattle.desk_values.specs.declared.keyword.Keyword.{Keyword}
 use Rattle.desk_values.specs.declared.keyword.TheConstants.{NAME_LIMIT}
-use Rattle.desk_values.specs.declared.text.TheConstants.{TEXT_LIMIT}
+use Rattle.desk_values.specs.Reading.{◌>>=◌, txt_in}
 use Rattle.sql_reader.specs.declared.sentences.TheConstants.{LIST_LIMIT, NESTING_LIMIT}
 use Rattle.sql_reader.specs.declared.token.Sign.{Sign}
 use Rattle.sql_reader.specs.declared.token.Sign.TheVariants as sign
@@ -25,17 +25,9 @@ use Rattle.sql_tree.specs.Plain.{Term, null, int, text, bind, column, rowid, neg
 use Rattle.sql_reader.specs.Grammar.{line_of, looseness}
 use Rattle.sql_tree.specs.declared.tree.Key.{Key}
 
-infixl 10 ◌>>=◌
-abbrev pub ◌>>=◌ : {A B : Type 0} → Option A → (A → Option B) → Option B
-o >>= f = option_and_then f o
-
 -- the longer signs come first
 abbrev pub all_signs : List Sign
 all_signs = sign.NotEqual ∷ sign.LessOrEqual ∷ sign.GreaterOrEqual ∷ sign.Less ∷ sign.Greater ∷ sign.Equal ∷ sign.Open ∷ sign.Close ∷ sign.Comma ∷ sign.Dot ∷ sign.Star ∷ sign.Plus ∷ sign.Minus ∷ sign.Slash ∷ sign.Semicolon ∷ []
-
--- the bytes, if they are a text of the desk
-unfoldable pub txt_at : List ℕ → Option (List ℕ)
-txt_at bytes = if nat_le (length bytes) TEXT_LIMIT && is_utf8 bytes then Some bytes else None
 
 -- the word of the language that the bytes are
 abbrev pub keyword_at : List ℕ → Option Keyword
@@ -43,7 +35,7 @@ keyword_at bytes = member_with_word keyword_word all_keywords bytes
 
 abbrev pub name_or : Option Keyword → List ℕ → Option Token
 name_or (Some keyword) bytes = Some (token.Word keyword)
-name_or None bytes = if nat_lt NAME_LIMIT (length bytes) then None else (txt_at bytes >>= λ name. Some (token.Name name))
+name_or None bytes = if nat_lt NAME_LIMIT (length bytes) then None else (txt_in bytes >>= λ name. Some (token.Name name))
 
 -- a word of the language or a name
 unfoldable pub word_at : List ℕ → Option Token
@@ -91,7 +83,7 @@ content_at (a ∷ b ∷ bytes) = if a == 39 then (if b == 39 then keep 39 (conte
 unfoldable pub string_at : List ℕ → Option (Token × List ℕ)
 string_at bytes = do
   x ← content_at bytes
-  content ← txt_at x.0
+  content ← txt_in x.0
   Some (token.Text content, x.1)
 
 -- the bytes begin so

@@ -4,7 +4,8 @@ ghost use Rattle.std.specs.Prelude.{◌≡◌, ◌∷◌, IfOk, MatchOption, fal
 ghost use Rattle.std.specs.List.{prefix_len};
 ghost use Rattle.sql_reader.specs.Spelling.{Gives};
 ghost use Rattle.sql_reader.specs.Lexical.{is_space, is_part, folded};
-ghost use Rattle.sql_reader.specs.Reading.{txt_at, word_at, value_at, number_at, bind_number, bind_at, content_at, string_at, sign_at, run_of, behind_run, token_at, step_at, tokens_at, scanned};
+ghost use Rattle.desk_values.specs.Reading.{txt_in};
+ghost use Rattle.sql_reader.specs.Reading.{word_at, value_at, number_at, bind_number, bind_at, content_at, string_at, sign_at, run_of, behind_run, token_at, step_at, tokens_at, scanned};
 ghost use Rattle.sql_reader.specs.Inside.{begins_quote};
 
 use crate::error::SqlErr;
@@ -39,9 +40,9 @@ fn run_len(bytes: &[u8]) -> usize
     bytes.iter().take_while(|byte| is_word_byte(**byte)).count()
 }
 
-#[tactic(auto, unfolding(crate::specs::Reading::txt_at))]
+#[tactic(auto, unfolding(desk_values::specs::Reading::txt_in))]
 fn text_of(alloc: Global, bytes: &[u8]) -> Result<Txt, SqlErr>
-    ensures { Gives (λ text. text) result (txt_at bytes.now) }
+    ensures { Gives (λ text. text) result (txt_in bytes.now) }
 {
     Ok(Txt::from_bytes(alloc, bytes)?)
 }

@@ -15,11 +15,10 @@ ghost use Rattle.machine_model.specs.Sound.{AreStanding};
 use desk_schema::Start;
 use desk_values::{Call, Images, Memory, Reply, Value};
 use machine_model::{Copies, PlainMachine};
+
+pub use machine_model::STEP_LIMIT;
 use std::alloc::Global;
 use std::marker::Model;
-
-/// How many steps an engine takes at most.
-pub const STEP_LIMIT: u64 = 1_048_576;
 
 /// The engine. Contracts see the state of the server, and how many steps it has taken.
 #[derive(Drop)]

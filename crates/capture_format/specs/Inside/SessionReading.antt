@@ -10,7 +10,7 @@ use Rattle.capture_format.specs.ReplyReading.{reply_of}
 use Rattle.capture_format.specs.declared.session_line.CallLine.{CallLine}
 use Rattle.capture_format.specs.declared.session_line.Exchange.{Exchange}
 use Rattle.capture_format.specs.declared.session_line.SessionLine.{SessionLine}
-use Rattle.capture_format.specs.declared.session_line.TheConstants.{LAST_MOMENT}
+use Rattle.desk_values.specs.declared.limits.TheConstants.{LAST_MOMENT}
 use Rattle.capture_format.specs.declared.session_line.SessionLine.TheVariants.{Head, Call, End}
 
 -- a number up to this one, and what stands behind the space after it

@@ -2,6 +2,8 @@
 use Rattle.std.specs.Prelude.{ℕ, ◌+◌, ◌≤◌, List}
 use Rattle.std.specs.List.{All}
 use Rattle.desk_values.specs.declared.value.Image.{Image}
+use Rattle.desk_schema.specs.declared.rules.TheConstants.{NEXT_LIMIT}
+use Rattle.machine_model.specs.declared.machine.TheConstants.{STEP_LIMIT}
 use Rattle.machine_model.specs.Sound.{IsSound}
 use Rattle.machine_model.specs.Inside.Rows.{AreLatest}
 use Rattle.machine_model.specs.Machine.{Running}
@@ -10,6 +12,6 @@ use Rattle.machine_model.specs.Machine.{Running}
 pub record Keeps (running : Running) (current : List (List Image)) : Type 0 where
   pub sound : IsSound running.state
   pub latest : AreLatest running.state.start.rows running.state.commits 0 current
-  pub steps : running.steps ≤ 1048576
-  pub next_row : running.state.next_row ≤ 549755813888 + running.steps
-  pub next_values : All (λ (n : ℕ). n ≤ 549755813888 + running.steps) running.state.next_values
+  pub steps : running.steps ≤ STEP_LIMIT
+  pub next_row : running.state.next_row ≤ NEXT_LIMIT + running.steps
+  pub next_values : All (λ (n : ℕ). n ≤ NEXT_LIMIT + running.steps) running.state.next_values

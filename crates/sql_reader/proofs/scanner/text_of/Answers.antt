@@ -1,6 +1,7 @@
-use Rattle.std.proofs.Common.{ap, ◌∙◌, sym, Some, Err}
+use Rattle.std.proofs.Common.{ap, ◌∙◌, refl, sym, Some, Err}
 use Rattle.std.proofs.lemmas.Result.{err_from_is_err_and}
-use Rattle.sql_reader.proofs.Scanning.{txt_ok, txt_err}
+use Rattle.desk_values.proofs.Escapes.{txt_in_made}
+use Rattle.sql_reader.proofs.Scanning.{txt_err}
 use Rattle.sql_reader.proofs.scanner.text_of.Goals as goal
 
 pub returns-in_err-from_bytes : goal.returns-in_err-from_bytes
@@ -10,4 +11,4 @@ returns-in_err-from_bytes c =
 
 pub returns : goal.returns
 returns c =
-    txt_ok c.args.bytes.now (λ h. let e = c.in_ok-from_bytes.ensures.too_long.1 h in cc) (λ h. let e = c.in_ok-from_bytes.ensures.not_utf8.1 h in cc) ∙ ap (λ t. Some t) (sym c.in_ok-from_bytes.ensures.ok)
+    txt_in_made c.args.bytes.now c.args.bytes.now refl (λ h. let e = c.in_ok-from_bytes.ensures.too_long.1 h in cc) (λ h. let e = c.in_ok-from_bytes.ensures.not_utf8.1 h in cc) ∙ ap (λ t. Some t) (sym c.in_ok-from_bytes.ensures.ok)
