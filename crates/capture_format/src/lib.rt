@@ -11,8 +11,8 @@
 mod call;
 pub mod laws;
 mod name;
-mod pieces;
 mod reply;
+mod separated;
 mod session;
 mod session_line;
 mod session_writer;

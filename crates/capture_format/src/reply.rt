@@ -10,7 +10,7 @@ ghost use Rattle.desk_values.specs.Reading.{Reads, number_below, each_of};
 ghost use Rattle.capture_format.specs.ReplyReading.{fault_of, filled_of, open_rows_of, rows_of, left_of, image_of, images_of, word_outcome_of, field_outcome_of, outcome_of, draws_of, made_of, reply_of};
 ghost use Rattle.capture_format.specs.Inside.Answers.{ReadsAs};
 
-use crate::pieces::{Piece, read_pieces};
+use crate::separated::{Piece, read_pieces};
 use desk_values::fields::{append_u64, cut, read_u32, read_u64};
 use desk_values::{
     Bytes, Fault, Image, Images, List, Memory, Outcome, ReadErr, Reply, RowList, TABLE_LIMIT,

@@ -3,7 +3,7 @@ use Rattle.std.proofs.lemmas.Result.{err_from_is_err_and}
 use Rattle.desk_values.specs.Reading.{each_of}
 use Rattle.desk_values.specs.Fields.{pieces}
 use Rattle.desk_values.proofs.Cuts.{each_none, each_more, each_last, each_bad, each_last_bad}
-use Rattle.capture_format.proofs.pieces.read_pieces.Goals as goal
+use Rattle.capture_format.proofs.separated.read_pieces.Goals as goal
 
 pub loop-piece-init : goal.loop-piece-init
 loop-piece-init g c = each_none g.T.Piece.reading c.args.separator c.args.bytes.now c.new-items.result c.new-items.ensures

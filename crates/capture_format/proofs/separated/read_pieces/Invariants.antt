@@ -2,7 +2,7 @@ use Rattle.std.proofs.Common.{◌≡◌, length}
 use Rattle.desk_values.specs.Fields.{pieces}
 use Rattle.desk_values.specs.Reading.{each_of}
 use Rattle.desk_values.proofs.Cuts.{onto_items}
-use Rattle.capture_format.proofs.pieces.read_pieces.Given as goal
+use Rattle.capture_format.proofs.separated.read_pieces.Given as goal
 
 -- what is read so far, and what is left to read
 abbrev pub invariant-loop-piece : goal.invariant-loop-piece
