@@ -11,7 +11,7 @@ ghost use Rattle.capture_format.specs.Inside.StartStage.{IsStage, LeadsTo, state
 
 use crate::start_line::read_start_line;
 use desk_schema::{ColumnKind, Draft, Kind, Start, StartLine};
-use desk_values::ReadErr;
+use desk_values::{ReadErr, SESSION_LIMIT};
 use file_lines::{FormErr, LineFile, read_lines};
 use std::alloc::Global;
 use std::marker::Model;

@@ -42,7 +42,7 @@ module _ {X : Type 0} (lt : X → X → Bool) where
   all_put P x [] one all = (one, tt)
   all_put P x (y ∷ ys) one all = elim (lt y x) as (λ b. AllByRecursion P (if b then y ∷ put x ys else x ∷ y ∷ ys)) [ true ↦ (all.0, all_put P x ys one all.1) | false ↦ (one, all) ]
 
-  all_then : (P Q : X → Type 0) → ((z : X) → P z → Q z) → (ys : List X) → AllByRecursion P ys → AllByRecursion Q ys
+  pub all_then : (P Q : X → Type 0) → ((z : X) → P z → Q z) → (ys : List X) → AllByRecursion P ys → AllByRecursion Q ys
   all_then P Q so [] all = tt
   all_then P Q so (y ∷ ys) all = (so y all.0, all_then P Q so ys all.1)
 

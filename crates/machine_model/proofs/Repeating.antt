@@ -8,14 +8,15 @@ use mathlib.Core.Bool.{true≢false}
 use Rattle.std.specs.Ordering.{is_eq, is_lt, nat_cmp, int_cmp, ordering_reverse}
 use Rattle.std.specs.Cmp.{IsTotalOrder, unsigned_ties, both_tied, first_so, second_so, Equal-is}
 use Rattle.std.specs.declared.cmp.Ordering.{Ordering}
+use Rattle.std.proofs.lemmas.Bool.{and_parts}
 use Rattle.std.proofs.lemmas.List.MinMax.{ranks_by}
 use Rattle.std.proofs.lemmas.Cmp.{nat_cmp_total, on_total, then_total, eq_by_cmp_equiv}
 use Rattle.desk_values.specs.declared.value.Value.{Value}
 use Rattle.desk_values.specs.declared.value.Value.TheVariants.{Null, Int, Text, Row, Draw}
 use Rattle.desk_values.specs.Comparison.{same_key, text_order}
 use Rattle.machine_model.specs.Writes.{repeats_key}
-use Rattle.machine_model.specs.Inside.Repeats.{id_number, id_sequence, order_of_keys, same_neighbours}
-use Rattle.machine_model.proofs.Ordering.{InOrder, any_put, any_put_all, column_total, in_order_all, put, put_all, sorted_as, then_equal}
+use Rattle.machine_model.specs.Inside.Repeats.{id_number, id_sequence, keys_rise, order_of_keys, same_neighbours}
+use Rattle.machine_model.proofs.Ordering.{InOrder, all_then, any_put, any_put_all, column_total, in_order_all, put, put_all, sorted_as, then_equal}
 
 pub keys_total : (level : ℕ) → IsTotalOrder (order_of_keys level)
 keys_total level = then_total (column_total level) (then_total (on_total id_sequence nat_cmp_total) (on_total id_number nat_cmp_total))
@@ -93,6 +94,32 @@ module _ (level : ℕ) where
     | false ↦ λ apart. neighbours_repeat (y ∷ rest) up.1 ∙ ap (λ c. c || repeats_key level (y ∷ rest)) (sym (none_beyond x y rest up.0.0 up.1.0 apart))
   ] refl
 
+  -- ---- keys that rise
+
+  rise_in_order : (xs : List Value) → keys_rise level xs ≡ true → InOrder comes_before xs
+  rise_in_order [] up = tt
+  rise_in_order (x ∷ []) up = (tt, tt)
+  rise_in_order (x ∷ y ∷ rest) up =
+      let order = ranks_by (keys_total level) (λ v. v) in
+      let both = and_parts (comes_before x y) (keys_rise level (y ∷ rest)) up in
+      let behind = rise_in_order (y ∷ rest) both.1 in
+      let back : comes_before y x ≡ false = order.one_way x y both.0 in
+      ((back, all_then comes_before (λ z. comes_before z y ≡ false) (λ z. comes_before z x ≡ false) (λ z le. order.chain z y x le back) rest behind.0), behind)
+
+  less_apart : (b : Bool) (o : Ordering) → is_lt o ≡ true → (b && is_eq o) ≡ false
+  less_apart b o less = grind arith
+
+  rise_apart : (xs : List Value) → keys_rise level xs ≡ true → same_neighbours level xs ≡ false
+  rise_apart [] up = refl
+  rise_apart (x ∷ []) up = refl
+  rise_apart (x ∷ y ∷ rest) up =
+      let both = and_parts (comes_before x y) (keys_rise level (y ∷ rest)) up in
+      let first : same_key level x y ≡ false = same_key_is level x y ∙ less_apart (is_something x) (order_of_keys level x y) both.0 in
+      rw first (rise_apart (y ∷ rest) both.1)
+
+  pub rising_apart : (xs : List Value) → keys_rise level xs ≡ true → false ≡ repeats_key level xs
+  rising_apart xs up = sym (rise_apart xs up) ∙ neighbours_repeat xs (rise_in_order xs up)
+
   -- in the order that a sort of references leaves
   pub repeats_sorted : (xs ys : List (Bor Value)) → IsSortedBy (λ a b. comes_before a.now b.now) ys → IsStableBy (λ a b. comes_before a.now b.now) xs ys → same_neighbours level (map (λ (k : Bor Value). k.now) ys) ≡ repeats_key level (map (λ (k : Bor Value). k.now) xs)
   repeats_sorted xs ys up stable =
@@ -100,6 +127,11 @@ module _ (level : ℕ) where
       ap (same_neighbours level) (sorted_as now comes_before xs ys (ranks_by (keys_total level) now) up stable)
       ∙ neighbours_repeat (put_all comes_before (map now xs)) (in_order_all comes_before (ranks_by (keys_total level) (λ v. v)) (map now xs))
       ∙ repeats_all (map now xs)
+
+  pub few_rise : (ks : List (Bor Value)) → length ks < 2 → true ≡ keys_rise level (map (λ (k : Bor Value). k.now) ks)
+  few_rise [] few = refl
+  few_rise (k ∷ []) few = refl
+  few_rise (k ∷ l ∷ ks) few = absurd (omega arith)
 
   pub too_few : (ks : List (Bor Value)) → length ks < 2 → false ≡ same_neighbours level (map (λ (k : Bor Value). k.now) ks)
   too_few [] few = refl

@@ -1,15 +1,13 @@
 //! What an INSERT does.
 
-ghost use Rattle.std.specs.Prelude.{◌≡◌, ◌∷◌, map, nat_eq, IfOk};
+ghost use Rattle.std.specs.Prelude.{◌≡◌, map, nat_eq, IfOk};
 ghost use Rattle.std.specs.List.{position};
 ghost use Rattle.sql_tree.specs.Plain.{entry_of};
-ghost use Rattle.machine_model.specs.Rows.{row_key};
 ghost use Rattle.sql_eval.specs.Faults.{any_fault, noted};
-ghost use Rattle.sql_eval.specs.Totals.{looked_at};
 ghost use Rattle.machine_model.specs.Inside.Evaluation.{env_of};
 ghost use Rattle.machine_model.specs.Causes.{ranked};
 ghost use Rattle.machine_model.specs.Found.{sound};
-ghost use Rattle.machine_model.specs.Writes.{column_value, input_place, input_value, inputs_for, repeats_key, row_values};
+ghost use Rattle.machine_model.specs.Writes.{column_value, input_place, input_value, inputs_for, row_values};
 ghost use Rattle.machine_model.specs.Answer.{insert_causes, insert_effect, new_causes, new_row, ruled};
 ghost use Rattle.machine_model.specs.Inside.Decision.{Decides, view_of_seen};
 
@@ -21,7 +19,7 @@ use crate::evaluation::Evaluation;
 use crate::found::evaluated;
 use crate::holds::hold_key;
 use crate::images::{row_key, tested};
-use crate::repeats::repeats_key;
+use crate::repeats::makes_key_twice;
 use crate::seen::Seen;
 use desk_schema::Column;
 use desk_values::{Copied, Fault, Image, List, Memory, Outcome, Value, Values};
@@ -195,30 +193,6 @@ fn insert_fault(
     };
     let causes = tested(with, columns, slice::from_ref(new), causes);
     Ok(causes.ranked())
-}
-
-/// Whether the new row has the key of another, or two others have one.
-fn makes_key_twice(with: Evaluation<'_>, new: &Image, rows: &[&Image]) -> Result<bool, Memory>
-    ensures { IfOk result (λ b. b ≡ repeats_key with.entry.level (map row_key (new.now ∷ looked_at rows.now))) }
-{
-    let after = rows_after(with.alloc, new, rows)?;
-    repeats_key(with, &after)
-}
-
-/// The rows as the INSERT leaves them.
-fn rows_after<'a>(
-    alloc: Global,
-    new: &'a Image,
-    rows: &[&'a Image],
-) -> Result<Vec<&'a Image>, Memory>
-    ensures { IfOk result (λ after. looked_at after.items ≡ new.now ∷ looked_at rows.now) }
-{
-    let mut after = Vec::new(alloc);
-    after.push(new)?;
-    for image in rows {
-        after.push(*image)?;
-    }
-    Ok(after)
 }
 
 /// This row is made.

@@ -156,5 +156,8 @@ pub fn rows_seen<'a>(
 {
     let rows = base(alloc, start, commits, current, session.snapshot, table)?;
     let changes = of_table(alloc, session.own.changes.as_slice(), table)?;
+    if changes.is_empty() {
+        return Ok(rows);
+    }
     laid(alloc, &rows, &changes)
 }

@@ -1,6 +1,6 @@
 -- How keys that repeat are found: in an order of keys, those that are one key stand side by side.
-use Rattle.std.specs.Prelude.{ℕ, Bool, false, ◌||◌, List, [], ◌∷◌}
-use Rattle.std.specs.Ordering.{nat_cmp, ordering_then}
+use Rattle.std.specs.Prelude.{ℕ, Bool, true, false, ◌&&◌, ◌||◌, List, [], ◌∷◌}
+use Rattle.std.specs.Ordering.{is_lt, nat_cmp, ordering_then}
 use Rattle.std.specs.declared.cmp.Ordering.{Ordering}
 use Rattle.desk_values.specs.declared.value.Value.{Value}
 use Rattle.desk_values.specs.declared.value.Value.TheVariants.{Row, Draw}
@@ -20,6 +20,12 @@ id_number other = 0
 -- the order of a column, and that of ids, which a column does not have
 abbrev pub order_of_keys : ℕ → Value → Value → Ordering
 order_of_keys level a b = ordering_then (column_order level a b) (ordering_then (nat_cmp (id_sequence a) (id_sequence b)) (nat_cmp (id_number a) (id_number b)))
+
+-- each comes before the next
+abbrev pub keys_rise : ℕ → List Value → Bool
+keys_rise level [] = true
+keys_rise level (first ∷ []) = true
+keys_rise level (first ∷ second ∷ rest) = is_lt (order_of_keys level first second) && keys_rise level (second ∷ rest)
 
 -- two that stand side by side are one key
 abbrev pub same_neighbours : ℕ → List Value → Bool

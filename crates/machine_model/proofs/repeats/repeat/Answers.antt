@@ -4,19 +4,17 @@ use denote.Ref.{Bor}
 use Rattle.desk_values.specs.declared.value.Value.{Value}
 use Rattle.std.specs.Ordering.{is_lt}
 use Rattle.std.proofs.lemmas.List.MinMax.{ranks_by}
-use Rattle.machine_model.specs.Writes.{repeats_key}
 use Rattle.machine_model.specs.Inside.Repeats.{order_of_keys, same_neighbours}
 use Rattle.machine_model.proofs.Repeating.{keys_total, repeats_sorted}
-use Rattle.machine_model.proofs.repeats.repeats_key.Goals as goal
+use Rattle.machine_model.proofs.repeats.repeat.Goals as goal
 
 pub returns : goal.returns
 returns c =
-    let level = c.args.with.level in
+    let level = c.args.level in
     let now : Bor Value → Value = λ (k : Bor Value). k.now in
     let before = λ (a b : Bor Value). is_lt (order_of_keys level a.now b.now) in
     let order = ranks_by (keys_total level) now in
     let answers = always_returns_same _ _ _ (λ a r f called. let same : r ≡ order_of_keys level a.0.now.now a.1.0.now.now = search rules in (ap is_lt same, search rules)) in
     c.same_neighbours.ensures
     ∙ ap (λ ks. same_neighbours level (map now ks)) c.deref.ensures.value
-    ∙ repeats_sorted level c.in_ok-keys.keys.items c.sort_by.new.self.items (c.in_ok-sort_by.ensures.sorted before order answers) (c.in_ok-sort_by.ensures.stable before order answers)
-    ∙ ap (repeats_key level) c.in_ok-keys.ensures
+    ∙ repeats_sorted level c.args.keys.items c.sort_by.new.self.items (c.in_ok-sort_by.ensures.sorted before order answers) (c.in_ok-sort_by.ensures.stable before order answers)
