@@ -1,10 +1,10 @@
 -- What laying changes does to the rows of each table.
-use Rattle.std.proofs.Common.{◌≡◌, ◌≢◌, ℕ, zero, suc, ◌+◌, ◌<◌, ◌≤◌, List, [], ◌∷◌, ◌++◌, length, get_or, set, map, reverse, true, false, eqb, ◌⊎◌, inl, inr, refl, sym, ap, subst, ◌∙◌, add-zero, get_or-set_same, get_or-set_other, length-set, arith}
+use Rattle.std.proofs.Common.{◌≡◌, ◌≢◌, ℕ, zero, suc, ◌+◌, ◌<◌, ◌≤◌, List, [], ◌∷◌, ◌++◌, length, get_or, set, map, reverse, true, false, eqb, ◌⊎◌, inl, inr, refl, sym, ap, ◌∙◌, add-zero, get_or-set_same, get_or-set_other, length-set, arith}
 use Rattle.std.proofs.lemmas.Bool.{eq-eqb, eqb-true, ne_eqb}
 use Rattle.std.proofs.Math.Seq.{map-set_same}
 use Rattle.std.proofs.lemmas.List.{get_or-map, length-map, map-append, map-set, reverse-append}
 use Rattle.desk_values.specs.declared.value.Image.{Image}
-use Rattle.machine_model.specs.Rows.{lay, lay_all, of_table, placed, shown}
+use Rattle.machine_model.specs.Rows.{lay, of_table, placed, shown}
 use Rattle.machine_model.specs.Inside.Rows.{AreLatest, HaveRoom, Stock, lay_tables, stocked}
 use Rattle.machine_model.proofs.Laying.{lay_all_push}
 

@@ -1,5 +1,5 @@
 -- What the steps of the machine share.
-use Rattle.std.proofs.Common.{◌≡◌, ℕ, zero, suc, ◌+◌, ◌<◌, ◌≤◌, Bool, true, false, List, [], ◌∷◌, ◌++◌, Option, None, Some, replicate, Result, IfOk, if◌then◌else◌, refl, subst, sym, ap, ◌∙◌, arith}
+use Rattle.std.proofs.Common.{◌≡◌, ℕ, ◌+◌, ◌<◌, ◌≤◌, true, false, List, [], ◌∷◌, Option, None, Some, replicate, Result, IfOk, if◌then◌else◌, refl, subst, sym, ap, ◌∙◌, arith}
 use Rattle.std.specs.List.{All, AllByRecursion, list_any}
 use Rattle.std.proofs.lemmas.List.Elements.{All-cons, All-nil, All-tail}
 use Rattle.desk_values.specs.declared.value.Value.{Value}
@@ -21,7 +21,7 @@ use Rattle.machine_model.specs.declared.session.Session.{Session}
 use Rattle.desk_schema.specs.Start.{StartView}
 use Rattle.desk_schema.specs.File.{IsStart}
 use Rattle.machine_model.specs.State.{State, disconnected, opening, session_at}
-use Rattle.machine_model.specs.View.{View, plain_view, view_of}
+use Rattle.machine_model.specs.View.{plain_view, view_of}
 use Rattle.machine_model.specs.Inside.Rows.{AreLatest, lay_tables}
 use Rattle.machine_model.specs.Causes.{statement_fault}
 use Rattle.machine_model.specs.Draws.{is_draw_of, moved}

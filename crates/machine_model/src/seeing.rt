@@ -96,7 +96,9 @@ fn committed<'a>(
     let mut seen = of_table(alloc, start, table)?;
     for commit in commits {
         let changes = of_table(alloc, commit.as_slice(), table)?;
-        seen = laid(alloc, &seen, &changes)?;
+        if !changes.is_empty() {
+            seen = laid(alloc, &seen, &changes)?;
+        }
     }
     Ok(seen)
 }
@@ -117,8 +119,12 @@ fn base<'a>(
     match snapshot {
         None => latest(alloc, start, commits, current, table),
         Some(number) => {
-            let count = (number as usize).min(commits.len());
-            committed(alloc, start, &commits[..count], table)
+            let count = number as usize;
+            if count < commits.len() {
+                committed(alloc, start, &commits[..count], table)
+            } else {
+                latest(alloc, start, commits, current, table)
+            }
         }
     }
 }

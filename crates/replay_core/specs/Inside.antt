@@ -22,7 +22,6 @@ use Rattle.gate_law.specs.Following.{IsGateOf}
 use Rattle.replay_core.specs.declared.desk.Desk.TheInside.{Inside}
 use Rattle.replay_core.specs.declared.desk.Parts.{Parts}
 use Rattle.desk_values.specs.declared.limits.TheConstants.{SESSION_LIMIT}
-use Rattle.desk_schema.specs.declared.rules.TheConstants.{SEQUENCE_LIMIT}
 use Rattle.replay_core.specs.View.{stage_of}
 
 pub record IsDesk (a : Inside) : Type 0 where
@@ -41,7 +40,7 @@ pub record MayExecute (job : JobView) (stage : Stage) (k : ℕ) (call : Captured
   pub at : IsCallAt job.calls k call
   pub session : call.session < SESSION_LIMIT
   pub low : HasLowIds call.call
-  pub few : length call.reply.draws ≤ SEQUENCE_LIMIT
+  pub few : length call.reply.draws ≤ 16
   pub new_ids : (reply : Reply) (next : State) → Gives stage.state call.session (sent stage.pairs job.remap call.call) reply next → HasNoIdTwice (stage.pairs ++ learnt call.reply reply)
 
 -- a server that has just begun

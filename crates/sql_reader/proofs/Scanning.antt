@@ -434,9 +434,10 @@ string_sound bytes t rest e =
     bind_then (content_at bytes) (λ x. txt_in x.0 >>= λ text. Some (token.Text text, x.1)) (t, rest) e (λ x ex e1.
     bind_then (txt_in x.0) (λ text. Some (token.Text text, x.1)) (t, rest) e1 (λ text et e2.
     let k = content_sound bytes x.0 x.1 ex in
-    let same = (txt_in_taken x.0 text et).1 in
+    let taken = txt_in_taken x.0 text et in
+    let same = taken.1 in
     let parts : 39 ∷ bytes ≡ (39 ∷ (flat_map quoted text ++ 39 ∷ [])) ++ x.1 = ap (λ (bs : List ℕ). 39 ∷ bs) (k.parts ∙ ap (λ (c : List ℕ). flat_map quoted c ++ 39 ∷ x.1) same ∙ sym (append_assoc (flat_map quoted text) (39 ∷ []) x.1)) in
-    subst (λ (q : Token × List ℕ). IsFront (39 ∷ bytes) q.0 q.1) (some_is {A = Token × List ℕ} (token.Text text, x.1) (t, rest) e2) (record { text = 39 ∷ (flat_map quoted text ++ 39 ∷ []); parts = parts; lexeme = string (txt_is x.0 text et); ends = ends_quote text x.1 k.stops })))
+    subst (λ (q : Token × List ℕ). IsFront (39 ∷ bytes) q.0 q.1) (some_is {A = Token × List ℕ} (token.Text text, x.1) (t, rest) e2) (record { text = 39 ∷ (flat_map quoted text ++ 39 ∷ []); parts = parts; lexeme = string (subst IsTxt same taken.0); ends = ends_quote text x.1 k.stops })))
 
 -- a run of parts at the front
 front_run : (bytes run rest : List ℕ) (t : Token) → IsRun bytes run rest → Spelled run t → IsFront bytes t rest

@@ -2,7 +2,6 @@
 use Rattle.std.specs.Prelude.{ℕ, ◌+◌, ◌≤◌, List}
 use Rattle.std.specs.List.{All}
 use Rattle.desk_values.specs.declared.value.Image.{Image}
-use Rattle.desk_schema.specs.declared.rules.TheConstants.{NEXT_LIMIT}
 use Rattle.machine_model.specs.declared.machine.TheConstants.{STEP_LIMIT}
 use Rattle.machine_model.specs.Sound.{IsSound}
 use Rattle.machine_model.specs.Inside.Rows.{AreLatest}
@@ -13,5 +12,5 @@ pub record Keeps (running : Running) (current : List (List Image)) : Type 0 wher
   pub sound : IsSound running.state
   pub latest : AreLatest running.state.start.rows running.state.commits 0 current
   pub steps : running.steps ≤ STEP_LIMIT
-  pub next_row : running.state.next_row ≤ NEXT_LIMIT + running.steps
-  pub next_values : All (λ (n : ℕ). n ≤ NEXT_LIMIT + running.steps) running.state.next_values
+  pub next_row : running.state.next_row ≤ 549755813888 + running.steps
+  pub next_values : All (λ (n : ℕ). n ≤ 549755813888 + running.steps) running.state.next_values

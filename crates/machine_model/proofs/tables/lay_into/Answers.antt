@@ -1,4 +1,4 @@
-use Rattle.std.proofs.Common.{length, inr, sym, arith}
+use Rattle.std.proofs.Common.{inr, sym, arith}
 use Rattle.machine_model.specs.Inside.Rows.{stocked}
 use Rattle.machine_model.proofs.Stocking.{laid_into, lay_beside, room_after, room_less, stocked_length}
 use Rattle.machine_model.proofs.tables.lay_into.Goals as goal

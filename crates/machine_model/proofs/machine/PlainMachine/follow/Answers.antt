@@ -1,4 +1,4 @@
-use Rattle.std.proofs.Common.{◌≡◌, ℕ, ◌+◌, List, ◌++◌, take, drop, length, set, refl, sym, ap, subst, ◌<◌, ◌∙◌, arith, rules}
+use Rattle.std.proofs.Common.{◌≡◌, ◌+◌, List, length, set, refl, sym, ap, subst, ◌<◌, ◌∙◌, arith}
 use Rattle.desk_values.specs.declared.value.Image.{Image}
 use Rattle.desk_values.specs.declared.value.Value.{Value}
 use Rattle.machine_model.specs.declared.session.Session.{Session}

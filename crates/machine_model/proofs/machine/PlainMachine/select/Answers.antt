@@ -1,8 +1,8 @@
-use Rattle.std.proofs.Common.{◌≡◌, ℕ, [], map, IfOk}
-use Rattle.sql_tree.specs.Plain.{asked_of, change_of, condition_of, entry_of}
+use Rattle.std.proofs.Common.{ℕ, [], IfOk}
+use Rattle.sql_tree.specs.Plain.{asked_of, condition_of}
 use Rattle.machine_model.specs.Found.{Environment}
 use Rattle.machine_model.specs.View.{View}
-use Rattle.machine_model.specs.Answer.{delete_causes, delete_effect, insert_causes, insert_effect, new_row, ruled, select_causes, select_effect, update_causes, update_effect}
+use Rattle.machine_model.specs.Answer.{ruled, select_causes, select_effect}
 use Rattle.machine_model.specs.Inside.Decision.{Decides}
 use Rattle.machine_model.proofs.Telling.{along}
 use Rattle.machine_model.proofs.machine.PlainMachine.select.Goals as goal

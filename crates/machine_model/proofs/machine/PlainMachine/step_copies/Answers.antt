@@ -1,4 +1,4 @@
-use Rattle.std.proofs.Common.{◌≡◌, ap, subst, sym, ◌∙◌}
+use Rattle.std.proofs.Common.{ap, subst, sym, ◌∙◌}
 use Rattle.desk_values.specs.Good.{HasGoodShape}
 use Rattle.machine_model.specs.Machine.{Running}
 use Rattle.machine_model.proofs.Telling.{followed, followed_sound, replied, replied_well}

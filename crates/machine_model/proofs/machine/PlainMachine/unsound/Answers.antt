@@ -1,4 +1,4 @@
-use Rattle.std.proofs.Common.{Some, None, ap, sym, ◌∙◌}
+use Rattle.std.proofs.Common.{None, ap, sym, ◌∙◌}
 use Rattle.machine_model.specs.declared.session.Session.{Session}
 use Rattle.machine_model.proofs.Telling.{unsound_told}
 use Rattle.machine_model.proofs.machine.PlainMachine.unsound.Goals as goal
