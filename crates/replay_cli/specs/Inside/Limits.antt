@@ -2,7 +2,7 @@
 use Rattle.std.specs.Prelude.{◌≤◌, IfSome, ℕ, length}
 use Rattle.replay_cli.specs.declared.options.Ways.{Ways}
 use Rattle.replay_cli.specs.declared.options.Options.{Options}
-use Rattle.replay_cli.specs.declared.options.TheConstants.{PERCENT_LIMIT}
+use Rattle.replay_history.specs.declared.limits.TheConstants.{PERCENT_LIMIT}
 use Rattle.replay_cli.specs.declared.words.Command.{Command}
 use Rattle.replay_cli.specs.declared.words.Command.TheVariants.{Run, Prepare, Generate, Trial}
 use Rattle.replay_cli.specs.declared.words.TheConstants.{GENERATED_LIMIT, PATH_LIMIT}
