@@ -1,4 +1,4 @@
-/// How many sessions a capture has at most. They are numbered from 0.
+/// How many sessions a server has, and a capture at most. They are numbered from 0.
 pub const SESSION_LIMIT: usize = 64;
 
 /// The greatest moment of a call, in microseconds from the capture's start: some 11 days and a half.

@@ -39,7 +39,7 @@ pub record Answer : Type 0 where
 
 -- ---- the causes of each statement
 
--- more than 1,000 rows
+-- more rows than a statement touches or a transaction changes
 abbrev pub is_over : ℕ → Bool
 is_over count = nat_lt ROW_LIMIT count
 

@@ -13,7 +13,7 @@ use Rattle.id_pairs.specs.Pairs.{IdPair, image_in}
 use Rattle.remap_ids.specs.declared.low_ids.TheConstants.{UNKNOWN_FROM}
 use Rattle.remap_ids.specs.Services.{ServicePair, sent_for}
 
--- below the number, where the ids are that a server gives out
+-- below `UNKNOWN_FROM`, where the ids are that a server gives out
 abbrev pub IsLow : Value → Type 0
 IsLow (value.Row n) = n < UNKNOWN_FROM
 IsLow (value.Draw sequence n) = n < UNKNOWN_FROM

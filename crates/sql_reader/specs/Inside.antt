@@ -8,7 +8,7 @@ abbrev pub begins_quote : List ℕ → Bool
 begins_quote [] = false
 begins_quote (first ∷ others) = first == 39
 
--- the same of what may be absent
+-- what was returned, seen by view, is what was to be read, where either may be absent
 abbrev pub Finds : {X Y : Type 0} → (X → Y) → Option X → Option Y → Type 0
 Finds view None read = read ≡ None
 Finds view (Some x) read = read ≡ Some (view x)

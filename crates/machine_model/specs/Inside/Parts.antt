@@ -13,7 +13,7 @@ use Rattle.machine_model.specs.Found.{Environment, row_faults, where_faults}
 use Rattle.machine_model.specs.Writes.{sources}
 use Rattle.machine_model.specs.Answer.{meets_lock, too_many_rows}
 
--- those that go before all that holds and new images bring
+-- the causes that go before all that holds and new images bring
 abbrev pub first_causes : Faults → Bool → Causes
 first_causes faults too_many = record no_cause { divides = faults.divides; overflows = faults.overflows; too_many = too_many }
 

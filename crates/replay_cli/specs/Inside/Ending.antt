@@ -9,7 +9,7 @@ use Rattle.replay_cli.specs.Decision.{Task}
 use Rattle.replay_cli.specs.Done.{IsDone}
 use Rattle.replay_cli.specs.Ending.{LeftOf}
 
--- the same, whatever the task is
+-- the files are as before, or as after some of the writes of a task that was wanted
 abbrev pub LeftOver : (Result Task Failure → Type 0) → FileMap → FileMap → ℕ → ℕ → Type 0
 LeftOver wanted before after fb fa = (after ≡ before) ⊎ ((task : Task) × wanted (Ok task) × LeftOf task before after fb fa)
 
