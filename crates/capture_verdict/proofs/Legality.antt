@@ -1,6 +1,6 @@
 -- From the tests that pass to a plan, and what a plan is: a legal capture with sound facts.
 use Rattle.std.proofs.Common.{◌≡◌, ℕ, ◌+◌, ◌<◌, ◌≤◌, List, [], ◌∷◌, length, refl, sym, ap, subst, ◌∙◌, arith, suc, Bool, true, false, map, get_or, ◌&&◌, ◌||◌, ◌++◌, take}
-use Rattle.std.specs.Prelude.{Option, None, Some, Result, Ok, Err, IfOk, option_map, slice_get, nat_le, not}
+use Rattle.std.specs.Prelude.{Option, None, Some, Result, Ok, option_map, slice_get, nat_le, not}
 use Rattle.std.specs.List.{AllByRecursion, list_any}
 use Rattle.std.proofs.lemmas.List.Elements.{All-from_recursion, recursion_from_All}
 use Rattle.std.proofs.lemmas.List.Sorted.{All-permutation}

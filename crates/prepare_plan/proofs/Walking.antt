@@ -8,7 +8,6 @@ use Rattle.capture_laws.specs.Moments.{ended_in}
 use Rattle.capture_laws.proofs.Following.{ended_more}
 use Rattle.capture_verdict.specs.declared.refusal.Refusal.TheVariants.{Number, Times, Reply as OtherReply}
 use Rattle.capture_verdict.specs.Tests.{unless, bad_number, bad_times, right_number, asked, bad_reply, right_reply}
-use Rattle.desk_values.specs.declared.call.Call.{Call}
 use Rattle.desk_values.specs.declared.call.Reply.{Reply}
 use Rattle.desk_schema.specs.Start.{StartView}
 use Rattle.machine_model.specs.State.{State, opening}

@@ -1,5 +1,5 @@
 -- Which events have a text.
-use Rattle.std.specs.Prelude.{◌<◌, ◌^◌, ℕ}
+use Rattle.std.specs.Prelude.{◌<◌, ◌^◌}
 use Rattle.desk_values.specs.declared.capture.Event.{Event}
 use Rattle.desk_values.specs.declared.capture.Event.TheVariants.{Start, Answer}
 use Rattle.desk_values.specs.Good.{IsGoodReply}

@@ -1,13 +1,8 @@
 -- The class of each call, and the pairs by which it is told.
-use Rattle.std.proofs.Common.{◌≡◌, ℕ, suc, ◌+◌, List, [], ◌∷◌, ◌++◌, take, Option, Some, sym, ap, subst, ◌∙◌, arith, append-nil, append_assoc}
-use Rattle.desk_values.specs.declared.capture.Captured.{Captured}
-use Rattle.desk_values.specs.declared.capture.Event.{Event}
-use Rattle.desk_values.specs.declared.capture.Event.TheVariants.{Start, Answer}
-use Rattle.replay_history.specs.History.{AnswersAt, IsTruthfulHistory}
-use Rattle.id_pairs.specs.Pairs.{HasNoIdTwice, IdPair, learnt}
+use Rattle.std.proofs.Common.{◌≡◌, ℕ, suc, ◌+◌, List, take, Some, sym, ap, subst, ◌∙◌, arith}
+use Rattle.replay_history.specs.History.{AnswersAt}
+use Rattle.id_pairs.specs.Pairs.{HasNoIdTwice, IdPair}
 use Rattle.divergence.specs.Class.{class_between}
-use Rattle.replay_job.specs.Job.{JobView}
-use Rattle.replay_job.specs.Runs.{Executes, Stage, first_stage, learnt_from, learnt_in}
 use Rattle.replay_report.specs.Report.{pairs_after}
 use Rattle.replay_report.proofs.Reports.{by_own_answer}
 use Rattle.pairs_law.proofs.Learnt.{pairs_learnt}

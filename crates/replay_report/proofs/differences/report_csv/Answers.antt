@@ -1,9 +1,7 @@
-use Rattle.std.proofs.Common.{◌≡◌, ◌∙◌, ◌++◌, ℕ, List, [], ap, refl, subst}
+use Rattle.std.proofs.Common.{◌≡◌, ℕ, List, [], refl, subst}
 use Rattle.std.specs.Prelude.{IfOk}
-use Rattle.std.specs.List.{flat_map}
-use Rattle.replay_history.specs.declared.report.Line.{Line}
-use Rattle.replay_report.specs.Differences.{csv_text, head_fields, record_text}
-use Rattle.replay_report.specs.Inside.Written.{slot_record, written}
+use Rattle.replay_report.specs.Differences.{csv_text}
+use Rattle.replay_report.specs.Inside.Written.{written}
 use Rattle.replay_report.proofs.Lasts.{csv_is}
 use Rattle.replay_report.proofs.differences.report_csv.Goals as goal
 

@@ -1,7 +1,6 @@
 use Rattle.std.proofs.Common.{◌∙◌, ap, length}
 use Rattle.desk_values.specs.declared.capture.Captured.{Captured}
-use Rattle.replay_history.specs.declared.report.Class.{Class}
-use Rattle.std.specs.Prelude.{List, Option}
+use Rattle.std.specs.Prelude.{List}
 use Rattle.replay_job.specs.Job.{seen}
 use Rattle.replay_report.specs.Report.{counts_of}
 use Rattle.replay_report.specs.Inside.Written.{differences}
