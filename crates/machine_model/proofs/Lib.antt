@@ -1,6 +1,7 @@
 -- What the proofs of the crate share.
 pub mod Adding
 pub mod Changing
+pub mod Indexing
 pub mod Laying
 pub mod Looks
 pub mod Members
@@ -14,3 +15,4 @@ pub mod SoundSteps
 pub mod Standing
 pub mod Stocking
 pub mod Telling
+pub mod Twice

@@ -46,7 +46,7 @@ module _ (seen base : List (Bor Image)) (over later : List Image) (c : Image) (i
     seen_last none = rw (none, is) (ap (λ l. looked_at seen ++ l) (lay_last c later 0 (subst IsRising is up)) ∙ shown_more seen after c _ shows)
 
 -- what stays of rising rows rises
-filtered_from : (p : Image → Bool) (n : ℕ) (xs : List Image) → RisesFrom n xs → RisesFrom n (filter p xs)
+pub filtered_from : (p : Image → Bool) (n : ℕ) (xs : List Image) → RisesFrom n xs → RisesFrom n (filter p xs)
 filtered_from p n [] up = tt
 filtered_from p n (x ∷ xs) up =
     elim (p x) as (λ b. RisesFrom n (if b then x ∷ filter p xs else filter p xs)) [

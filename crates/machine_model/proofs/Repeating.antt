@@ -50,7 +50,7 @@ module _ (level : ℕ) where
   either_way a Null = refl
   either_way a b = (eq_by_cmp_equiv (keys_total level)).symm a b
 
-  same_back : (a b : Value) → same_key level a b ≡ same_key level b a
+  pub same_back : (a b : Value) → same_key level a b ≡ same_key level b a
   same_back a b = same_key_is level a b ∙ either_way a b ∙ sym (same_key_is level b a)
 
   repeats_put : (x : Value) (ys : List Value) → repeats_key level (put comes_before x ys) ≡ repeats_key level (x ∷ ys)

@@ -18,10 +18,10 @@ stocked_length stocks = length-map stocks (λ (t : Stock). t.rows)
 
 -- ---- one change
 
-of_other : (table : ℕ) (image : Image) (rest : List Image) → image.table ≢ table → of_table table (image ∷ rest) ≡ of_table table rest
+pub of_other : (table : ℕ) (image : Image) (rest : List Image) → image.table ≢ table → of_table table (image ∷ rest) ≡ of_table table rest
 of_other table image rest apart = rw (ne_eqb image.table table apart) refl
 
-of_same : (table : ℕ) (image : Image) (rest : List Image) → image.table ≡ table → of_table table (image ∷ rest) ≡ image ∷ of_table table rest
+pub of_same : (table : ℕ) (image : Image) (rest : List Image) → image.table ≡ table → of_table table (image ∷ rest) ≡ image ∷ of_table table rest
 of_same table image rest same = rw (eq-eqb image.table table same) refl
 
 -- a change of a table that is not among them

@@ -1,6 +1,7 @@
 -- Words of private clauses and of what holds of fields. They need not be believed.
 pub mod Decision
 pub mod Evaluation
+pub mod Index
 pub mod Machine
 pub mod Parts
 pub mod Repeats

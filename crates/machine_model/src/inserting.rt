@@ -9,7 +9,8 @@ ghost use Rattle.machine_model.specs.Causes.{ranked};
 ghost use Rattle.machine_model.specs.Found.{sound};
 ghost use Rattle.machine_model.specs.Writes.{column_value, input_place, input_value, inputs_for, row_values};
 ghost use Rattle.machine_model.specs.Answer.{insert_causes, insert_effect, new_causes, new_row, ruled};
-ghost use Rattle.machine_model.specs.Inside.Decision.{Decides, view_of_seen};
+ghost use Rattle.machine_model.specs.Inside.Decision.{Decides, view_of_place};
+ghost use Rattle.machine_model.specs.Inside.Index.{IsPlace};
 
 use crate::causes::Causes;
 use crate::deciding::{done, is_full, refusal};
@@ -19,8 +20,7 @@ use crate::evaluation::Evaluation;
 use crate::found::evaluated;
 use crate::holds::hold_key;
 use crate::images::{row_key, tested};
-use crate::repeats::makes_key_twice;
-use crate::seen::Seen;
+use crate::place::{Place, makes_twice};
 use desk_schema::Column;
 use desk_values::{Copied, Fault, Image, List, Memory, Outcome, Value, Values};
 use sql_eval::{Columns, Faults, ReadyInput, ReadyInputs};
@@ -41,26 +41,27 @@ struct Given<'a> {
 /// What an INSERT is answered, and what it does. The row that it makes has this number.
 pub fn insert(
     with: Evaluation<'_>,
-    seen: Seen<'_>,
+    place: Place<'_>,
     columns: &[Column],
     draws: Values,
     row: u64,
     named: &Option<Columns>,
     inputs: &ReadyInputs,
 ) -> Result<Decision, Memory>
-    ensures { let env = env_of with.entry in let view = view_of_seen seen.entry in let entries = map entry_of inputs.now in let new = new_row env columns.now draws row seen.entry.table named.now entries in IfOk result (λ d. Decides view (ruled seen.entry.table view draws (insert_causes env columns.now view draws new entries) (insert_effect new)) d) }
+    requires { IsPlace place }
+    ensures { let env = env_of with.entry in let view = view_of_place place.entry in let entries = map entry_of inputs.now in let new = new_row env columns.now draws row place.entry.table named.now entries in IfOk result (λ d. Decides view (ruled place.entry.table view draws (insert_causes env columns.now view draws new entries) (insert_effect new)) d) }
 {
     let given = Given {
         columns,
         named,
         inputs: inputs.as_slice(),
     };
-    let (new, faults) = new_row(with, given, draws.as_slice(), row, seen.table)?;
-    match insert_fault(with, seen, columns, &new, faults)? {
+    let (new, faults) = new_row(with, given, draws.as_slice(), row, place.table)?;
+    match insert_fault(with, place, columns, &new, faults)? {
         Some(fault) => Ok(refusal(fault, draws)),
         None => {
             let effect = insertion(with, new)?;
-            Ok(done(seen.table, draws, effect))
+            Ok(done(place.table, draws, effect))
         }
     }
 }
@@ -172,20 +173,21 @@ fn place_among(named: &[u32], number: usize) -> Option<usize>
 /// Why the new row may not be made, the faults of whose inputs these are.
 fn insert_fault(
     with: Evaluation<'_>,
-    seen: Seen<'_>,
+    place: Place<'_>,
     columns: &[Column],
     new: &Image,
     faults: Faults,
 ) -> Result<Option<Fault>, Memory>
-    ensures { let view = view_of_seen seen.entry in IfOk result (λ fault. fault ≡ ranked (new_causes (env_of with.entry) columns.now view faults new.now)) }
+    requires { IsPlace place }
+    ensures { let view = view_of_place place.entry in IfOk result (λ fault. fault ≡ ranked (new_causes (env_of with.entry) columns.now view faults new.now)) }
 {
-    let first = Causes::first(faults, is_full(&seen.session.own.changes));
+    let first = Causes::first(faults, is_full(&place.session.own.changes));
     if let Some(fault) = first.ranked() {
         return Ok(Some(fault));
     }
-    let duplicate = makes_key_twice(with, new, seen.rows)?;
+    let duplicate = makes_twice(with, place, new)?;
     let key = row_key(with, new);
-    let locked = hold_key(with.level, seen.others, seen.table, key);
+    let locked = hold_key(with.level, place.others, place.table, key);
     let causes = Causes {
         locked,
         duplicate,

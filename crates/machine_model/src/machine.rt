@@ -11,9 +11,10 @@ ghost use Rattle.machine_model.specs.View.{others, plain_view, rows_seen, view_o
 ghost use Rattle.machine_model.specs.Request.{connect as connect_request, disconnect as disconnect_request, read, request_of, statement as statement_request, unsound};
 ghost use Rattle.machine_model.specs.Answer.{answer, reply_of};
 ghost use Rattle.machine_model.specs.Step.{Gives, after, after_made, answer_in, answer_to, committed_in, view_for};
-ghost use Rattle.machine_model.specs.Inside.Decision.{Decides, Executes, committed_by, done_so, view_of_seen};
+ghost use Rattle.machine_model.specs.Inside.Decision.{Decides, Executes, committed_by, done_so, view_of_place, view_of_seen};
 ghost use Rattle.desk_values.specs.Good.{IsGoodReply};
 ghost use Rattle.machine_model.specs.Inside.Evaluation.{env_of};
+ghost use Rattle.machine_model.specs.Inside.Index.{IsPlace};
 ghost use Rattle.machine_model.specs.Sound.{AreStanding, IsSound};
 ghost use Rattle.machine_model.specs.Rows.{IsRising, lay_all};
 
@@ -25,9 +26,11 @@ use crate::evaluation::Evaluation;
 use crate::following::enact;
 use crate::giving::{is_between, stands_in};
 use crate::holds::Others;
+use crate::index::{KeyIndex, indexes_of, note_commit};
 use crate::inserting::insert;
 use crate::laws::tables_stand;
 use crate::permission::statement_fault;
+use crate::place::Place;
 use crate::rows::{Rows, TableRows};
 use crate::seeing::rows_seen;
 use crate::seen::Seen;
@@ -68,6 +71,7 @@ pub struct PlainMachine {
     start: Start,
     commits: Vec<Rows>,
     current: Vec<TableRows>,
+    indexes: Vec<KeyIndex>,
     next_row: u64,
     next_values: Vec<u64>,
     sessions: Vec<Session>,
@@ -81,13 +85,14 @@ impl Model for PlainMachine {
     ghost use Rattle.desk_values.specs.declared.value.Value.TheVariants.{Null as NoValue};
     ghost use Rattle.machine_model.specs.Inside.Rows.{stocked};
     ghost use Rattle.machine_model.specs.Machine.{Running};
+    ghost use Rattle.machine_model.specs.Inside.Index.{AreIndexes};
     ghost use Rattle.machine_model.specs.Inside.Machine.{Keeps};
 
     ghost Value = { Running };
 
     ghost view = { λ a. record { state = record { start = a.start; commits = a.commits.items; next_row = a.next_row; next_values = a.next_values.items; sessions = a.sessions.items }; steps = a.steps } };
 
-    ghost invariant = { λ a. Keeps (record { state = record { start = a.start; commits = a.commits.items; next_row = a.next_row; next_values = a.next_values.items; sessions = a.sessions.items }; steps = a.steps }) (stocked a.current.items) × (a.no_values ≡ []) × (a.null ≡ NoValue) };
+    ghost invariant = { λ a. Keeps (record { state = record { start = a.start; commits = a.commits.items; next_row = a.next_row; next_values = a.next_values.items; sessions = a.sessions.items }; steps = a.steps }) (stocked a.current.items) × (a.no_values ≡ []) × (a.null ≡ NoValue) × AreIndexes a.indexes.items (stocked a.current.items) [] };
 }
 
 impl PlainMachine {
@@ -98,6 +103,7 @@ impl PlainMachine {
         let start = start.copy()?;
         let count = start.schema().tables().len() as u32;
         let current = tables_of(alloc, start.rows().as_slice(), count)?;
+        let indexes = indexes_of(alloc, &current)?;
         let next_row = start.next_row();
         let next_values = start.next_values().to_vec(alloc)?;
         let sessions = nobody(alloc)?;
@@ -106,6 +112,7 @@ impl PlainMachine {
             start,
             commits: Vec::new(alloc),
             current,
+            indexes,
             next_row,
             next_values,
             sessions,
@@ -399,12 +406,10 @@ impl PlainMachine {
         requires draws { draws ≡ draws_of (insert_plan table named.now (map entry_of inputs.now)) self.now.state.next_values }
         ensures { IfOk result (λ decision. Executes self.now.state session binds.now (insert_plan table named.now (map entry_of inputs.now)) decision) }
     {
-        let rows = self.rows(session, table)?;
-        let seen = self.seen(session, table, &rows);
         let columns = self.columns(table);
         insert(
             self.evaluation(binds),
-            seen,
+            self.place(session, table),
             columns,
             draws,
             self.next_row(),
@@ -489,6 +494,24 @@ impl PlainMachine {
         }
     }
 
+    /// What an INSERT into a table can depend on.
+    fn place(&self, session: usize, table: u32) -> Place<'_>
+        requires { session < 64 }
+        ensures is_place { IsPlace result }
+        ensures view { view_of_place result ≡ view_of self.now.state session (Some table) }
+        ensures table { result.table ≡ table }
+    {
+        Place {
+            session: self.session(session),
+            others: self.others(session),
+            table,
+            start: self.start.rows().as_slice(),
+            commits: &self.commits,
+            current: &self.current,
+            indexes: &self.indexes,
+        }
+    }
+
     /// The next value of a sequence.
     fn next(&self, ready: &Ready) -> Result<Decision, Memory>
         ensures reply { IfOk result (λ decision. decision.reply ≡ record { outcome = Outcome.Rows (draws_of (plan_of ready.now) self.now.state.next_values ∷ []); draws = draws_of (plan_of ready.now) self.now.state.next_values; made = None }) }
@@ -538,6 +561,7 @@ impl PlainMachine {
             &mut self.sessions[session],
             deed,
         )?;
+        note_commit(&self.current, &mut self.indexes, &reply.outcome);
         self.next_row = row_after(reply.made, self.next_row);
         move_all(&mut self.next_values, reply.draws.as_slice());
         self.steps += 1;

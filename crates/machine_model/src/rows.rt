@@ -1,8 +1,10 @@
 //! Images of rows, ascending by row.
 
 ghost use Rattle.std.specs.Prelude.{◌≡◌, ◌+◌, ◌<◌, ◌≤◌, ◌++◌, ◌∷◌, [], length, map, vec_len, IfOk, IfSome, OnOk, OnErr, IsOk, false};
+ghost use Rattle.std.specs.Option.{option_copied};
 ghost use Rattle.std.specs.Vec.{vec_capacity};
 ghost use Rattle.machine_model.specs.Rows.{IsRising, is_there, lay, noted, of_table, one, placed, shown};
+ghost use Rattle.machine_model.specs.Inside.Index.{row_at};
 ghost use Rattle.machine_model.specs.Inside.Rows.{place};
 
 use desk_values::{Copied, Image, List, Memory};
@@ -121,6 +123,18 @@ fn place_of(images: &[Image], row: u64) -> usize
     match images.binary_search_by_key(&row, |image| image.row) {
         Ok(at) => at,
         Err(at) => at,
+    }
+}
+
+/// The row of this number.
+pub fn row_among(images: &[Image], row: u64) -> Option<&Image>
+    requires { IsRising images.now }
+    ensures { option_copied result ≡ row_at row images.now }
+{
+    let at = place_of(images, row);
+    match images.get(at) {
+        Some(image) if image.row == row => Some(image),
+        _ => None,
     }
 }
 

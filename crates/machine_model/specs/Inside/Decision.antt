@@ -7,13 +7,14 @@ use Rattle.machine_model.specs.declared.effect.Deed.{Deed}
 use Rattle.machine_model.specs.declared.effect.Deed.TheVariants.{Nothing, Connects, Disconnects, Commits, RollsBack, ReadsOnly, Writes}
 use Rattle.machine_model.specs.declared.effect.Decision.{Decision}
 use Rattle.machine_model.specs.declared.seen.Seen.{Seen}
+use Rattle.machine_model.specs.declared.place.Place.{Place}
 use Rattle.desk_schema.specs.declared.schema.Rights.{Rights}
 use Rattle.sql_tree.specs.Plain.{Plan}
 use Rattle.desk_values.specs.declared.value.Value.{Value}
 use Rattle.machine_model.specs.declared.session.Session.{Session}
 use Rattle.machine_model.specs.declared.session.Transaction.{Transaction}
 use Rattle.machine_model.specs.State.{State, nothing}
-use Rattle.machine_model.specs.View.{View, plain_view, with_table}
+use Rattle.machine_model.specs.View.{View, plain_view, rows_seen, with_table}
 use Rattle.machine_model.specs.Step.{committed_in, snapshot_after, view_for}
 use Rattle.machine_model.specs.Request.{statement}
 use Rattle.machine_model.specs.Writes.{holding}
@@ -22,6 +23,10 @@ use Rattle.machine_model.specs.Answer.{Answer, executed}
 -- the view of what is looked at
 abbrev pub view_of_seen : Seen → View
 view_of_seen seen = with_table (plain_view seen.session.now) (seen.others.before.now ++ seen.others.after.now) seen.table (looked_at seen.rows.now)
+
+-- the view of what an INSERT can depend on
+abbrev pub view_of_place : Place → View
+view_of_place place = with_table (plain_view place.session.now) (place.others.before.now ++ place.others.after.now) place.table (rows_seen place.start.now place.commits.now place.session.now place.table)
 
 -- ---- what a deed leaves of a session
 

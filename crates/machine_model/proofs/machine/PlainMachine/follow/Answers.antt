@@ -1,8 +1,10 @@
-use Rattle.std.proofs.Common.{◌≡◌, ◌+◌, List, length, set, refl, sym, ap, subst, ◌<◌, ◌∙◌, arith}
+use Rattle.std.proofs.Common.{◌≡◌, ◌+◌, List, [], length, set, refl, sym, ap, subst, ◌<◌, ◌∙◌, arith}
 use Rattle.desk_values.specs.declared.value.Image.{Image}
 use Rattle.desk_values.specs.declared.value.Value.{Value}
 use Rattle.machine_model.specs.declared.session.Session.{Session}
-use Rattle.machine_model.specs.Inside.Rows.{lay_tables, stocked}
+use Rattle.machine_model.specs.Inside.Rows.{Stock, lay_tables, stocked}
+use Rattle.machine_model.specs.Inside.Index.{AreIndexes}
+use Rattle.machine_model.proofs.Indexing.{indexes_laid}
 use Rattle.machine_model.specs.State.{State, session_at}
 use Rattle.machine_model.specs.View.{plain_view}
 use Rattle.machine_model.specs.Step.{after, committed_in, with_commit}
@@ -34,4 +36,5 @@ invariant_of-self-2 c =
     let session : c.enact.new.session ≡ session_left (session_at old c.args.session) (length c.self.inside.commits.items) c.args.decision.deed = c.in_ok-enact.ensures.session ∙ ap (λ (s : Session). session_left s (length c.self.inside.commits.items) c.args.decision.deed) mine in
     let same : after old c.args.session a ≡ new = rw (commits, c.row_after-self-inside.ensures, nexts, session) refl in
     let laid : lay_tables 0 (stocked c.self.inside.current.items) (committed_in c.args.decision.reply.outcome) ≡ current = sym (c.in_ok-enact.ensures.current ∙ ap (lay_tables 0 (stocked c.self.inside.current.items)) told) in
-    (subst (λ (s : State). Keeps (record { state = s; steps = c.self.inside.steps + 1 }) current) same (subst (λ (l : List (List Image)). Keeps (record { state = after old c.args.session a; steps = c.self.inside.steps + 1 }) l) laid keeps), c.self.invariant.1, c.self.invariant.2)
+    let was_indexed : AreIndexes c.self.inside.indexes.items current (committed_in c.args.decision.reply.outcome) = subst (λ (l : List (List Image)). AreIndexes c.self.inside.indexes.items l (committed_in c.args.decision.reply.outcome)) laid (indexes_laid c.self.inside.indexes.items (stocked c.self.inside.current.items) (committed_in c.args.decision.reply.outcome) c.self.invariant.3) in
+    (subst (λ (s : State). Keeps (record { state = s; steps = c.self.inside.steps + 1 }) current) same (subst (λ (l : List (List Image)). Keeps (record { state = after old c.args.session a; steps = c.self.inside.steps + 1 }) l) laid keeps), c.self.invariant.1, c.self.invariant.2, subst (λ (l : List Stock). AreIndexes c.note_commit.new.indexes.items (stocked l) []) c.deref.ensures.value (c.note_commit.ensures (subst (λ (l : List Stock). AreIndexes c.self.inside.indexes.items (stocked l) (committed_in c.args.decision.reply.outcome)) (sym c.deref.ensures.value) was_indexed)))

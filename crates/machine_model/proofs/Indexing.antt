@@ -1,0 +1,173 @@
+-- Rows that are found by their numbers and by their keys.
+use Rattle.std.proofs.Common.{◌≡◌, ◌≢◌, ℕ, zero, suc, ◌+◌, ◌<◌, ◌≤◌, true, false, ◌||◌, ltb, eqb, if◌then◌else◌, List, [], ◌∷◌, length, map, get_or, set, Option, None, Some, refl, sym, ap, subst, ◌∙◌, get_or-set_same, get_or-set_other, length-set, zero-add, arith}
+use Rattle.std.specs.Prelude.{is_some, nat_eq}
+use Rattle.std.specs.List.{AllByRecursion, list_any}
+use Rattle.std.proofs.lemmas.Bool.{ltb-true, eqb-true, eq-eqb, ne_eqb}
+use Rattle.std.proofs.lemmas.Bool.Decides.{nat_tests}
+use Rattle.std.proofs.lemmas.List.{get_or_default}
+use Rattle.desk_values.specs.declared.value.Image.{Image}
+use Rattle.machine_model.specs.declared.index.KeyIndex.{KeyIndex}
+use Rattle.machine_model.specs.Rows.{IsRising, RisesFrom, lay, lay_all, of_table, placed, shown, is_there}
+use Rattle.machine_model.specs.declared.session.Session.{Session}
+use Rattle.machine_model.specs.View.{rows_seen}
+use Rattle.machine_model.specs.Writes.{is_among}
+use Rattle.machine_model.specs.Inside.Rows.{lay_tables, place}
+use Rattle.machine_model.specs.Inside.Index.{AreIndexes, FindsRows, HasRows, is_of_table, row_at, row_under}
+use Rattle.machine_model.proofs.Stocking.{of_other, of_same}
+
+-- ---- the row of a number
+
+pub row_at_is : (row : ℕ) (xs : List Image) (x : Image) → row_at row xs ≡ Some x → x.row ≡ row
+row_at_is row [] x at = absurd (cc)
+row_at_is row (y ∷ ys) x at = elim (eqb y.row row) as (λ b. eqb y.row row ≡ b → (if b then Some y else row_at row ys) ≡ Some x → x.row ≡ row) [
+  | true ↦ λ same here. let is : y ≡ x = cc in ap (λ (z : Image). z.row) (sym is) ∙ eqb-true y.row row same
+  | false ↦ λ apart later. row_at_is row ys x later
+] refl at
+
+pub none_above : (row n : ℕ) (xs : List Image) → RisesFrom n xs → row < n → row_at row xs ≡ None
+none_above row n [] up lt = refl
+none_above row n (x ∷ xs) up lt = rw (ne_eqb x.row row (λ e. omega (arith, up.0))) (none_above row (x.row + 1) xs up.1 (omega (arith, up.0)))
+
+-- what stands at its place is the row, or there is none
+pub found_row : (row : ℕ) (xs : List Image) (at : ℕ) (x : Image) → at ≡ place row xs → at < length xs → x ≡ get_or xs at x → x.row ≡ row → Some x ≡ row_at row xs
+found_row row [] at x is within read same = absurd (omega arith)
+found_row row (y ∷ ys) at x is within read same = elim (ltb y.row row) as (λ b. ltb y.row row ≡ b → at ≡ (if b then 1 + place row ys else 0) → Some x ≡ row_at row (y ∷ ys)) [
+  | true ↦ λ below later. rw (ne_eqb y.row row (λ e. omega (arith, ltb-true _ _ below))) (let next : at ≡ suc (place row ys) = omega (arith, later) in found_row row ys (place row ys) x refl (omega arith) (rw next at read) same)
+  | false ↦ λ above here. let is_x : x ≡ y = rw here at read in rw (← is_x) (rw (eq-eqb x.row row same) refl)
+] refl is
+
+pub no_row_here : (row n : ℕ) (xs : List Image) (at : ℕ) (x : Image) → RisesFrom n xs → at ≡ place row xs → at < length xs → x ≡ get_or xs at x → x.row ≢ row → None ≡ row_at row xs
+no_row_here row n [] at x up is within read apart = absurd (omega arith)
+no_row_here row n (y ∷ ys) at x up is within read apart = elim (ltb y.row row) as (λ b. ltb y.row row ≡ b → at ≡ (if b then 1 + place row ys else 0) → None ≡ row_at row (y ∷ ys)) [
+  | true ↦ λ below later. rw (ne_eqb y.row row (λ e. omega (arith, ltb-true _ _ below))) (let next : at ≡ suc (place row ys) = omega (arith, later) in no_row_here row (y.row + 1) ys (place row ys) x up.1 refl (omega arith) (rw next at read) apart)
+  | false ↦ λ above here.
+      let is_x : x ≡ y = rw here at read in
+      let other : y.row ≢ row = rw is_x at apart in
+      rw (ne_eqb y.row row other) (sym (none_above row (y.row + 1) ys up.1 (grind (arith, nat_tests))))
+] refl is
+
+pub no_row_beyond : (row : ℕ) (xs : List Image) → length xs ≤ place row xs → None ≡ row_at row xs
+no_row_beyond row [] beyond = refl
+no_row_beyond row (y ∷ ys) beyond = elim (ltb y.row row) as (λ b. ltb y.row row ≡ b → suc (length ys) ≤ (if b then 1 + place row ys else 0) → None ≡ row_at row (y ∷ ys)) [
+  | true ↦ λ below later. rw (ne_eqb y.row row (λ e. omega (arith, ltb-true _ _ below))) (no_row_beyond row ys (omega arith))
+  | false ↦ λ above here. absurd (omega arith)
+] refl beyond
+
+-- rising rows are found by their numbers
+own_rows_in : (whole : List Image) (n : ℕ) (xs : List Image) → RisesFrom n xs → ((row : ℕ) → n ≤ row → row_at row whole ≡ row_at row xs) → AllByRecursion (λ x. row_at x.row whole ≡ Some x) xs
+own_rows_in whole n [] up same = tt
+own_rows_in whole n (x ∷ xs) up same =
+    let here : row_at x.row (x ∷ xs) ≡ Some x = rw (eq-eqb x.row x.row refl) refl in
+    (same x.row up.0 ∙ here, own_rows_in whole (x.row + 1) xs up.1 (λ row le. let past : row_at row (x ∷ xs) ≡ row_at row xs = rw (ne_eqb x.row row (λ e. omega arith)) refl in same row (omega (arith, up.0)) ∙ past))
+
+pub own_rows : (xs : List Image) → IsRising xs → AllByRecursion (λ x. row_at x.row xs ≡ Some x) xs
+own_rows xs up = own_rows_in xs 0 xs up (λ row le. refl)
+
+-- a row that is found is among them
+pub found_among : (xs : List Image) (x : Image) → row_at x.row xs ≡ Some x → is_among xs x ≡ true
+found_among [] x at = absurd (cc)
+found_among (y ∷ ys) x at = elim (eqb y.row x.row) as (λ b. (if b then Some y else row_at x.row ys) ≡ Some x → (b || is_among ys x) ≡ true) [
+  | true ↦ λ here. refl
+  | false ↦ λ later. found_among ys x later
+] at
+
+-- ---- rows with changes over them
+
+row_beside : (row : ℕ) (c : Image) (xs : List Image) → c.row ≢ row → row_at row (placed shown c xs) ≡ row_at row xs
+row_beside row c [] apart = elim (is_there c) as (λ b. row_at row (if b then c ∷ [] else []) ≡ None) [ true ↦ rw (ne_eqb c.row row apart) refl | false ↦ refl ]
+row_beside row c (x ∷ xs) apart = grind (arith, nat_tests, apart, row_beside row c xs apart)
+
+pub row_laid : (row : ℕ) (xs cs : List Image) → list_any (λ (c : Image). nat_eq c.row row) cs ≡ false → row_at row (lay xs cs) ≡ row_at row xs
+row_laid row xs [] none = refl
+row_laid row xs (c ∷ cs) none = elim (eqb c.row row) as (λ b. eqb c.row row ≡ b → (b || list_any (λ (d : Image). nat_eq d.row row) cs) ≡ false → row_at row (lay (placed shown c xs) cs) ≡ row_at row xs) [
+  | true ↦ λ same any. absurd (cc)
+  | false ↦ λ apart any. row_laid row (placed shown c xs) cs any ∙ row_beside row c xs (λ e. let both : eqb c.row row ≡ true = eq-eqb c.row row e in cc)
+] refl none
+
+-- ---- indexes
+
+lay_tables_at : (t : ℕ) (tables : List (List Image)) (cs : List Image) (k : ℕ) (r : List Image) → k < length tables → get_or (lay_tables t tables cs) k r ≡ lay (get_or tables k r) (of_table (t + k) cs)
+lay_tables_at t [] cs k r within = absurd (omega arith)
+lay_tables_at t (rows ∷ others) cs zero r within = let same : t ≡ t + zero = omega arith in ap (λ n. lay rows (of_table n cs)) same
+lay_tables_at t (rows ∷ others) cs (suc k) r within = let along : t + 1 + k ≡ t + suc k = omega arith in lay_tables_at (t + 1) others cs k r (omega arith) ∙ ap (λ n. lay (get_or others k r) (of_table n cs)) along
+
+pub lay_tables_length : (t : ℕ) (tables : List (List Image)) (cs : List Image) → length (lay_tables t tables cs) ≡ length tables
+lay_tables_length t [] cs = refl
+lay_tables_length t (rows ∷ others) cs = ap suc (lay_tables_length (t + 1) others cs)
+
+has_laid : (index : KeyIndex) (rows cs : List Image) → HasRows index rows [] → HasRows index (lay rows cs) cs
+has_laid index rows cs has kept image at apart = has kept image (sym (row_laid image.row rows cs apart) ∙ at) refl
+
+-- once changes are laid over the tables, the indexes have all rows but theirs
+pub indexes_laid : (indexes : List KeyIndex) (tables : List (List Image)) (cs : List Image) → AreIndexes indexes tables [] → AreIndexes indexes (lay_tables 0 tables cs) cs
+indexes_laid indexes tables cs are table i r some within =
+    let there : table < length tables = omega (arith, lay_tables_length 0 tables cs) in
+    let rows : get_or (lay_tables 0 tables cs) table r ≡ lay (get_or tables table r) (of_table table cs) = lay_tables_at 0 tables cs table r there ∙ ap (λ n. lay (get_or tables table r) (of_table n cs)) (zero-add table) in
+    subst (λ l. HasRows (get_or indexes table i) l (of_table table cs)) (sym rows) (has_laid (get_or indexes table i) (get_or tables table r) (of_table table cs) (are table i r some there))
+
+-- ---- which rows changes have an image of
+
+none_of_table : (table row n : ℕ) (cs : List Image) → RisesFrom n cs → row < n → list_any (λ (c : Image). nat_eq c.row row) (of_table table cs) ≡ false
+none_of_table table row n [] up lt = refl
+none_of_table table row n (c ∷ cs) up lt =
+    let rest = none_of_table table row (c.row + 1) cs up.1 (omega (arith, up.0)) in
+    elim (eqb c.table table) as (λ b. list_any (λ (d : Image). nat_eq d.row row) (if b then c ∷ of_table table cs else of_table table cs) ≡ false) [
+      | true ↦ rw (ne_eqb c.row row (λ e. omega (arith, up.0))) rest
+      | false ↦ rest
+    ]
+
+pub is_of_changes : (table row n : ℕ) (cs : List Image) → RisesFrom n cs → is_of_table table (row_at row cs) ≡ list_any (λ (c : Image). nat_eq c.row row) (of_table table cs)
+is_of_changes table row n [] up = refl
+is_of_changes table row n (c ∷ cs) up =
+    elim (eqb c.row row) as (λ b. eqb c.row row ≡ b → is_of_table table (if b then Some c else row_at row cs) ≡ list_any (λ (d : Image). nat_eq d.row row) (of_table table (c ∷ cs))) [
+      | true ↦ λ same. elim (eqb c.table table) as (λ b. b ≡ list_any (λ (d : Image). nat_eq d.row row) (if b then c ∷ of_table table cs else of_table table cs)) [
+        | true ↦ rw same refl
+        | false ↦ sym (none_of_table table row (c.row + 1) cs up.1 (omega (arith, eqb-true _ _ same)))
+      ]
+      | false ↦ λ apart. elim (eqb c.table table) as (λ b. is_of_table table (row_at row cs) ≡ list_any (λ (d : Image). nat_eq d.row row) (if b then c ∷ of_table table cs else of_table table cs)) [
+        | true ↦ rw apart (is_of_changes table row (c.row + 1) cs up.1)
+        | false ↦ is_of_changes table row (c.row + 1) cs up.1
+      ]
+    ] refl
+
+-- nothing is noted yet
+pub nothing_noted : (index : KeyIndex) (rows : List Image) → HasRows index rows rows
+nothing_noted index rows kept x at none = absurd (let there : is_among rows x ≡ true = found_among rows x at in cc)
+
+-- ---- the rows of a commit are noted
+
+module _ (indexes : List KeyIndex) (tables : List (List Image)) (t : ℕ) (old new : KeyIndex) (rows : List Image) (image : Image) (within : t < length indexes) (there : t < length tables)
+    (laid : rows ≡ get_or tables t rows) (is : image.table ≡ t)
+    (notes : (first : Image) (others : List Image) → first.row ≡ image.row → HasRows (get_or indexes t old) rows (first ∷ others) → HasRows new rows others) where
+  note_here : (rest : List Image) → AreIndexes indexes tables (image ∷ rest) → (f : List Image) → HasRows new (get_or tables t f) (of_table t rest)
+  note_here rest are f =
+      let before : HasRows (get_or indexes t old) rows (of_table t (image ∷ rest)) = subst (λ r. HasRows (get_or indexes t old) r (of_table t (image ∷ rest))) (sym laid) (are t old rows within there) in
+      let now : HasRows new rows (of_table t rest) = notes image (of_table t rest) refl (subst (HasRows (get_or indexes t old) rows) (of_same t image rest is) before) in
+      subst (λ r. HasRows new r (of_table t rest)) (laid ∙ get_or_default tables t rows f there) now
+
+  pub note_last : (rest : List Image) → AreIndexes indexes tables (image ∷ rest) → AreIndexes (set indexes t new) tables rest
+  note_last rest are k e f below some =
+      elim (eqb k t) as (λ b. eqb k t ≡ b → HasRows (get_or (set indexes t new) k e) (get_or tables k f) (of_table k rest)) [
+        | true ↦ λ same. rw (eqb-true k t same, get_or-set_same) (note_here rest are f)
+        | false ↦ λ apart.
+            let other : k ≢ t = λ e. (let both : eqb k t ≡ true = eq-eqb k t e in cc) in
+            rw get_or-set_other (subst (HasRows (get_or indexes k e) (get_or tables k f)) (of_other k image rest (λ e. other (sym e ∙ is))) (are k e f (rw length-set at below) some))
+      ] refl
+
+-- ---- what an INSERT looks at
+
+pub finds_at : (indexes : List KeyIndex) (tables : List (List Image)) (table : ℕ) (index : KeyIndex) (rows : List Image) → AreIndexes indexes tables [] → table < length indexes → table < length tables
+    → index ≡ get_or indexes table index → rows ≡ get_or tables table rows → index.is_kept ≡ true → FindsRows (row_under index) rows []
+finds_at indexes tables table index rows are within there read laid kept =
+    let first : HasRows (get_or indexes table index) rows [] = subst (λ r. HasRows (get_or indexes table index) r []) (sym laid) (are table index rows within there) in
+    let now : HasRows index rows [] = subst (λ i. HasRows i rows []) (sym read) first in
+    now kept
+
+no_snapshot : (snapshot : Option ℕ) → is_some snapshot ≡ false → snapshot ≡ None
+no_snapshot None none = refl
+no_snapshot (Some n) none = absurd (cc)
+
+-- where a session reads at the last commit, it sees the rows after all commits, with its own changes over them
+pub seen_latest : (start : List Image) (commits : List (List Image)) (session : Session) (table : ℕ) (rows changes : List Image) → is_some session.snapshot ≡ false
+    → rows ≡ lay_all (of_table table start) (map (of_table table) commits) → changes ≡ session.own.changes → lay rows (of_table table changes) ≡ rows_seen start commits session table
+seen_latest start commits session table rows changes none latest own = rw (latest, own, no_snapshot session.snapshot none) refl

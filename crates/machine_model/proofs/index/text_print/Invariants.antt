@@ -1,0 +1,6 @@
+use Rattle.std.proofs.Common.{◌≡◌, drop}
+use Rattle.machine_model.specs.Inside.Index.{text_print}
+use Rattle.machine_model.proofs.index.text_print.Given as goal
+
+abbrev pub invariant-loop-byte : goal.invariant-loop-byte
+invariant-loop-byte l = text_print l.print (drop l.byte-index l.bytes) ≡ text_print 0 l.bytes

@@ -1,0 +1,170 @@
+//! Where keys stand: of each table the committed rows by their keys, so that an INSERT need not look at every row.
+
+ghost use Rattle.std.specs.Prelude.{◌≡◌, ◌∷◌, [], ℕ, List, Some, IfOk, nat_eq};
+ghost use Rattle.std.specs.Bool.{OnTrue};
+ghost use Rattle.std.specs.HashMap.{get};
+ghost use Rattle.std.specs.Option.{option_copied};
+ghost use Rattle.desk_values.specs.declared.value.Image.{Image as AnyImage};
+ghost use Rattle.machine_model.specs.Rows.{IsRising, row_key};
+ghost use Rattle.machine_model.specs.Step.{committed_in};
+ghost use Rattle.machine_model.specs.Inside.Rows.{stocked};
+ghost use Rattle.machine_model.specs.Inside.Index.{AreIndexes, HasRows, has_print, is_others, print_of, row_under, text_print};
+
+use crate::rows::{TableRows, row_among};
+use desk_values::{Image, Memory, Outcome, Value};
+use std::alloc::Global;
+use std::collections::HashMap;
+
+/// The committed rows of a table by the prints of their keys. It is kept where no two rows have one print, and not where
+/// memory was short; rows are looked through then.
+#[derive(Drop)]
+pub struct KeyIndex {
+    is_kept: bool,
+    prints: HashMap<u64, u64>,
+}
+
+impl KeyIndex {
+    /// The index of these rows.
+    pub fn of(alloc: Global, rows: &[Image]) -> KeyIndex
+        requires { IsRising rows.now }
+        ensures { HasRows result rows.now [] }
+    {
+        let mut index = KeyIndex {
+            is_kept: true,
+            prints: HashMap::new(alloc),
+        };
+        for image in rows {
+            index.note(rows, image.row);
+        }
+        index
+    }
+
+    /// Whether it is kept.
+    pub fn is_kept(&self) -> bool
+        ensures { result ≡ self.now.is_kept }
+    {
+        self.is_kept
+    }
+
+    /// The row that has a key of this print, if one has.
+    pub fn row_of(&self, print: u64) -> Option<u64>
+        ensures { result ≡ row_under self.now print }
+    {
+        self.prints.get(&print).copied()
+    }
+
+    /// Notes the row of this number among these. Where another has its print, or memory is short, the index is not kept.
+    pub fn note(&mut self, rows: &[Image], row: u64)
+        requires { IsRising rows.now }
+        ensures { (image : AnyImage) (rest : List AnyImage) → image.row ≡ row → HasRows self.old rows.now (image ∷ rest) → HasRows self.new rows.now rest }
+    {
+        if let Some(image) = row_among(rows, row) {
+            let print = print_of_row(image);
+            let is_one = !is_others(rows, row, print, self.row_of(print));
+            self.is_kept = self.is_kept && is_one && put(&mut self.prints, print, row);
+        }
+    }
+}
+
+/// Puts a row in the place of a print, and tells whether memory was there for it.
+fn put(prints: &mut HashMap<u64, u64>, print: u64, row: u64) -> bool
+    ensures here { OnTrue result (get nat_eq prints.new print ≡ Some row) }
+    ensures others { OnTrue result ((other : ℕ) → (other ≡ print → ⊥) → get nat_eq prints.new other ≡ get nat_eq prints.old other) }
+{
+    prints.insert(print, row).is_ok()
+}
+
+/// Whether the row that is found under a print has it, and is another than this one.
+fn is_others(rows: &[Image], row: u64, print: u64, other: Option<u64>) -> bool
+    requires { IsRising rows.now }
+    ensures { result ≡ is_others row print rows.now other }
+{
+    match other {
+        Some(other) => other != row && has_print(row_among(rows, other), print),
+        None => false,
+    }
+}
+
+fn has_print(image: Option<&Image>, print: u64) -> bool
+    ensures { result ≡ has_print print (option_copied image.entry) }
+{
+    match image {
+        Some(image) => print_of_row(image) == print,
+        None => false,
+    }
+}
+
+/// The print of a row's key.
+fn print_of_row(image: &Image) -> u64
+    ensures { result ≡ print_of (row_key image.now) }
+{
+    let Some(values) = &image.left else {
+        return 0;
+    };
+    match values.as_slice() {
+        [key, ..] => print_of(key),
+        [] => 0,
+    }
+}
+
+/// A number that values share which are one key.
+pub fn print_of(key: &Value) -> u64
+    ensures { result ≡ print_of key.now }
+{
+    match key {
+        Value::Null => 0,
+        Value::Int(number) => number.cast_unsigned(),
+        Value::Text(text) => text_print(text.as_str().as_bytes()),
+        Value::Row(number) | Value::Draw(_, number) => *number,
+    }
+}
+
+fn text_print(bytes: &[u8]) -> u64
+    ensures { result ≡ text_print 0 bytes.now }
+{
+    let mut print = 0_u64;
+    for byte in bytes {
+        print = print
+            .wrapping_mul(1_099_511_628_211)
+            .wrapping_add(u64::from(*byte));
+    }
+    print
+}
+
+/// Indexes of tables.
+pub fn indexes_of(alloc: Global, tables: &[TableRows]) -> Result<Vec<KeyIndex>, Memory>
+    ensures { IfOk result (λ indexes. AreIndexes indexes.items (stocked tables.now) []) }
+{
+    let mut indexes = Vec::new(alloc);
+    for table in tables {
+        indexes.push(KeyIndex::of(alloc, table.as_slice()))?;
+    }
+    Ok(indexes)
+}
+
+/// Notes the rows that a reply commits, where these are the rows of the tables with them.
+pub fn note_commit(tables: &[TableRows], indexes: &mut Vec<KeyIndex>, outcome: &Outcome)
+    ensures { AreIndexes indexes.old.items (stocked tables.now) (committed_in outcome.now) → AreIndexes indexes.new.items (stocked tables.now) [] }
+{
+    if let Outcome::Committed(images) = outcome {
+        note_images(tables, indexes, images.as_slice());
+    }
+}
+
+fn note_images(tables: &[TableRows], indexes: &mut Vec<KeyIndex>, images: &[Image])
+    ensures { AreIndexes indexes.old.items (stocked tables.now) images.now → AreIndexes indexes.new.items (stocked tables.now) [] }
+{
+    for image in images {
+        note_image(tables, indexes, image);
+    }
+}
+
+/// Notes the row that this is an image of.
+fn note_image(tables: &[TableRows], indexes: &mut Vec<KeyIndex>, image: &Image)
+    ensures { (rest : List AnyImage) → AreIndexes indexes.old.items (stocked tables.now) (image.now ∷ rest) → AreIndexes indexes.new.items (stocked tables.now) rest }
+{
+    let table = image.table as usize;
+    if table < tables.len() && table < indexes.len() {
+        indexes[table].note(tables[table].as_slice(), image.row);
+    }
+}
