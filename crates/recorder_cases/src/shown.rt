@@ -1,13 +1,13 @@
 //! How answers are told.
 
 use anyhow::anyhow;
-use capture_format::{write_reply, write_session};
-use capture_recorder::{CallErr, Recorder, Twice};
+use capture_format::write_reply;
+use capture_recorder::{CallErr, Twice};
 use desk_values::{Bytes, Captured, Reply};
 use std::alloc::Global;
 
 /// Bytes as a text.
-pub fn text(alloc: Global, bytes: Bytes) -> Result<String, anyhow::Error> {
+pub fn text(alloc: Global, bytes: &Bytes) -> Result<String, anyhow::Error> {
     let text = str::from_utf8(bytes.as_slice())?;
     Ok(String::from_str(alloc, text)?)
 }
@@ -17,24 +17,27 @@ pub fn reply(alloc: Global, reply: &Reply) -> Result<String, anyhow::Error> {
     if !reply.good() {
         return Err(anyhow!("a reply without a text"));
     }
-    text(alloc, write_reply(alloc, reply)?)
+    text(alloc, &write_reply(alloc, reply)?)
 }
 
 /// What a call was answered: the reply twice, or why it was turned away.
 pub fn answer(alloc: Global, answer: Result<Twice, CallErr>) -> Result<String, anyhow::Error> {
     match answer {
-        Ok(twice) => {
-            let first = reply(alloc, &twice.reply)?;
-            let second = reply(alloc, &twice.same)?;
-            if first.as_str() != second.as_str() {
-                return Err(anyhow!("two replies"));
-            }
-            Ok(first)
-        }
+        Ok(twice) => reply_once(alloc, &twice),
         Err(CallErr::Stranger) => Ok(String::from_str(alloc, "stranger")?),
         Err(CallErr::Full) => Ok(String::from_str(alloc, "full")?),
         Err(CallErr::Memory) => Err(anyhow!("out of memory")),
     }
+}
+
+// The reply, which must be the same twice.
+fn reply_once(alloc: Global, twice: &Twice) -> Result<String, anyhow::Error> {
+    let first = reply(alloc, &twice.reply)?;
+    let second = reply(alloc, &twice.same)?;
+    if first.as_str() != second.as_str() {
+        return Err(anyhow!("two replies"));
+    }
+    Ok(first)
 }
 
 /// The numbers of a call: its stamp, session, place, moments, how many commits it saw, and its own number.
@@ -43,10 +46,4 @@ pub fn numbers(alloc: Global, call: &Captured) -> Result<String, anyhow::Error> 
         "{} {} {} {} {} {} {}",
         call.stamp, call.session, call.place, call.began, call.ended, call.seen, call.number
     )?)
-}
-
-/// The file of a session.
-pub fn session(alloc: Global, recorder: &Recorder, session: u32) -> Result<String, anyhow::Error> {
-    let calls = recorder.session(session)?;
-    text(alloc, write_session(alloc, &calls, session)?)
 }
