@@ -4,6 +4,7 @@ use Rattle.std.specs.Prelude.{codes}
 use Rattle.std.specs.Option.{option_map}
 use Rattle.std.specs.Str.{bytes_eq}
 use Rattle.std.proofs.lemmas.Bool.{leb-true, le-leb}
+use Rattle.std.proofs.lemmas.Option.{cond_some}
 use Rattle.desk_values.specs.declared.value.Value.{Value}
 use Rattle.desk_values.specs.declared.call.Call.{Call}
 use Rattle.desk_values.specs.declared.call.Call.TheVariants.{Connect, Sql, Disconnect}
@@ -12,7 +13,7 @@ use Rattle.desk_values.specs.Good.{IsTxt, IsValues, IsCall}
 use Rattle.desk_values.specs.Text.{escaped, txt_text, values_text, call_text}
 use Rattle.desk_values.specs.Reading.{txt_of, values_of}
 use Rattle.capture_format.specs.CallReading.{sql_of, call_of}
-use Rattle.desk_values.proofs.Options.{bind_some, if_some, when_some}
+use Rattle.desk_values.proofs.Options.{bind_some, when_some}
 use Rattle.desk_values.proofs.Readers.{IsReader}
 use Rattle.desk_values.proofs.Cuts.{IsCut, cut_at-joined, cut_at_parts}
 use Rattle.desk_values.proofs.Escapes.{txts, IsUtf8-small}
@@ -31,7 +32,7 @@ sql_taken bytes call e =
     let parts = bind_some (cut_at 32 bytes) _ call e in
     let text = bind_some (txt_of parts.0.0) _ call parts.2 in
     let binds = bind_some (values_of parts.0.1) _ call text.2 in
-    let few = if_some (leb (length binds.0) 16) (Sql text.0 binds.0) call binds.2 in
+    let few = cond_some (leb (length binds.0) 16) (Sql text.0 binds.0) call binds.2 in
     subst (λ (c : Call). IsCall c × (codes "sql " ++ bytes ≡ call_text c)) few.1
     (sql_spelled bytes parts.0.0 parts.0.1 text.0 binds.0 (cut_at_parts 32 bytes parts.0 parts.1) (txts.takes parts.0.0 text.0 text.1) (values_reader.takes parts.0.1 binds.0 binds.1) (leb-true (length binds.0) 16 few.0))
 

@@ -5,9 +5,10 @@ use Rattle.std.specs.Str.{IsAscii, IsUtf8}
 use Rattle.std.proofs.lemmas.Bool.{and_parts, leb-true}
 use Rattle.std.proofs.lemmas.Bool.Decides.{nat_tests}
 use Rattle.std.proofs.lemmas.Str.{IsUtf8-from_ascii}
+use Rattle.std.proofs.lemmas.Option.{cond_some}
 use Rattle.desk_values.specs.Fields.{Lacks}
 use Rattle.desk_values.specs.Good.{IsTxt}
-use Rattle.desk_values.proofs.Options.{if_some, none_from}
+use Rattle.desk_values.proofs.Options.{none_from}
 use Rattle.desk_values.proofs.Readers.{IsReader}
 use Rattle.desk_schema.specs.Name.{is_name_byte, is_name, IsName}
 use Rattle.capture_format.specs.Inside.NameReading.{as_name}
@@ -46,7 +47,7 @@ pub name_lacks : (byte : ℕ) → byte < 48 → (bytes : List ℕ) → IsName by
 name_lacks byte low bytes name = all_weaker IsNameByte (λ other. other ≢ byte) (λ other is same. absurd (omega (arith, is.low))) bytes (name_bytes bytes name)
 
 name_takes : (bytes name : List ℕ) → as_name bytes ≡ Some name → IsName name × (bytes ≡ name)
-name_takes bytes name e = let test = if_some (is_name bytes) bytes name e in (subst (λ (n : List ℕ). IsName n) test.1 test.0, test.1)
+name_takes bytes name e = let test = cond_some (is_name bytes) bytes name e in (subst (λ (n : List ℕ). IsName n) test.1 test.0, test.1)
 
 name_again : (name : List ℕ) → IsName name → as_name name ≡ Some name
 name_again name is = rw is refl

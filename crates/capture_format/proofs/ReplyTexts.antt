@@ -6,7 +6,7 @@ use Rattle.std.specs.List.{AllByRecursion, join_with_byte, flat_map}
 use Rattle.std.specs.Fmt.{decimal}
 use Rattle.std.specs.Str.{bytes_eq}
 use Rattle.std.proofs.lemmas.Bool.{ne_eqb, eqb-true, eqb-false, or_left, cond-false, false_from_ne_true}
-use Rattle.std.proofs.lemmas.Option.{same_Some, none-some}
+use Rattle.std.proofs.lemmas.Option.{same_Some, none-some, cond_some}
 use Rattle.std.proofs.lemmas.Slice.Eq.{bytes_eq-Decides}
 use Rattle.desk_values.specs.declared.read_err.ReadErr.{ReadErr}
 use Rattle.desk_values.specs.declared.read_err.ReadErr.TheVariants.{Bad, Memory}
@@ -25,7 +25,7 @@ use Rattle.desk_values.specs.Reading.{Reads, ◌>>=◌, number_of, number_below,
 use Rattle.capture_format.specs.ReplyReading.{filled_of, open_rows_of, rows_of, left_of, image_of, images_of, fault_of, field_outcome_of, word_outcome_of, outcome_behind, outcome_of, draws_of, made_of, reply_of}
 use Rattle.desk_values.specs.Good.{rows_ascend, all_draws}
 use Rattle.capture_format.proofs.Fields.{by_word, one_text, no_word}
-use Rattle.desk_values.proofs.Options.{bind_some, map_some, if_some, unless_some, unless_when, when_some, chosen, at_end_some}
+use Rattle.desk_values.proofs.Options.{bind_some, map_some, unless_some, unless_when, when_some, chosen, at_end_some}
 use Rattle.desk_values.proofs.Readers.{IsReader, first_of}
 use Rattle.desk_values.proofs.Cuts.{IsCut, cut_at-joined, cut_at_parts, cut_at_lacks, pieces-joined, pieces-none, pieces-cut, pieces_some, join-pieces, joined_reader, onto_items, onto_items-append}
 use Rattle.desk_values.proofs.Numbers.{numbers, numbers_below}
@@ -251,7 +251,7 @@ images_taken bytes images e =
       | inl none ↦ subst (λ (is : List Image). (AllByRecursion IsGoodImage is × Ascend is) × (bytes ≡ images_text is)) (same_Some [] images none.1) ((tt, tt), is_codes bytes (codes "-") none.0)
       | inr e ↦
           let found = bind_some (each_of image_of (pieces 59 bytes)) _ images e.1 in
-          let test = if_some (rows_ascend found.0) found.0 images found.2 in
+          let test = cond_some (rows_ascend found.0) found.0 images found.2 in
           subst (λ (is : List Image). (AllByRecursion IsGoodImage is × Ascend is) × (bytes ≡ images_text is)) test.1
           (images_spelled bytes found.0 ((rows_ascend_is found.0).0 test.0) (image_list.takes bytes found.0 found.1))
     ]
@@ -374,7 +374,7 @@ draws_taken : (bytes : List ℕ) (draws : List Value) → draws_of bytes ≡ Som
 unfolding draws_of
 draws_taken bytes draws e =
     let found = bind_some (values_of bytes) _ draws e in
-    let test = if_some (all_draws found.0) found.0 draws found.2 in
+    let test = cond_some (all_draws found.0) found.0 draws found.2 in
     let taken = values_reader.takes bytes found.0 found.1 in
     subst (λ (vs : List Value). AllByRecursion IsGoodDraw vs × (bytes ≡ values_text vs)) test.1 ((all_draws_is found.0 taken.0).0 test.0, taken.1)
 

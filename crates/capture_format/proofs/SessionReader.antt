@@ -1,12 +1,13 @@
 -- What is read of a line is spelled so, and what is spelled so is read.
-use Rattle.std.proofs.Common.{◌≡◌, ◌≢◌, inl, inr, ℕ, zero, suc, ◌<◌, ◌≤◌, ◌^◌, Bool, true, false, cond, eqb, leb, nat_eq, List, [], ◌∷◌, ◌++◌, drop, Option, Some, None, refl, ap, sym, subst, ◌∙◌, append_assoc, arith, lit<, lit≤}
+use Rattle.std.proofs.Common.{◌≡◌, ◌≢◌, inl, inr, ℕ, zero, suc, ◌<◌, ◌≤◌, ◌^◌, true, false, cond, eqb, leb, nat_eq, List, [], ◌∷◌, ◌++◌, drop, Option, Some, None, refl, ap, sym, subst, ◌∙◌, append_assoc, arith, lit<, lit≤}
 use Rattle.std.specs.Prelude.{codes}
 use Rattle.std.specs.List.{AllByRecursion, starts_with}
 use Rattle.std.specs.Str.{bytes_eq}
 use Rattle.std.specs.Fmt.{decimal}
 use Rattle.std.proofs.lemmas.Slice.Eq.{bytes_eq-Decides, starts_is}
 use Rattle.std.proofs.lemmas.Bool.Decides.{Decides-eqb}
-use Rattle.std.proofs.lemmas.Bool.{ne_eqb, eqb-false, le-leb, leb-true}
+use Rattle.std.proofs.lemmas.Bool.{ne_eqb, eqb-false, le-leb, leb-true, false_from_ne_true}
+use Rattle.std.proofs.lemmas.Option.{cond_some, same_Some}
 use Rattle.desk_values.specs.declared.call.Call.{Call as AnyCall}
 use Rattle.desk_values.specs.Fields.{Lacks, cut_at}
 use Rattle.desk_values.specs.Good.{IsCall, IsGoodReply}
@@ -14,7 +15,7 @@ use Rattle.desk_values.specs.Text.{call_text, reply_text}
 use Rattle.desk_values.specs.Reading.{◌>>=◌, number_of, number_below}
 use Rattle.capture_format.specs.CallReading.{call_of}
 use Rattle.capture_format.specs.ReplyReading.{reply_of}
-use Rattle.desk_values.proofs.Options.{bind_some, map_some, if_some, chosen}
+use Rattle.desk_values.proofs.Options.{bind_some, map_some, chosen, unless_some}
 use Rattle.desk_values.proofs.Readers.{IsReader}
 use Rattle.desk_values.proofs.Cuts.{cut_at-joined, cut_at_parts}
 use Rattle.desk_values.proofs.Numbers.{numbers, numbers_below}
@@ -42,7 +43,7 @@ unfolding number_at
 number_at_takes most bytes x e =
     let parts = bind_some (cut_at 32 bytes) _ x e in
     let number = bind_some (number_of parts.0.0) _ x parts.2 in
-    let test = if_some (leb number.0 most) (number.0, parts.0.1) x number.2 in
+    let test = cond_some (leb number.0 most) (number.0, parts.0.1) x number.2 in
     let cut = (cut_at_parts 32 bytes parts.0 parts.1).parts in
     let spelled = (numbers.takes parts.0.0 number.0 number.1).1 in
     subst (λ (y : ℕ × List ℕ). (y.0 ≤ most) × (bytes ≡ decimal y.0 ++ 32 ∷ y.1)) test.1 (leb-true number.0 most test.0, cut ∙ ap (λ (f : List ℕ). f ++ 32 ∷ parts.0.1) spelled)
@@ -55,33 +56,22 @@ number_at_again most n rest small le =
 
 -- ---- the number of a commit
 
-unless_some : {A : Type 0} (b : Bool) (x y : A) → cond b None (Some x) ≡ Some y → (b ≡ false) × (x ≡ y)
-unless_some true x y e = absurd cc
-unless_some false x y e = (refl, cc)
-
 number_text_is : (n : ℕ) → n ≢ 0 → number_text n ≡ decimal n
 number_text_is zero some = absurd (some refl)
 number_text_is (suc n) some = refl
-
-bool_cases : (b : Bool) → (b ≡ true → ⊥) → b ≡ false
-bool_cases true never = absurd (never refl)
-bool_cases false never = refl
 
 dash_is_no_digit : (bytes : List ℕ) → AllByRecursion IsDigit bytes → bytes ≡ codes "-" → ⊥
 dash_is_no_digit [] digits same = cc
 dash_is_no_digit (byte ∷ bytes) digits same = let is : byte ≡ 45 = cc in absurd (omega (arith, digits.0.low))
 
-some_is : {A : Type 0} (x y : A) → ◌≡◌ {A = Option A} (Some x) (Some y) → x ≡ y
-some_is x y e = cc
-
 no_dash : (bytes : List ℕ) → AllByRecursion IsDigit bytes → bytes_eq bytes (codes "-") ≡ false
-no_dash bytes digits = bool_cases (bytes_eq bytes (codes "-")) (λ is. dash_is_no_digit bytes digits ((bytes_eq-Decides bytes (codes "-")).0 is))
+no_dash bytes digits = false_from_ne_true (bytes_eq bytes (codes "-")) (λ is. dash_is_no_digit bytes digits ((bytes_eq-Decides bytes (codes "-")).0 is))
 
 commit_number_takes : (bytes : List ℕ) (n : ℕ) → commit_number_of bytes ≡ Some n → (n < 2 ^ 64) × (bytes ≡ number_text n)
 unfolding commit_number_of
 commit_number_takes bytes n e =
     elim (chosen (bytes_eq bytes (codes "-")) (Some 0) (number_of bytes >>= λ m. cond (eqb m 0) None (Some m)) (Some n) e) [
-      | inl dash ↦ subst (λ (m : ℕ). (m < 2 ^ 64) × (bytes ≡ number_text m)) (some_is 0 n dash.1) (lit< tt, (bytes_eq-Decides bytes (codes "-")).0 dash.0)
+      | inl dash ↦ subst (λ (m : ℕ). (m < 2 ^ 64) × (bytes ≡ number_text m)) (same_Some 0 n dash.1) (lit< tt, (bytes_eq-Decides bytes (codes "-")).0 dash.0)
       | inr digits ↦
           let number = bind_some (number_of bytes) (λ m. cond (eqb m 0) None (Some m)) n digits.1 in
           let test = unless_some (eqb number.0 0) number.0 n number.2 in
@@ -105,7 +95,7 @@ commit_number_at_takes bytes x e =
     let number = bind_some (commit_number_of parts.0.0) (λ n. Some (n, parts.0.1)) x parts.2 in
     let cut = (cut_at_parts 32 bytes parts.0 parts.1).parts in
     let spelled = commit_number_takes parts.0.0 number.0 number.1 in
-    subst (λ (y : ℕ × List ℕ). (y.0 < 2 ^ 64) × (bytes ≡ number_text y.0 ++ 32 ∷ y.1)) (some_is (number.0, parts.0.1) x number.2) (spelled.0, cut ∙ ap (λ (f : List ℕ). f ++ 32 ∷ parts.0.1) spelled.1)
+    subst (λ (y : ℕ × List ℕ). (y.0 < 2 ^ 64) × (bytes ≡ number_text y.0 ++ 32 ∷ y.1)) (same_Some (number.0, parts.0.1) x number.2) (spelled.0, cut ∙ ap (λ (f : List ℕ). f ++ 32 ∷ parts.0.1) spelled.1)
 
 commit_number_at_again : (n : ℕ) (rest : List ℕ) → n < 2 ^ 64 → commit_number_at (number_text n ++ 32 ∷ rest) ≡ Some (n, rest)
 unfolding commit_number_at
@@ -139,12 +129,12 @@ digit_first [] rest more byte are high same = let is : 32 ≡ byte = cc in absur
 digit_first (digit ∷ digits) rest more byte are high same = let is : digit ≡ byte = cc in absurd (omega (arith, are.0.high))
 
 not_end : (line : CallLine) → IsCallLine line → bytes_eq (call_line_text line) (codes "end") ≡ false
-not_end line fits = bool_cases (bytes_eq (call_line_text line) (codes "end")) (λ is. digit_first (decimal line.stamp) _ _ 101 (digits_decimal line.stamp (omega (arith, fits.stamp))) (lit< tt) ((bytes_eq-Decides (call_line_text line) (codes "end")).0 is))
+not_end line fits = false_from_ne_true (bytes_eq (call_line_text line) (codes "end")) (λ is. digit_first (decimal line.stamp) _ _ 101 (digits_decimal line.stamp (omega (arith, fits.stamp))) (lit< tt) ((bytes_eq-Decides (call_line_text line) (codes "end")).0 is))
 
 not_head : (line : CallLine) → IsCallLine line → head_of (call_line_text line) ≡ None
 unfolding head_of
 not_head line fits =
-    let test : starts_with nat_eq (call_line_text line) head_word ≡ false = bool_cases (starts_with nat_eq (call_line_text line) head_word) (λ is. digit_first (decimal line.stamp) _ _ 115 (digits_decimal line.stamp (omega (arith, fits.stamp))) (lit< tt) ((begins (call_line_text line)).0 is)) in
+    let test : starts_with nat_eq (call_line_text line) head_word ≡ false = false_from_ne_true (starts_with nat_eq (call_line_text line) head_word) (λ is. digit_first (decimal line.stamp) _ _ 115 (digits_decimal line.stamp (omega (arith, fits.stamp))) (lit< tt) ((begins (call_line_text line)).0 is)) in
     rw test refl
 
 -- ---- what was asked and what was answered
@@ -175,7 +165,7 @@ module _ (calls : IsReader call_of IsCall call_text) (replies : IsReader reply_o
       let behind : parts.0.1 ≡ 32 ∷ reply_text reply.0 = behind_space_takes parts.0.1 answered.0 answered.1 ∙ ap (λ (t : List ℕ). 32 ∷ t) reply_is.1 in
       let made : Exchange = record { call = call.0; reply = reply.0 } in
       let whole : bytes ≡ exchange_text made = cut ∙ ap (λ (f : List ℕ). f ++ 62 ∷ parts.0.1) before ∙ ap (λ (b : List ℕ). (call_text call.0 ++ 32 ∷ []) ++ 62 ∷ b) behind ∙ append_assoc (call_text call.0) (32 ∷ []) (62 ∷ 32 ∷ reply_text reply.0) in
-      subst (λ (y : Exchange). IsExchange y × (bytes ≡ exchange_text y)) (some_is made x reply.2) (record { call = call_is.0; reply = reply_is.0 }, whole)
+      subst (λ (y : Exchange). IsExchange y × (bytes ≡ exchange_text y)) (same_Some made x reply.2) (record { call = call_is.0; reply = reply_is.0 }, whole)
 
   exchange_again : (x : Exchange) → IsExchange x → exchange_of (exchange_text x) ≡ Some x
   unfolding exchange_of
@@ -205,7 +195,7 @@ module _ (calls : IsReader call_of IsCall call_text) (replies : IsReader reply_o
       let e2 : stamp.0.1 ≡ decimal began.0.0 ++ 32 ∷ (decimal ended.0.0 ++ 32 ∷ (decimal seen.0.0 ++ 32 ∷ (number_text number.0.0 ++ 32 ∷ exchange_text exchange.0))) = part2.1 ∙ ap (λ (r : List ℕ). decimal began.0.0 ++ 32 ∷ r) e3 in
       let whole : bytes ≡ call_line_text made = part1.1 ∙ ap (λ (r : List ℕ). decimal stamp.0.0 ++ 32 ∷ r) e2 in
       let fits : IsCallLine made = record { stamp = omega (arith, part1.0); began = part2.0; ended = part3.0; seen = omega (arith, part4.0); number = part5.0; call = part6.0.call; reply = part6.0.reply } in
-      subst (λ (l : CallLine). IsCallLine l × (bytes ≡ call_line_text l)) (some_is made line exchange.2) (fits, whole)
+      subst (λ (l : CallLine). IsCallLine l × (bytes ≡ call_line_text l)) (same_Some made line exchange.2) (fits, whole)
 
   call_line_again : (line : CallLine) → IsCallLine line → call_line_of (call_line_text line) ≡ Some line
   unfolding call_line_of
@@ -217,7 +207,7 @@ module _ (calls : IsReader call_of IsCall call_text) (replies : IsReader reply_o
       rw (number_at_again 4294967295 line.stamp _ (lit< tt) stamp, number_at_again 1000000000000 line.began _ (lit< tt) fits.began, number_at_again 1000000000000 line.ended _ (lit< tt) fits.ended, number_at_again 18446744073709551615 line.seen _ (lit< tt) seen, commit_number_at_again line.number _ fits.number, exchange) refl
 
   head_or_call_takes : (bytes : List ℕ) (head : Option ℕ) (line : SessionLine) → head ≡ head_of bytes → head_or_call bytes head ≡ Some line → IsSessionLine line × (bytes ≡ session_line_text line)
-  head_or_call_takes bytes (Some session) line is e = subst (λ (l : SessionLine). IsSessionLine l × (bytes ≡ session_line_text l)) (some_is (Head session) line e) (head_takes bytes session (sym is))
+  head_or_call_takes bytes (Some session) line is e = subst (λ (l : SessionLine). IsSessionLine l × (bytes ≡ session_line_text l)) (same_Some (Head session) line e) (head_takes bytes session (sym is))
   head_or_call_takes bytes None line is e =
       let found = map_some Call (call_line_of bytes) line e in
       subst (λ (l : SessionLine). IsSessionLine l × (bytes ≡ session_line_text l)) found.2 (call_line_takes bytes found.0 found.1)
@@ -226,7 +216,7 @@ module _ (calls : IsReader call_of IsCall call_text) (replies : IsReader reply_o
   unfolding session_line_of
   line_takes bytes line e =
       elim (chosen (bytes_eq bytes (codes "end")) (Some End) (head_or_call bytes (head_of bytes)) (Some line) e) [
-        | inl is_end ↦ subst (λ (l : SessionLine). IsSessionLine l × (bytes ≡ session_line_text l)) (some_is End line is_end.1) (tt, (bytes_eq-Decides bytes (codes "end")).0 is_end.0)
+        | inl is_end ↦ subst (λ (l : SessionLine). IsSessionLine l × (bytes ≡ session_line_text l)) (same_Some End line is_end.1) (tt, (bytes_eq-Decides bytes (codes "end")).0 is_end.0)
         | inr other ↦ head_or_call_takes bytes (head_of bytes) line refl other.1
       ]
 

@@ -20,9 +20,6 @@ number_words (suc n) small = text_decimal (suc n) small
 pub visible_all : (bytes : List ℕ) → AreTextBytes bytes → Lacks 10 bytes
 visible_all bytes text = Lacks-from is_text 10 refl bytes text
 
-lacks_arrow : Lacks 10 (32 ∷ 62 ∷ 32 ∷ [])
-lacks_arrow = (omega arith, (omega arith, (omega arith, tt)))
-
 lacks_field : (n : ℕ) (rest : List ℕ) → n < 2 ^ 64 → Lacks 10 rest → Lacks 10 (decimal n ++ 32 ∷ rest)
 lacks_field n rest small lacks = all_append (λ b. b ≢ 10) (decimal n) (32 ∷ rest) (visible_all (decimal n) (text_decimal n small)) (omega arith, lacks)
 

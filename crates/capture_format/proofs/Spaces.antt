@@ -2,7 +2,8 @@
 use Rattle.std.proofs.Common.{◌≡◌, ◌≢◌, ℕ, eqb, List, [], ◌∷◌, ◌++◌, Some, None, refl, ap, ◌∙◌}
 use Rattle.std.specs.Option.{option_map}
 use Rattle.std.proofs.lemmas.Bool.{ne_eqb, eqb-true}
-use Rattle.desk_values.proofs.Options.{map_some, if_some}
+use Rattle.std.proofs.lemmas.Option.{cond_some}
+use Rattle.desk_values.proofs.Options.{map_some}
 use Rattle.capture_format.specs.Inside.SessionReading.{before_space, behind_space}
 
 pub before_space-joined : (front : List ℕ) → before_space (front ++ 32 ∷ []) ≡ Some front
@@ -18,7 +19,7 @@ before_space-other last (byte ∷ next ∷ front) other = ap (option_map (λ (xs
 pub before_space_takes : (bytes front : List ℕ) → before_space bytes ≡ Some front → bytes ≡ front ++ 32 ∷ []
 before_space_takes [] front e = absurd cc
 before_space_takes (byte ∷ []) front e =
-    let test = if_some (eqb byte 32) [] front e in
+    let test = cond_some (eqb byte 32) [] front e in
     let is = eqb-true byte 32 test.0 in
     let nothing = test.1 in
     cc
@@ -31,7 +32,7 @@ before_space_takes (byte ∷ next ∷ bytes) front e =
 pub behind_space_takes : (bytes back : List ℕ) → behind_space bytes ≡ Some back → bytes ≡ 32 ∷ back
 behind_space_takes [] back e = absurd cc
 behind_space_takes (byte ∷ bytes) back e =
-    let test = if_some (eqb byte 32) bytes back e in
+    let test = cond_some (eqb byte 32) bytes back e in
     let is = eqb-true byte 32 test.0 in
     let others = test.1 in
     cc

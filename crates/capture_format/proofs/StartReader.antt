@@ -49,7 +49,7 @@ signed_space : (n : ℤ) → FitsSigned w64 n → Lacks 32 (signed_decimal n)
 signed_space (pos n) fits = no_space n (omega (arith, fits.sfits))
 signed_space (negsuc n) fits = (λ same. absurd (omega arith), no_space (suc n) (omega (arith, fits.sfits)))
 
-small_space : (n : ℕ) → n < 2 ^ 32 → Lacks 32 (decimal n)
+pub small_space : (n : ℕ) → n < 2 ^ 32 → Lacks 32 (decimal n)
 small_space n few = no_space n (omega (arith, few))
 
 -- ---- columns

@@ -1,9 +1,10 @@
 -- How many of a list pass a test.
 use Rattle.std.proofs.Common.{◌≡◌, ◌≤◌, ℕ, zero, suc, ◌+◌, Bool, true, false, cond, List, [], ◌∷◌, ◌++◌, length, take, drop, refl, sym, ap, ◌∙◌, zero-add, arith}
-use Rattle.std.specs.Prelude.{Option, None, Some, count_by, slice_get}
+use Rattle.std.specs.Prelude.{None, Some, count_by, slice_get}
 use Rattle.std.specs.List.{AllByRecursion, find}
 use Rattle.std.proofs.lemmas.List.{take_all, take-append-drop, take-append-le}
 use Rattle.std.proofs.lemmas.List.Sums.{count_by-le-length, sum_by-append, sum_by-cons}
+use Rattle.std.proofs.lemmas.Option.{none-some}
 use Rattle.capture_laws.proofs.Members.{some_is}
 
 module _ {X : Type 0} (p : X → Bool) where
@@ -28,10 +29,7 @@ module _ {X : Type 0} (p : X → Bool) where
   not_found (x ∷ xs) none = at (p x) refl (not_found xs)
     where
       at : (b : Bool) → p x ≡ b → (find p xs ≡ None → count_by p xs ≡ 0) → count_by p (x ∷ xs) ≡ 0
-      at true hits later = absurd (clash (sym (rw hits refl) ∙ none))
-        where
-          clash : ◌≡◌ {A = Option X} (Some x) None → ⊥
-          clash e = cc
+      at true hits later = absurd (none-some x (sym (sym (rw hits refl) ∙ none)))
       at false misses later = count_no x xs misses ∙ later (sym (rw misses refl) ∙ none)
 
   -- ---- those in front of a place

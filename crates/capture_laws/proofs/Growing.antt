@@ -11,7 +11,8 @@ use Rattle.replay_history.specs.Gap.{IsJustBefore}
 use Rattle.capture_laws.specs.Sessions.{is_of}
 use Rattle.capture_laws.specs.Stamped.{AllFit}
 use Rattle.capture_laws.proofs.Counts.{count_before, count_part, count_whole}
-use Rattle.capture_laws.proofs.Members.{before_or_end, each_weaker, get_before}
+use Rattle.capture_laws.proofs.Members.{before_or_end, get_before}
+use Rattle.capture_format.proofs.Cuts.{all_weaker}
 
 abbrev is_commit : Captured → Bool
 is_commit call = commits call.reply.outcome
@@ -45,7 +46,7 @@ module _ (rows : List Image) (calls : List Captured) (new : Captured) where
           | inl old ↦ fits.follows j before old.1 just
           | inr last ↦ absurd (never (subst (λ c. IsJustBefore c call) last.1 just))
         ];
-        known = each_weaker (IsKnown rows calls k) (IsKnown rows longer k) (known_longer k) (binds_of call.call) fits.known;
+        known = all_weaker (IsKnown rows calls k) (IsKnown rows longer k) (known_longer k) (binds_of call.call) fits.known;
       }
 
   module _ (fits : FitsIn rows calls (length calls) new) where

@@ -7,11 +7,6 @@ module _ {X : Type 0} where
   pub some_is : {x y : X} → ◌≡◌ {A = Option X} (Some x) (Some y) → x ≡ y
   some_is e = cc
 
-  pub within : (xs : List X) (k : ℕ) (x : X) → slice_get xs k ≡ Some x → k < length xs
-  within [] k x there = cc
-  within (y ∷ ys) zero x there = omega arith
-  within (y ∷ ys) (suc k) x there = omega (arith, within ys k x there)
-
   pub get_there : (xs : List X) (k : ℕ) → k < length xs → (x : X) × (slice_get xs k ≡ Some x)
   get_there [] k lt = absurd (omega (arith, lt))
   get_there (x ∷ xs) zero lt = (x, refl)
@@ -45,14 +40,6 @@ module _ {X : Type 0} where
     each_get [] k x all there = cc
     each_get (y ∷ ys) zero x all there = subst P (some_is there) all.0
     each_get (y ∷ ys) (suc k) x all there = each_get ys k x all.1 there
-
-    pub each_joined : (xs ys : List X) → AllByRecursion P xs → AllByRecursion P ys → AllByRecursion P (xs ++ ys)
-    each_joined [] ys p q = q
-    each_joined (x ∷ xs) ys p q = (p.0, each_joined xs ys p.1 q)
-
-    pub each_weaker : (Q : X → Type 0) → ((x : X) → P x → Q x) → (xs : List X) → AllByRecursion P xs → AllByRecursion Q xs
-    each_weaker Q weaker [] all = tt
-    each_weaker Q weaker (x ∷ xs) all = (weaker x all.0, each_weaker Q weaker xs all.1)
 
     pub found_holds : (p : X → Bool) (xs : List X) (x : X) → AllByRecursion P xs → find p xs ≡ Some x → P x
     found_holds p [] x all found = cc

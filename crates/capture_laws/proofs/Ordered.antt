@@ -5,6 +5,8 @@ use Rattle.std.specs.List.{All, AllByRecursion, find, range_with_len}
 use Rattle.std.specs.List.Sorted.{IsPermutation}
 use Rattle.std.proofs.lemmas.Bool.{eq-eqb, ne_eqb}
 use Rattle.std.proofs.lemmas.List.Sorted.{All-permutation, IsPermutation-sym, length_permutation, sum_by-IsPermutation}
+use Rattle.std.proofs.lemmas.Option.{slice_get-get_or}
+use Rattle.std.proofs.lemmas.List.Elements.{recursion_from_All}
 use Rattle.desk_values.specs.declared.capture.Captured.{Captured}
 use Rattle.replay_history.specs.Gap.{IsStamped}
 use Rattle.capture_laws.specs.Stamps.{HasEach, by_stamp, count_at, has_stamp, stamps_for}
@@ -43,15 +45,6 @@ none_found p a (suc n) each =
     ap (λ (b : Bool). cond b (Some a) (find p (range_with_len (a + 1) n))) head
     ∙ none_found p (a + 1) n (λ j lt. subst (λ (k : ℕ). p k ≡ false) (omega arith) (each (suc j) (omega (arith, lt))))
 
-get_at : {X : Type 0} (xs : List X) (k : ℕ) (d : X) → k < length xs → slice_get xs k ≡ Some (get_or xs k d)
-get_at [] k d lt = absurd (omega (arith, lt))
-get_at (x ∷ xs) Prim.Native.Nat.zero d lt = refl
-get_at (x ∷ xs) (suc k) d lt = get_at xs k d (omega (arith, lt))
-
-by_recursion : {X : Type 0} (P : X → Type 0) (xs : List X) → All P xs → AllByRecursion P xs
-by_recursion P [] all = tt
-by_recursion P (x ∷ xs) all = (all 0 x (omega arith), by_recursion P xs (λ k d lt. all (suc k) d (omega (arith, lt))))
-
 -- lists of one length with the same at each place
 same_lists : {X : Type 0} (xs ys : List X) → length xs ≡ length ys → ((k : ℕ) (x : X) → slice_get xs k ≡ Some x → slice_get ys k ≡ Some x) → xs ≡ ys
 same_lists [] [] len each = refl
@@ -84,13 +77,13 @@ module _ (calls ordered : List Captured) (same : IsPermutation calls ordered) (i
 
   stand : All StandsAtStamp ordered
   stand k d lt =
-      let there = get_at ordered k d lt in
+      let there = slice_get-get_or ordered k d lt in
       let call = get_or ordered k d in
       let is : call.stamp ≡ k = omega (arith, stamped k call there) in
       subst (λ (j : ℕ). slice_get ordered j ≡ Some call) (sym is) there
 
   stand_too : AllByRecursion StandsAtStamp calls
-  stand_too = by_recursion StandsAtStamp calls (All-permutation StandsAtStamp ordered calls (IsPermutation-sym calls ordered same) stand)
+  stand_too = recursion_from_All StandsAtStamp calls (All-permutation StandsAtStamp ordered calls (IsPermutation-sym calls ordered same) stand)
 
   pub order_is_by_stamp : ordered ≡ by_stamp calls
   order_is_by_stamp = sym (same_lists (by_stamp calls) ordered (by_stamp_len calls has ∙ sym len) at)

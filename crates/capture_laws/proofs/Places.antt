@@ -5,16 +5,18 @@ use Rattle.std.specs.List.{AllByRecursion}
 use Rattle.std.proofs.lemmas.Bool.{eq-eqb, ne_eqb}
 use Rattle.std.proofs.lemmas.Bool.Decides.{Decides-ltb}
 use Rattle.std.proofs.lemmas.List.Sorted.{sum_by-IsPermutation}
+use Rattle.std.proofs.Math.Bool.{and-false}
 use Rattle.desk_values.specs.declared.capture.Captured.{Captured}
 use Rattle.capture_format.specs.SessionFile.{AreCallsFrom}
 use Rattle.capture_laws.specs.Sessions.{AreSessionsFrom}
 use Rattle.capture_laws.specs.Stamped.{ArePlaced}
 use Rattle.capture_laws.specs.Stamps.{HasEach, all_calls, by_stamp, has_stamp}
 use Rattle.capture_laws.proofs.Counts.{count_cons, count_joined, count_none, count_yes}
-use Rattle.capture_laws.proofs.Members.{each_joined, found_holds}
+use Rattle.capture_laws.proofs.Members.{found_holds}
 use Rattle.capture_laws.proofs.Ordered.{StampedFrom, later_on}
 use Rattle.capture_laws.proofs.Permuted.{stamped_are_all}
 use Rattle.capture_laws.proofs.Stamping.{by_stamp_get, stamp_is}
+use Rattle.capture_format.proofs.Cuts.{all_append}
 
 -- ---- places
 
@@ -29,13 +31,9 @@ IsPlaced calls call = call.place ≡ earlier call calls
 elsewhere : (call : Captured) (calls : List Captured) → AllByRecursion (λ (x : Captured). x.session ≢ call.session) calls → earlier call calls ≡ 0
 elsewhere call calls all = count_none _ calls (go calls all)
   where
-    and_false : (a : Bool) → (a && false) ≡ false
-    and_false true = refl
-    and_false false = refl
-
     go : (calls : List Captured) → AllByRecursion (λ (x : Captured). x.session ≢ call.session) calls → AllByRecursion (λ (x : Captured). (nat_lt x.stamp call.stamp && nat_eq x.session call.session) ≡ false) calls
     go [] all = tt
-    go (x ∷ xs) all = (ap (λ (b : Bool). nat_lt x.stamp call.stamp && b) (ne_eqb x.session call.session all.0) ∙ and_false (nat_lt x.stamp call.stamp), go xs all.1)
+    go (x ∷ xs) all = (ap (λ (b : Bool). nat_lt x.stamp call.stamp && b) (ne_eqb x.session call.session all.0) ∙ and-false (nat_lt x.stamp call.stamp), go xs all.1)
 
 ltb_no : (a b : ℕ) → b ≤ a → nat_lt a b ≡ false
 ltb_no a b le = at (nat_lt a b) refl
@@ -78,7 +76,7 @@ sessions_of session place least (x ∷ xs) are = (are.0.session_is, sessions_of 
 
 from_on : (session : ℕ) (lists : List (List Captured)) → AreSessionsFrom session lists → AllByRecursion (λ (x : Captured). session ≤ x.session) (all_calls lists)
 from_on session [] are = tt
-from_on session (calls ∷ lists) are = each_joined _ calls (all_calls lists) (here calls (sessions_of session 0 0 calls are.0)) (there (all_calls lists) (from_on (session + 1) lists are.1))
+from_on session (calls ∷ lists) are = all_append _ calls (all_calls lists) (here calls (sessions_of session 0 0 calls are.0)) (there (all_calls lists) (from_on (session + 1) lists are.1))
   where
     here : (xs : List Captured) → AllByRecursion (λ (x : Captured). x.session ≡ session) xs → AllByRecursion (λ (x : Captured). session ≤ x.session) xs
     here [] all = tt
@@ -92,8 +90,8 @@ placed_from : (session : ℕ) (before : List Captured) (lists : List (List Captu
 placed_from session before [] low are = tt
 placed_from session before (calls ∷ lists) low are =
     let rest = all_calls lists in
-    each_joined _ calls rest (here calls (own_places session 0 0 calls are.0))
-    (subst (λ (l : List Captured). AllByRecursion (IsPlaced l) rest) (append_assoc before calls rest) (placed_from (session + 1) (before ++ calls) lists (each_joined _ before calls (below before low) (own calls (sessions_of session 0 0 calls are.0))) are.1))
+    all_append _ calls rest (here calls (own_places session 0 0 calls are.0))
+    (subst (λ (l : List Captured). AllByRecursion (IsPlaced l) rest) (append_assoc before calls rest) (placed_from (session + 1) (before ++ calls) lists (all_append _ before calls (below before low) (own calls (sessions_of session 0 0 calls are.0))) are.1))
   where
     below : (xs : List Captured) → AllByRecursion (λ (x : Captured). x.session < session) xs → AllByRecursion (λ (x : Captured). x.session < session + 1) xs
     below [] all = tt

@@ -16,6 +16,7 @@ use Rattle.desk_values.specs.declared.call.Reply.{Reply}
 use Rattle.desk_values.specs.Fault.{fault_number, fault_numbered}
 use Rattle.desk_values.proofs.Faults.{numbered_again}
 use Rattle.capture_laws.specs.Same.{same_value, same_values, same_image, same_outcome, same_reply}
+use Rattle.capture_laws.proofs.Members.{some_is}
 
 both : {P Q : Type 0} (a b : Bool) → Decides a P → Decides b Q → (a && b) ≡ true → P × Q
 both true b p q e = (p.0 refl, q.0 e)
@@ -91,9 +92,6 @@ outcome_self Marked = refl
 outcome_self Connected = refl
 outcome_self Disconnected = refl
 outcome_self (Refused a) = (Decides-eqb (fault_number a) (fault_number a)).1 refl
-
-some_is : {X : Type 0} {x y : X} → ◌≡◌ {A = Option X} (Some x) (Some y) → x ≡ y
-some_is e = cc
 
 fault_is : (a b : Fault) → fault_number a ≡ fault_number b → a ≡ b
 fault_is a b e = some_is (sym (numbered_again a) ∙ ap fault_numbered e ∙ numbered_again b)

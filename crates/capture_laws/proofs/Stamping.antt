@@ -2,7 +2,8 @@
 use Rattle.std.proofs.Common.{◌≡◌, ◌≢◌, ℕ, zero, suc, ◌+◌, ◌<◌, Bool, true, false, List, length, refl, sym, ap, subst, ◌∙◌, arith}
 use Rattle.std.specs.Prelude.{Option, None, Some, nat_eq, not, slice_get}
 use Rattle.std.specs.List.{filter_map, find, range_with_len}
-use Rattle.std.proofs.lemmas.Bool.{eqb-true}
+use Rattle.std.proofs.lemmas.Bool.{eqb-true, not-false}
+use Rattle.std.proofs.lemmas.Option.{none-some}
 use Rattle.desk_values.proofs.Words.{find_passes}
 use Rattle.desk_values.specs.declared.capture.Captured.{Captured}
 use Rattle.replay_history.specs.Gap.{IsStamped}
@@ -14,22 +15,15 @@ none_before p a zero none j lt = absurd (omega (arith, lt))
 none_before p a (suc n) none j lt = at (p a) refl (none_before p (a + 1) n) j lt
   where
     at : (b : Bool) → p a ≡ b → (find p (range_with_len (a + 1) n) ≡ None → (j : ℕ) → j < n → p (a + 1 + j) ≡ false) → (j : ℕ) → j < suc n → p (a + j) ≡ false
-    at true hits later j lt = absurd (clash (sym (rw hits refl) ∙ none))
-      where
-        clash : ◌≡◌ {A = Option ℕ} (Some a) None → ⊥
-        clash e = cc
+    at true hits later j lt = absurd (none-some a (sym (sym (rw hits refl) ∙ none)))
     at false misses later zero lt = subst (λ (k : ℕ). p k ≡ false) (omega arith) misses
     at false misses later (suc j) lt = subst (λ (k : ℕ). p k ≡ false) (omega arith) (later (sym (rw misses refl) ∙ none) j (omega (arith, lt)))
 
 pub has_each : (calls : List Captured) → find (λ k. not (nat_eq (count_at calls k) 1)) (stamps_for calls) ≡ None → HasEach calls
 has_each calls none = record { each = λ k lt. one k (subst (λ (j : ℕ). not (nat_eq (count_at calls j) 1) ≡ false) (omega arith) (none_before (λ k. not (nat_eq (count_at calls k) 1)) 0 (length calls) none k lt)) }
   where
-    not_false : (b : Bool) → not b ≡ false → b ≡ true
-    not_false true e = refl
-    not_false false e = cc
-
     one : (k : ℕ) → not (nat_eq (count_at calls k) 1) ≡ false → count_at calls k ≡ 1
-    one k e = eqb-true (count_at calls k) 1 (not_false _ e)
+    one k e = eqb-true (count_at calls k) 1 (not-false _ e)
 
 -- the k-th picked is what stands for the k-th number, where none is missing
 module _ {X : Type 0} (f : ℕ → Option X) where

@@ -3,9 +3,9 @@ use Rattle.std.proofs.Common.{◌≡◌, ◌<◌, ℕ, zero, suc, Bool, true, fa
 use Rattle.std.specs.Prelude.{Option, None, Some, nat_eq, not, slice_get, ◌↔◌}
 use Rattle.std.specs.Bool.{Decides}
 use Rattle.std.specs.List.{AllByRecursion, Any, flat_map, list_any}
-use Rattle.std.proofs.lemmas.Bool.{false≢true}
-use Rattle.std.proofs.lemmas.Bool.Decides.{Decides-eqb}
+use Rattle.std.proofs.lemmas.Bool.Decides.{Decides-eqb, Decides-or, Decides-like}
 use Rattle.std.proofs.lemmas.List.Folds.{Any-from_list_any, list_any-append, list_any-from_Any}
+use Rattle.std.proofs.Math.Bool.{or-true, or-false}
 use Rattle.desk_values.specs.declared.value.Value.{Value}
 use Rattle.desk_values.specs.declared.value.Value.TheVariants.{Null, Int, Text, Row, Draw}
 use Rattle.desk_values.specs.declared.value.Image.{Image}
@@ -21,19 +21,6 @@ use Rattle.capture_laws.proofs.Members.{some_is}
 use Rattle.capture_laws.proofs.Sameness.{value_decided}
 
 -- ---- tests that tell
-
-or_tells : {P Q : Type 0} (a b : Bool) → Decides a P → Decides b Q → Decides (a || b) (P ⊎ Q)
-or_tells true b p q = (λ e. inl (p.0 refl), λ h. refl)
-or_tells false b p q = (
-  λ e. inr (q.0 e),
-  λ h. elim h [
-    | inl x ↦ absurd (false≢true (p.1 x))
-    | inr y ↦ q.1 y
-  ],
-)
-
-tells : {P Q : Type 0} (b : Bool) → Decides b P → (P → Q) → (Q → P) → Decides b Q
-tells b p to from = (λ e. to (p.0 e), λ h. p.1 (from h))
 
 any_tells : {X : Type 0} (p : X → Bool) (P : X → Type 0) → ((x : X) → Decides (p x) (P x)) → (xs : List X) → Decides (list_any p xs) (Any P xs)
 any_tells p P each xs = (λ e. (let h = Any-from_list_any p xs e in (h.0, h.1, h.2, h.3, (each h.1).0 h.4)), λ h. list_any-from_Any p xs (h.0, h.1, h.2, h.3, (each h.1).1 h.4))
@@ -61,13 +48,13 @@ module _ {X : Type 0} (p : X → Bool) (P : X → Type 0) where
     where
       nothing : (x : X) → ◌≡◌ {A = Option X} None (Some x) → ⊥
       nothing x e = cc
-  taken_tells (suc k) (x ∷ xs) each = tells _ (or_tells (p x) (list_any p (take k xs)) each.0 (taken_tells k xs each.1)) (here_or_later k x xs) (λ h. at_place k x xs h.0 h.1 h.2 h.3 h.4)
+  taken_tells (suc k) (x ∷ xs) each = Decides-like _ (here_or_later k x xs) (λ h. at_place k x xs h.0 h.1 h.2 h.3 h.4) (Decides-or (p x) (list_any p (take k xs)) each.0 (taken_tells k xs each.1))
 
 -- ---- ids
 
 module _ (id : Value) where
   is_it : (other : Value) → Decides (same_value id other) (other ≡ id)
-  is_it other = tells _ (value_decided id other) sym sym
+  is_it other = Decides-like {P = id ≡ other} _ sym sym (value_decided id other)
 
   listed : (values : List Value) → Decides (list_any (same_value id) values) (Any (λ other. other ≡ id) values)
   listed values = any_tells (same_value id) (λ other. other ≡ id) is_it values
@@ -85,25 +72,21 @@ no_row n (Row m ∷ draws) all = absurd all.0
 
 made_tells : (n : ℕ) (made : Option ℕ) → Decides (list_any (same_value (Row n)) (ids_made made)) (made ≡ Some n)
 made_tells n None = (λ e. cc, λ e. cc)
-made_tells n (Some m) = tells _ (or_tells (nat_eq n m) false (Decides-eqb n m) never) (λ h. elim h [
+made_tells n (Some m) = Decides-like {P = (n ≡ m) ⊎ ⊥} _ (λ h. elim h [
   | inl same ↦ ap (λ (k : ℕ). Some k) (sym same)
   | inr other ↦ absurd other
-]) (λ e. inl (sym (some_is e)))
+]) (λ e. inl (sym (some_is e))) (Decides-or (nat_eq n m) false (Decides-eqb n m) never)
   where
     never : Decides false ⊥
     never = (λ e. cc, λ h. absurd h)
 
 given : (id : Value) (reply : Reply) → IsGoodReply reply → is_id id ≡ true → Decides (list_any (same_value id) (given_by reply)) (IsGivenBy id reply)
 given (Row n) reply good is = subst (λ (b : Bool). Decides b (reply.made ≡ Some n)) (sym (list_any-append (same_value (Row n)) reply.draws (ids_made reply.made) ∙ ap (λ (b : Bool). b || list_any (same_value (Row n)) (ids_made reply.made)) (no_row n reply.draws good.draws))) (made_tells n reply.made)
-given (Draw q n) reply good is = subst (λ (b : Bool). Decides b (IsGivenBy (Draw q n) reply)) (sym (list_any-append (same_value (Draw q n)) reply.draws (ids_made reply.made) ∙ ap (λ (b : Bool). list_any (same_value (Draw q n)) reply.draws || b) (no_draw reply.made) ∙ or_false _)) (listed (Draw q n) reply.draws)
+given (Draw q n) reply good is = subst (λ (b : Bool). Decides b (IsGivenBy (Draw q n) reply)) (sym (list_any-append (same_value (Draw q n)) reply.draws (ids_made reply.made) ∙ ap (λ (b : Bool). list_any (same_value (Draw q n)) reply.draws || b) (no_draw reply.made) ∙ or-false _)) (listed (Draw q n) reply.draws)
   where
     no_draw : (made : Option ℕ) → list_any (same_value (Draw q n)) (ids_made made) ≡ false
     no_draw None = refl
     no_draw (Some m) = refl
-
-    or_false : (b : Bool) → (b || false) ≡ b
-    or_false true = refl
-    or_false false = refl
 given Null reply good is = cc
 given (Int n) reply good is = cc
 given (Text n) reply good is = cc
@@ -121,7 +104,7 @@ module _ (rows : List Image) (calls : List Captured) (good : AllByRecursion (λ 
       let earlier = taken_tells (λ (call : Captured). list_any (same_value id) (given_in call)) (λ (call : Captured). IsGivenBy id call.reply) k calls (gives_each id is calls good) in
       let listed_there = subst (λ (b : Bool). Decides b (IsOneOf (λ (call : Captured). IsGivenBy id call.reply) k calls)) (sym (any_flat (same_value id) given_in (take k calls))) earlier in
       subst (λ (b : Bool). Decides b (StandsIn rows id ⊎ IsOneOf (λ (call : Captured). IsGivenBy id call.reply) k calls)) (sym (list_any-append (same_value id) (flat_map ids_of_image rows) (flat_map given_in (take k calls))))
-      (or_tells _ _ (stands id rows) listed_there)
+      (Decides-or _ _ (stands id rows) listed_there)
 
   no_stranger : (b c : Bool) (P : Type 0) → (b ≡ true → Decides c P) → ((b && not c) ≡ false) ↔ (b ≡ true → P)
   no_stranger true true P known = (λ e is. (known refl).0 refl, λ h. refl)
@@ -133,12 +116,8 @@ module _ (rows : List Image) (calls : List Captured) (good : AllByRecursion (λ 
 
 -- ---- what is known is no stranger, whatever else the replies have
 
-or_true : (b : Bool) → (b || true) ≡ true
-or_true true = refl
-or_true false = refl
-
 given_listed : (id : Value) (reply : Reply) → IsGivenBy id reply → list_any (same_value id) (given_by reply) ≡ true
-given_listed (Row n) reply is = list_any-append (same_value (Row n)) reply.draws (ids_made reply.made) ∙ ap (λ (b : Bool). list_any (same_value (Row n)) reply.draws || b) ((made_tells n reply.made).1 is) ∙ or_true _
+given_listed (Row n) reply is = list_any-append (same_value (Row n)) reply.draws (ids_made reply.made) ∙ ap (λ (b : Bool). list_any (same_value (Row n)) reply.draws || b) ((made_tells n reply.made).1 is) ∙ or-true _
 given_listed (Draw q n) reply is = list_any-append (same_value (Draw q n)) reply.draws (ids_made reply.made) ∙ ap (λ (b : Bool). b || list_any (same_value (Draw q n)) (ids_made reply.made)) ((listed (Draw q n) reply.draws).1 is)
 given_listed Null reply is = absurd is
 given_listed (Int n) reply is = absurd is
@@ -148,7 +127,7 @@ taken_listed : (p : Captured → Bool) (k : ℕ) (xs : List Captured) (j : ℕ) 
 taken_listed p zero xs j x lt there is = absurd (omega (arith, lt))
 taken_listed p (suc k) [] j x lt there is = cc
 taken_listed p (suc k) (y ∷ ys) zero x lt there is = ap (λ (b : Bool). b || list_any p (take k ys)) (ap p (some_is there) ∙ is)
-taken_listed p (suc k) (y ∷ ys) (suc j) x lt there is = ap (λ (b : Bool). p y || b) (taken_listed p k ys j x (omega (arith, lt)) there is) ∙ or_true (p y)
+taken_listed p (suc k) (y ∷ ys) (suc j) x lt there is = ap (λ (b : Bool). p y || b) (taken_listed p k ys j x (omega (arith, lt)) there is) ∙ or-true (p y)
 
 module _ (rows : List Image) (calls : List Captured) (k : ℕ) where
   known_listed : (id : Value) → StandsIn rows id ⊎ IsOneOf (λ (call : Captured). IsGivenBy id call.reply) k calls → list_any (same_value id) (ids_known rows (take k calls)) ≡ true
@@ -157,7 +136,7 @@ module _ (rows : List Image) (calls : List Captured) (k : ℕ) where
       let replied = flat_map given_in (take k calls) in
       list_any-append (same_value id) (flat_map ids_of_image rows) replied ∙ elim known [
         | inl there ↦ ap (λ (b : Bool). b || list_any (same_value id) replied) ((stands id rows).1 there)
-        | inr h ↦ ap (λ (b : Bool). list_any (same_value id) (flat_map ids_of_image rows) || b) (any_flat (same_value id) given_in (take k calls) ∙ taken_listed (λ (call : Captured). list_any (same_value id) (given_in call)) k calls h.0 h.1 h.2 h.3 (given_listed id h.1.reply h.4)) ∙ or_true _
+        | inr h ↦ ap (λ (b : Bool). list_any (same_value id) (flat_map ids_of_image rows) || b) (any_flat (same_value id) given_in (take k calls) ∙ taken_listed (λ (call : Captured). list_any (same_value id) (given_in call)) k calls h.0 h.1 h.2 h.3 (given_listed id h.1.reply h.4)) ∙ or-true _
       ]
 
   pub not_stranger : (value : Value) → IsKnown rows calls k value → is_stranger (ids_known rows (take k calls)) value ≡ false

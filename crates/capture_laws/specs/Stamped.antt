@@ -4,12 +4,12 @@ use Rattle.desk_values.specs.declared.value.Image.{Image}
 use Rattle.desk_values.specs.declared.capture.Captured.{Captured}
 use Rattle.desk_values.specs.Good.{IsGoodReply}
 use Rattle.desk_values.specs.declared.limits.TheConstants.{LAST_MOMENT}
-use Rattle.replay_history.specs.Capture.{FitsIn, session_calls_before}
+use Rattle.replay_history.specs.Capture.{FitsIn, HasPlace}
 use Rattle.replay_history.specs.Gap.{IsCallAt}
 
 -- each call stands behind as many of its session as its place says
 abbrev pub ArePlaced : List Captured → Type 0
-ArePlaced calls = (k : ℕ) (call : Captured) → IsCallAt calls k call → call.place ≡ session_calls_before calls call.session k
+ArePlaced calls = (k : ℕ) (call : Captured) → IsCallAt calls k call → HasPlace calls k call
 
 -- what a capture says of each call by itself holds of each
 abbrev pub AllFit : List Image → List Captured → Type 0

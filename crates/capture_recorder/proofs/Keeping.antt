@@ -18,7 +18,6 @@ use Rattle.capture_laws.specs.Stamped.{HasText}
 use Rattle.capture_laws.proofs.Counts.{count_more}
 use Rattle.capture_laws.proofs.Following.{ended_more, ended_most, follows}
 use Rattle.capture_laws.proofs.Growing.{legal_longer, run_more}
-use Rattle.capture_laws.proofs.Members.{each_joined, each_weaker}
 use Rattle.given_ids.proofs.Known.{known_after}
 use Rattle.machine_model.specs.Machine.{Running}
 use Rattle.machine_model.specs.declared.session.Session.{Session}
@@ -27,6 +26,7 @@ use Rattle.machine_model.specs.Step.{Gives, reply_in, step}
 use Rattle.capture_recorder.specs.declared.progress.Progress.{Progress}
 use Rattle.capture_recorder.specs.Recording.{IsRecording, Recording, captured, connected_count, cut, is_stranger, kept_began, kept_ended, opened, recorded}
 use Rattle.capture_recorder.specs.Inside.Keeping.{Keeps, progress_of}
+use Rattle.capture_format.proofs.Cuts.{all_append, all_weaker}
 
 abbrev pub progress : ℕ → ℕ → Progress
 progress calls ended = record { calls = calls; ended = ended }
@@ -51,7 +51,7 @@ module _ (r : Recording) (engine : Running) (numbered : ℕ) (sessions : List Pr
   new = captured r session call began ended
 
   limit : (other : ℕ) → ended_in other r.calls ≤ LAST_MOMENT
-  limit other = ended_most other LAST_MOMENT r.calls (each_weaker HasText (λ (c : Captured). c.ended ≤ LAST_MOMENT) (λ c text. text.ended) r.calls keeps.recording.texts)
+  limit other = ended_most other LAST_MOMENT r.calls (all_weaker HasText (λ (c : Captured). c.ended ≤ LAST_MOMENT) (λ c text. text.ended) r.calls keeps.recording.texts)
 
   fits_new : FitsIn r.start.rows r.calls (length r.calls) new
   fits_new = record {
@@ -62,7 +62,7 @@ module _ (r : Recording) (engine : Running) (numbered : ℕ) (sessions : List Pr
     seen = refl;
     ends = ordered (max began (ended_in session r.calls)) ended;
     follows = follows r.calls (length r.calls) new (λ k other at. (keeps.recording.legal.each k other at).place) refl (subst (λ (cs : List Captured). ended_in session cs ≤ new.began) (sym (take_all (length r.calls) r.calls (omega arith))) (after_last (ended_in session r.calls) began (limit session)));
-    known = each_weaker (λ bind. is_given r.state bind ≡ true) (IsKnown r.start.rows r.calls (length r.calls)) (λ bind is. known_after r.start r.calls r.state bind keeps.recording.reached is) (binds_of call) (each_given r.state (binds_of call) given);
+    known = all_weaker (λ bind. is_given r.state bind ≡ true) (IsKnown r.start.rows r.calls (length r.calls)) (λ bind is. known_after r.start r.calls r.state bind keeps.recording.reached is) (binds_of call) (each_given r.state (binds_of call) given);
   }
 
   recording_longer : length r.calls + connected_count (step r.state session call) < 100000 → IsGoodReply (reply_in r.state session call) → IsRecording (recorded r session call began ended)
@@ -70,7 +70,7 @@ module _ (r : Recording) (engine : Running) (numbered : ℕ) (sessions : List Pr
     legal = legal_longer r.start.rows r.calls new fits_new Gives (opening r.start) r.state (step r.state session call) keeps.recording.legal keeps.recording.reached (refl, refl) (omega (arith, room));
     reached = run_more Gives (opening r.start) r.state (step r.state session call) r.calls new keeps.recording.reached (refl, refl);
     room = omega (arith, room, length_push r.calls new);
-    texts = each_joined HasText r.calls (new ∷ []) keeps.recording.texts (record { began = omega arith; ended = omega arith; reply = good }, tt);
+    texts = all_append HasText r.calls (new ∷ []) keeps.recording.texts (record { began = omega arith; ended = omega arith; reply = good }, tt);
   }
 
   -- ---- what is kept beside the calls

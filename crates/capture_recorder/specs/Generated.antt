@@ -1,4 +1,4 @@
--- The generated capture: four sessions that update, read and commit the rows of one table, in turns.
+-- The generated capture: sessions that update, read and commit the rows of one table, in turns.
 use Rattle.std.specs.Prelude.{ℕ, ◌+◌, ◌-◌, ◌*◌, ◌/◌, ◌%◌, ◌==◌, if◌then◌else◌, pos, true, false, List, [], ◌∷◌, map, Some, codes}
 use Rattle.std.specs.List.{fold, range_with_len}
 use Rattle.desk_values.specs.declared.value.Value.TheVariants as value
@@ -11,6 +11,7 @@ use Rattle.desk_schema.specs.declared.schema.Rights.TheVariants.{ReadWrite}
 use Rattle.desk_schema.specs.declared.schema.Service.{Service}
 use Rattle.desk_schema.specs.declared.schema.Table.{Table}
 use Rattle.desk_schema.specs.Start.{StartView}
+use Rattle.capture_recorder.specs.declared.generated.TheConstants.{GENERATED_SESSIONS}
 use Rattle.capture_recorder.specs.Recording.{Recording, opened, recorded}
 
 -- ---- its start
@@ -73,7 +74,7 @@ call_in_round i round = if round == 0 then Connect (codes "main") else call_in_t
 
 -- the sessions make their calls in turn, one every ten microseconds
 abbrev pub generated_request : ℕ → Request
-generated_request i = record { session = i % 4; call = call_in_round i (i / 4); began = 10 * i; ended = 10 * i + 5 }
+generated_request i = record { session = i % GENERATED_SESSIONS; call = call_in_round i (i / GENERATED_SESSIONS); began = 10 * i; ended = 10 * i + 5 }
 
 abbrev pub generated_requests : ℕ → List Request
 generated_requests n = map generated_request (range_with_len 0 n)

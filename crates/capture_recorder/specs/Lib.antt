@@ -1,4 +1,3 @@
-pub mod Sessions
 pub mod Recording
 pub mod Generated
 pub mod Inside

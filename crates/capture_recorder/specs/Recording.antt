@@ -1,5 +1,5 @@
 -- What a recorder holds, which calls it turns away, and what each other call adds.
-use Rattle.std.specs.Prelude.{◌≡◌, ℕ, ◌+◌, ◌≤◌, Bool, not, nat_le, if◌then◌else◌, min, max, List, [], ◌∷◌, ◌++◌, length, count_by, Option, None, Some, is_some, Result, Ok, Err}
+use Rattle.std.specs.Prelude.{◌≡◌, ℕ, ◌+◌, ◌≤◌, Bool, not, nat_le, if◌then◌else◌, min, max, List, [], ◌∷◌, ◌++◌, length, take, count_by, Option, None, Some, is_some, Result, Ok, Err}
 use Rattle.std.specs.List.{AllByRecursion, list_any}
 use Rattle.desk_values.specs.declared.call.Call.{Call}
 use Rattle.desk_values.specs.declared.call.Call.TheVariants.{Disconnect}
@@ -7,7 +7,7 @@ use Rattle.desk_values.specs.declared.call.Reply.{Reply}
 use Rattle.desk_values.specs.declared.capture.Captured.{Captured}
 use Rattle.desk_schema.specs.Start.{StartView}
 use Rattle.desk_values.specs.declared.limits.TheConstants.{LAST_MOMENT}
-use Rattle.replay_history.specs.Capture.{IsLegalCapture, IsRun, binds_of, commits, commits_before, session_calls_before}
+use Rattle.replay_history.specs.Capture.{IsLegalCapture, IsRun, binds_of, commits_before, number_behind, session_calls_before}
 use Rattle.capture_laws.specs.Moments.{ended_in}
 use Rattle.capture_laws.specs.Stamped.{HasText}
 use Rattle.machine_model.specs.declared.session.Session.{Session}
@@ -52,7 +52,7 @@ captured r session call began ended =
     let seen = commits_before r.calls stamp in
     let reply = reply_in r.state session call in
     let start = kept_began r.calls session began in
-    record { session = session; place = session_calls_before r.calls session stamp; stamp = stamp; seen = seen; number = if commits reply.outcome then seen + 1 else 0; began = start; ended = kept_ended start ended; call = call; reply = reply }
+    record { session = session; place = session_calls_before r.calls session stamp; stamp = stamp; seen = seen; number = number_behind (take stamp r.calls) reply.outcome; began = start; ended = kept_ended start ended; call = call; reply = reply }
 
 -- a session's call that began and ended at these moments is recorded: one call more, and one step of the server
 abbrev pub recorded : Recording → ℕ → Call → ℕ → ℕ → Recording

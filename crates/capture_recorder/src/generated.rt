@@ -18,8 +18,12 @@ use desk_schema::{Draft, Kind, Rights, Start};
 use desk_values::{Binds, Call, List, Memory, Txt, Value, Values};
 use std::alloc::Global;
 
-/// The recorder of the first calls of the generated capture, so many of them. Its start and the lists of its four sessions
-/// are the capture. A line of the start that broke a rule would be told as want of memory; `generated_law` says that none does.
+/// How many sessions the generated capture has.
+pub const GENERATED_SESSIONS: u32 = 4;
+
+/// The recorder of the first calls of the generated capture, so many of them. Its start and the lists of its
+/// [`GENERATED_SESSIONS`] sessions are the capture. A line of the start that broke a rule would be told as want of memory;
+/// `generated_law` says that none does.
 pub fn generate(alloc: Global, calls: u32) -> Result<Recorder, Memory>
     requires least { 1 ≤ calls }
     requires most { calls ≤ 10000 }
@@ -31,7 +35,7 @@ pub fn generate(alloc: Global, calls: u32) -> Result<Recorder, Memory>
     for i in 0..calls {
         let call = call(alloc, i)?;
         let began = 10 * u64::from(i);
-        recorder.record(i % 4, &call, began, began + 5)?;
+        recorder.record(i % GENERATED_SESSIONS, &call, began, began + 5)?;
     }
     Ok(recorder)
 }
@@ -114,10 +118,10 @@ fn add_column(
 // The call with stamp i.
 fn call(alloc: Global, i: u32) -> Result<Call, Memory>
     requires { i < 10000 }
-    ensures value { IfOk result (λ call. call ≡ call_in_round i (i / 4)) }
+    ensures value { IfOk result (λ call. call ≡ call_in_round i (i / GENERATED_SESSIONS)) }
     ensures given { IfOk result (λ call. (state : State) → is_stranger state call ≡ false) }
 {
-    let round = i / 4;
+    let round = i / GENERATED_SESSIONS;
     if round == 0 {
         return Ok(Call::Connect(word(alloc, "main")?));
     }

@@ -13,7 +13,7 @@ mod recorder;
 mod refusal;
 mod sessions;
 
-pub use generated::generate;
+pub use generated::{GENERATED_SESSIONS, generate};
 pub use recorder::{ACCEPTED_LIMIT, Recorder, Twice};
 pub use refusal::CallErr;
 pub use sessions::sessions_of;

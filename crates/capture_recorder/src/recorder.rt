@@ -4,7 +4,6 @@ ghost use Rattle.std.specs.Prelude.{◌≡◌, ◌+◌, ◌<◌, ◌≤◌, fals
 ghost use Rattle.desk_values.specs.Good.{IsGoodReply};
 ghost use Rattle.capture_format.specs.SessionFile.{AreCallsOf};
 ghost use Rattle.machine_model.specs.Step.{reply_in, step};
-ghost use Rattle.replay_history.specs.Capture.{commits};
 ghost use Rattle.capture_recorder.specs.declared.recorder.TheConstants.{ACCEPTED_LIMIT as ACCEPTED};
 ghost use Rattle.capture_recorder.specs.Recording.{IsRecording, Turns, captured, closed, closing_reply, connected_count, cut, is_stranger, kept_ended, opened, recorded, turned_away};
 ghost use Rattle.capture_laws.specs.Sessions.{calls_of};
@@ -13,7 +12,8 @@ use crate::progress::Progress;
 use crate::refusal::CallErr;
 use crate::sessions::session_calls;
 use desk_schema::Start;
-use desk_values::{Call, CallList, Captured, Copied, LAST_MOMENT, Memory, Outcome, Reply};
+use desk_values::{Call, CallList, Captured, Copied, LAST_MOMENT, Memory, Reply};
+use replay_history::commits;
 use std::alloc::Global;
 use std::marker::Model;
 use txn_engine::Engine;
@@ -204,7 +204,7 @@ impl Recorder {
         let place = self.sessions[session as usize];
         let began = cut(began.max(place.ended));
         let ended = cut(ended.max(began));
-        let is_numbered = is_numbered(&copies.first.outcome);
+        let is_numbered = commits(&copies.first.outcome);
         self.calls.push(Captured {
             session,
             place: place.calls,
@@ -233,16 +233,6 @@ fn cut(moment: u64) -> u64
     ensures { result ≡ cut moment }
 {
     moment.min(LAST_MOMENT)
-}
-
-/// Whether the outcome is that of a numbered commit.
-fn is_numbered(outcome: &Outcome) -> bool
-    ensures { result ≡ commits outcome.now }
-{
-    match outcome {
-        Outcome::Committed(images) => !images.is_empty(),
-        _ => false,
-    }
 }
 
 /// The number of a call after so many numbered commits.

@@ -1,17 +1,17 @@
 -- From the tests that pass to a plan, and what a plan is: a legal capture with sound facts.
-use Rattle.std.proofs.Common.{◌≡◌, ℕ, ◌+◌, ◌<◌, ◌≤◌, List, [], ◌∷◌, length, refl, sym, ap, subst, ◌∙◌, arith, suc, Bool, true, false, map, get_or, ◌&&◌, ◌||◌, ◌++◌, take}
-use Rattle.std.specs.Prelude.{Option, None, Some, Result, Ok, option_map, slice_get, nat_le, not}
+use Rattle.std.proofs.Common.{◌≡◌, ℕ, ◌+◌, ◌<◌, ◌≤◌, List, [], ◌∷◌, length, refl, sym, ap, subst, ◌∙◌, arith, suc, Bool, true, false, map, get_or, ◌++◌, take}
+use Rattle.std.specs.Prelude.{Option, None, Some, Result, Ok, option_map, slice_get, nat_le}
 use Rattle.std.specs.List.{AllByRecursion, list_any}
 use Rattle.std.proofs.lemmas.List.Elements.{All-from_recursion, recursion_from_All}
 use Rattle.std.proofs.lemmas.List.Sorted.{All-permutation}
-use Rattle.std.proofs.lemmas.Bool.{eqb-true, leb-true}
+use Rattle.std.proofs.lemmas.Bool.{eqb-true, leb-true, or_parts, and_parts, not-true}
 use Rattle.std.proofs.lemmas.List.{length-map, map-append}
 use Rattle.desk_values.specs.declared.capture.Captured.{Captured}
 use Rattle.capture_format.specs.SessionFile.{AreCallsFrom}
 use Rattle.object_depends.specs.declared.fact.Fact.{Fact}
 use Rattle.capture_laws.specs.Sessions.{AreSessionsFrom}
 use Rattle.capture_laws.specs.Stamps.{HasEach, all_calls, by_stamp}
-use Rattle.capture_laws.proofs.Members.{each_joined, some_is, each_get, each_weaker}
+use Rattle.capture_laws.proofs.Members.{some_is, each_get}
 use Rattle.capture_laws.proofs.Permuted.{stamped_are_all}
 use Rattle.capture_laws.proofs.Stamping.{by_stamp_len, has_each, stamp_is}
 use Rattle.capture_verdict.specs.declared.refusal.Refusal.{Refusal}
@@ -41,6 +41,7 @@ use Rattle.capture_laws.proofs.Places.{place_is}
 use Rattle.capture_laws.proofs.Sameness.{reply_is}
 use Rattle.capture_laws.proofs.Strangers.{known_tells}
 use Rattle.replay_history.specs.declared.limits.TheConstants.{CALL_LIMIT}
+use Rattle.capture_format.proofs.Cuts.{all_append, all_weaker}
 
 fit_calls : (session place least : ℕ) (calls : List Captured) → session < 64 → AreCallsFrom session place least calls → AllByRecursion IsFit calls
 fit_calls session place least [] lt are = tt
@@ -48,7 +49,7 @@ fit_calls session place least (call ∷ calls) lt are = (record { session = omeg
 
 pub fit_lists : (session : ℕ) (lists : List (List Captured)) → session + length lists ≤ 64 → AreSessionsFrom session lists → AllByRecursion IsFit (all_calls lists)
 fit_lists session [] few are = tt
-fit_lists session (calls ∷ lists) few are = each_joined IsFit calls (all_calls lists) (fit_calls session 0 0 calls (omega (arith, few)) are.0) (fit_lists (session + 1) lists (omega (arith, few)) are.1)
+fit_lists session (calls ∷ lists) few are = all_append IsFit calls (all_calls lists) (fit_calls session 0 0 calls (omega (arith, few)) are.0) (fit_lists (session + 1) lists (omega (arith, few)) are.1)
 
 nothing_bad : (o : Option ℕ) → option_map Stamp o ≡ None → o ≡ None
 nothing_bad None e = refl
@@ -115,20 +116,8 @@ runs start before (call ∷ calls) none =
 known_each : (rows : List Image) (calls : List Captured) (k : ℕ) → AllByRecursion IsFit calls → (values : List Value) → list_any (is_stranger (ids_known rows (take k calls))) values ≡ false → AllByRecursion (IsKnown rows calls k) values
 known_each rows calls k fit [] none = tt
 known_each rows calls k fit (v ∷ values) none =
-    let two = neither (is_stranger (ids_known rows (take k calls)) v) _ none in
-    ((known_tells rows calls (each_weaker IsFit (λ (call : Captured). IsGoodReply call.reply) (λ call is. is.reply) calls fit) k v).0 two.0, known_each rows calls k fit values two.1)
-  where
-    neither : (a b : Bool) → (a || b) ≡ false → (a ≡ false) × (b ≡ false)
-    neither true b e = cc
-    neither false b e = (refl, e)
-
-both_true : (a b : Bool) → (a && b) ≡ true → (a ≡ true) × (b ≡ true)
-both_true true b e = (refl, e)
-both_true false b e = cc
-
-not_true : (b : Bool) → not b ≡ true → b ≡ false
-not_true true e = cc
-not_true false e = refl
+    let two = or_parts (is_stranger (ids_known rows (take k calls)) v) _ none in
+    ((known_tells rows calls (all_weaker IsFit (λ (call : Captured). IsGoodReply call.reply) (λ call is. is.reply) calls fit) k v).0 two.0, known_each rows calls k fit values two.1)
 
 pub legal : (start : StartView) (lists : List (List Captured)) → AreSessionsFrom 0 lists → AllByRecursion IsFit (by_stamp (all_calls lists)) → length (by_stamp (all_calls lists)) ≤ 100000 → bad_stamp (all_calls lists) ≡ None → Passes start (by_stamp (all_calls lists)) → IsLegal start (by_stamp (all_calls lists))
 legal start lists are fit few stamps passes = record { count = few; each = each; replies = runs start [] calls passes.replies }
@@ -144,7 +133,7 @@ legal start lists are fit few stamps passes = record { count = few; each = each;
 
     each : (k : ℕ) (call : Captured) → IsCallAt calls k call → FitsIn start.rows calls k call
     each k call there =
-        let times = both_true (nat_le call.began call.ended) _ (unless_none _ _ (none_told bad_times [] calls passes.times k call there)) in
+        let times = and_parts (nat_le call.began call.ended) _ (unless_none _ _ (none_told bad_times [] calls passes.times k call there)) in
         record {
           stamp = stamp_is (all_calls lists) has k call there;
           session = (each_get IsFit calls k call fit there).session;
@@ -153,10 +142,10 @@ legal start lists are fit few stamps passes = record { count = few; each = each;
           seen = (numbered start calls passes k call there).0;
           ends = leb-true _ _ times.0;
           follows = follows calls k call placed (placed k call there) (leb-true _ _ times.1);
-          known = known_each start.rows calls k fit (binds_of call.call) (not_true _ (unless_none _ _ (none_told (bad_ids start.rows) [] calls passes.ids k call there)));
+          known = known_each start.rows calls k fit (binds_of call.call) (not-true _ (unless_none _ _ (none_told (bad_ids start.rows) [] calls passes.ids k call there)));
         }
 
-passed : (fault : Option Refusal) (others : Result Plan Refusal) (plan : Plan) → or_else fault others ≡ Ok plan → (fault ≡ None) × (others ≡ Ok plan)
+pub passed : (fault : Option Refusal) (others : Result Plan Refusal) (plan : Plan) → or_else fault others ≡ Ok plan → (fault ≡ None) × (others ≡ Ok plan)
 passed None others plan is = (refl, is)
 passed (Some fault) others plan is = cc
 

@@ -12,13 +12,14 @@ use Rattle.machine_model.specs.Request.{table_named}
 use Rattle.machine_model.specs.Step.{committed_in}
 use Rattle.replay_history.specs.Capture.{commits}
 use Rattle.object_depends.specs.declared.fact.Fact.{Fact}
+use Rattle.desk_values.specs.declared.value.TheConstants.{TABLE_LIMIT}
 
 -- a set of tables: a bit for each
 abbrev pub with_table : ℕ → ℕ → ℕ
 with_table tables table = bit_or tables (2 ^ table)
 
 abbrev pub all_tables : ℕ
-all_tables = 2 ^ 32 - 1
+all_tables = 2 ^ TABLE_LIMIT - 1
 
 abbrev pub tables_of_images : List Image → ℕ
 tables_of_images images = fold (λ tables image. with_table tables image.table) 0 images

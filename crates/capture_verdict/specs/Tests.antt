@@ -1,5 +1,5 @@
 -- The tests of a capture. Each is of one call, and sees the calls before it by stamp.
-use Rattle.std.specs.Prelude.{ℕ, ◌+◌, Bool, true, false, ◌&&◌, not, if◌then◌else◌, nat_eq, nat_le, List, length, map, Option, None, Some, option_map, count_by}
+use Rattle.std.specs.Prelude.{ℕ, ◌+◌, Bool, true, false, ◌&&◌, not, if◌then◌else◌, nat_eq, nat_le, List, length, map, Option, None, Some, option_map}
 use Rattle.std.specs.List.{find, list_any}
 use Rattle.desk_values.specs.declared.value.Image.{Image}
 use Rattle.desk_values.specs.declared.call.Call.{Call}
@@ -8,7 +8,7 @@ use Rattle.desk_values.specs.declared.capture.Captured.{Captured}
 use Rattle.desk_schema.specs.Start.{StartView}
 use Rattle.machine_model.specs.State.{opening}
 use Rattle.machine_model.specs.Step.{reply_in, run}
-use Rattle.replay_history.specs.Capture.{binds_of, commits}
+use Rattle.replay_history.specs.Capture.{binds_of, commits_in, number_behind}
 use Rattle.capture_verdict.specs.declared.refusal.Refusal.{Refusal}
 use Rattle.replay_history.specs.declared.limits.TheConstants.{CALL_LIMIT}
 use Rattle.capture_verdict.specs.declared.refusal.Refusal.TheVariants.{TooMany, Stamp, Number, Seen, Times, Stranger, Reply as OtherReply}
@@ -33,12 +33,8 @@ bad_stamp calls = option_map Stamp (find (λ k. not (nat_eq (count_at calls k) 1
 
 -- ---- by the recorded replies
 
--- how many numbered commits are among the calls
-abbrev pub commits_in : List Captured → ℕ
-commits_in calls = count_by (λ (call : Captured). commits call.reply.outcome) calls
-
 abbrev pub right_number : List Captured → Captured → ℕ
-right_number before call = if commits call.reply.outcome then commits_in before + 1 else 0
+right_number before call = number_behind before call.reply.outcome
 
 abbrev pub bad_number : List Captured → Captured → Option Refusal
 bad_number before call = unless (nat_eq call.number (right_number before call)) (Number call.stamp call.number (right_number before call))

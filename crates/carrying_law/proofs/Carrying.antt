@@ -16,15 +16,12 @@ use Rattle.id_pairs.specs.Renaming.{IsRenamed}
 use Rattle.id_pairs.proofs.SameIds.{same_equivalence}
 use Rattle.carrying_law.specs.Carried.{carried_image, carried_images, carried_left, carried_number, carried_or, carried_row, carried_rows, carried_value, each_some, row_of}
 use Rattle.carrying_law.specs.Laws.{RenamedAreCarried}
+use Rattle.desk_values.proofs.Options.{map_some}
 
 -- what two steps gave, each gave
 pub then_some : {A B : Type 0} (f : A → Option B) (o : Option A) (y : B) → option_and_then f o ≡ Some y → (x : A) × (o ≡ Some x) × (f x ≡ Some y)
 then_some f None y e = absurd (none-some y e)
 then_some f (Some x) y e = (x, refl, e)
-
-pub map_some : {A B : Type 0} (f : A → B) (o : Option A) (y : B) → option_map f o ≡ Some y → (x : A) × (o ≡ Some x) × (f x ≡ y)
-map_some f None y e = absurd (none-some y e)
-map_some f (Some x) y e = (x, refl, same_Some (f x) y e)
 
 module _ {A B : Type 0} (f g : A → Option B) (more : (x : A) (y : B) → f x ≡ Some y → g x ≡ Some y) where
   each_more : (xs : List A) (ys : List B) → each_some f xs ≡ Some ys → each_some g xs ≡ Some ys

@@ -3,7 +3,7 @@
 //! A line tells a kind of call: `connect SERVICE`, `disconnect -`, or `sql TEXT`. In a text `:1` and `:2` stand for keys
 //! from 1 to 12, `:3` for a number below 100, `:4` for the id of a row, `:5` for a value that was drawn.
 
-use crate::random::Random;
+use case_text::Random;
 use desk_values::{Binds, Call, Copied, ReadErr, Txt, Value};
 use std::alloc::Global;
 use std::marker::Model;

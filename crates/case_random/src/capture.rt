@@ -5,8 +5,8 @@ ghost use Rattle.capture_laws.specs.Sessions.{AreSessionsFrom};
 
 use crate::calls::Kind;
 use crate::clients::Clients;
-use crate::random::Random;
 use crate::tape::Tape;
+use case_text::Random;
 use desk_schema::Start;
 use desk_values::{Memory, ReadErr, SessionLists};
 use std::alloc::Global;

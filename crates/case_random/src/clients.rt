@@ -1,7 +1,7 @@
 //! The clients of a capture: what they know, and when they call.
 
 use crate::calls::{Kind, Picks, any_connect};
-use crate::random::Random;
+use case_text::Random;
 use desk_values::{Call, Image, Memory, ReadErr, Reply, Value};
 use std::alloc::Global;
 use std::marker::Model;

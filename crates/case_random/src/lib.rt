@@ -7,9 +7,8 @@
 mod calls;
 mod capture;
 mod clients;
-mod random;
 mod tape;
 
 pub use calls::Kind;
 pub use capture::random_capture;
-pub use random::Random;
+pub use case_text::Random;

@@ -1,4 +1,4 @@
-use crate::parts::{first_word, txt};
+use crate::words::{first_word, txt};
 use desk_values::{Binds, Call, ReadErr, read_value};
 use std::alloc::Global;
 

@@ -1,6 +1,7 @@
 -- The steps of a command go through where the files are a capture.
-use Rattle.std.proofs.Common.{◌≡◌, ℕ, ◌+◌, ◌-◌, ◌≤◌, List, [], ◌∷◌, length, Option, None, Some, Ok, refl, sym, ap, subst, ◌∙◌, arith}
+use Rattle.std.proofs.Common.{◌≡◌, ℕ, ◌+◌, ◌-◌, ◌≤◌, List, [], ◌∷◌, length, Option, None, Some, Ok, refl, sym, ap, ◌∙◌, arith}
 use Rattle.std.proofs.lemmas.Bool.{le-ltb}
+use Rattle.std.proofs.lemmas.List.Sums.{sum_by-cons}
 use Rattle.desk_values.specs.declared.capture.Captured.{Captured}
 use Rattle.desk_files.specs.Outside.{FileMap}
 use Rattle.desk_files.specs.declared.files.TheConstants.{FILE_LIMIT}
@@ -8,14 +9,13 @@ use Rattle.capture_format.specs.declared.start.StartFile.{StartFile}
 use Rattle.prepare_plan.specs.Lists.{all_calls, by_stamp}
 use Rattle.legality_law.specs.First.{plan_of}
 use Rattle.legality_law.proofs.Taken.{plan_given}
-use Rattle.replay_cli.specs.declared.words.Command.{Command}
 use Rattle.replay_cli.specs.declared.words.Command.TheVariants.{Run, Prepare}
-use Rattle.replay_cli.specs.Command.{command_of}
 use Rattle.remap_ids.specs.Services.{ServicePair}
-use Rattle.replay_cli.specs.Decision.{Decides, Legal, ReadIn, RemapIn, SessionOf, Task, ToReplay, ToTell, Verdict, VerdictOf, job_of, remap_of}
+use Rattle.replay_cli.specs.Decision.{Legal, ReadIn, RemapIn, SessionOf, ToReplay, ToTell, legal_from, remap_of, run_job}
 use Rattle.replay_cli.specs.Steps.{Reading, file_in, file_of}
-use Rattle.replay_cli.specs.Words.{session_names, start_name}
+use Rattle.replay_cli.specs.FileNames.{session_names, start_name}
 use Rattle.command_laws.specs.Complete.{AreCapture, AreThere, HasRemap, CapturesArePrepared, CapturesAreReplayed, IsThere, LegalCapturesArePrepared, LegalCapturesAreReplayed, capture_limit, total}
+use Rattle.replay_cli.proofs.Endings.{verdict_is}
 
 -- a file that is there is read where there is room
 file_read : (files : FileMap) (room : ℕ) (name bytes : List ℕ) → IsThere files name bytes → length bytes ≤ room → file_in files room name ≡ Ok bytes
@@ -27,7 +27,8 @@ file_read files room name bytes there small =
 all_read : (files : FileMap) (room session : ℕ) (names texts : List (List ℕ)) (lists : List (List Captured)) → AreThere files session names texts lists → total texts ≤ room → Reading SessionOf files room session names (Ok lists)
 all_read files room session [] [] [] there small = refl
 all_read files room session (name ∷ names) (bytes ∷ texts) (calls ∷ lists) there small =
-    (bytes, file_read files room name bytes there.0 (omega (arith, small)), (calls, there.1, (lists, all_read files (room - length bytes) (session + 1) names texts lists there.2 (omega (arith, small)), refl)))
+    let first : total (bytes ∷ texts) ≡ length bytes + total texts = sum_by-cons (λ b. length b) bytes texts in
+    (bytes, file_read files room name bytes there.0 (omega (arith, first, small)), (calls, there.1, (lists, all_read files (room - length bytes) (session + 1) names texts lists there.2 (omega (arith, first, small)), refl)))
 all_read files room session [] (bytes ∷ texts) lists there small = absurd there
 all_read files room session [] [] (calls ∷ lists) there small = absurd there
 all_read files room session (name ∷ names) [] lists there small = absurd there
@@ -48,19 +49,16 @@ remap_read : (files : FileMap) (name : Option (List ℕ)) (services : List Servi
 remap_read files None services none = ap (λ pairs. Ok pairs) (sym none)
 remap_read files (Some name) services has = (has.0, file_read files FILE_LIMIT name has.0 has.1 has.1.1, ap remap_of has.2)
 
-decided : (words : List (List ℕ)) (files : FileMap) (command : Command) (task : Task) → command_of words ≡ Some command → Decides command files (Ok task) → Verdict words files (Ok task)
-decided words files command task is h = subst (λ (c : Option Command). VerdictOf c files (Ok task)) (sym is) h
-
 pub replayed : CapturesAreReplayed
 replayed words files folder out ways file lists services plan command are has is =
     let legal : Legal = record { start = file.start; calls = plan.calls; facts = plan.facts } in
-    decided words files (Run folder out ways) (ToReplay out (job_of legal services ways)) command
-    (record { start = file.start; sessions = lists }, capture_read files folder file lists are, (services, remap_read files ways.remap services has, (legal, (refl, is), refl)))
+    verdict_is words files (Run folder out ways) (ToReplay out (run_job legal services ways)) command
+    (record { start = file.start; sessions = lists }, capture_read files folder file lists are, (services, remap_read files ways.remap services has, (legal, ap (legal_from file.start) is, refl)))
 
 pub prepared : CapturesArePrepared
 prepared words files folder out file lists plan command are is =
-    decided words files (Prepare folder out) (ToTell out plan.facts) command
-    (record { start = file.start; sessions = lists }, capture_read files folder file lists are, (record { start = file.start; calls = plan.calls; facts = plan.facts }, (refl, is), refl))
+    verdict_is words files (Prepare folder out) (ToTell out plan.facts) command
+    (record { start = file.start; sessions = lists }, capture_read files folder file lists are, (record { start = file.start; calls = plan.calls; facts = plan.facts }, ap (legal_from file.start) is, refl))
 
 pub legal_replayed : LegalCapturesAreReplayed
 legal_replayed words files folder out ways file lists services command are has can =

@@ -1,6 +1,7 @@
 -- When the files of a folder are a capture, told without the steps of a command.
 use Rattle.std.specs.Prelude.{◌≡◌, ℕ, ◌+◌, ◌≤◌, List, [], ◌∷◌, length, Option, None, Some, Ok}
 use Rattle.std.specs.FinMap.{get}
+use Rattle.std.specs.List.{sum_by}
 use Rattle.desk_values.specs.declared.capture.Captured.{Captured}
 use Rattle.desk_files.specs.Outside.{FileMap}
 use Rattle.desk_files.specs.declared.files.TheConstants.{FILE_LIMIT}
@@ -14,8 +15,8 @@ use Rattle.remap_ids.specs.Services.{ServicePair, services_of}
 use Rattle.replay_cli.specs.declared.options.Ways.{Ways}
 use Rattle.replay_cli.specs.declared.words.Command.TheVariants.{Run, Prepare}
 use Rattle.replay_cli.specs.Command.{command_of}
-use Rattle.replay_cli.specs.Decision.{Verdict, ToReplay, ToTell, job_of}
-use Rattle.replay_cli.specs.Words.{session_names, start_name}
+use Rattle.replay_cli.specs.Decision.{Verdict, ToReplay, ToTell, run_job}
+use Rattle.replay_cli.specs.FileNames.{session_names, start_name}
 
 -- the file of this name is there, with these bytes, and within the limit of one file
 abbrev pub IsThere : FileMap → List ℕ → List ℕ → Type 0
@@ -33,8 +34,7 @@ capture_limit = 268435456
 
 -- how many bytes the texts have together
 abbrev pub total : List (List ℕ) → ℕ
-total [] = 0
-total (bytes ∷ texts) = length bytes + total texts
+total texts = sum_by (λ bytes. length bytes) texts
 
 -- the files of a folder are this start and these calls of its sessions
 pub record AreCapture (files : FileMap) (folder : List ℕ) (file : StartFile) (lists : List (List Captured)) : Type 0 where
@@ -53,7 +53,7 @@ HasRemap files (Some name) services = (bytes : List ℕ) × IsThere files name b
 abbrev pub CapturesAreReplayed : Type 0
 CapturesAreReplayed = (words : List (List ℕ)) (files : FileMap) (folder out : List ℕ) (ways : Ways) (file : StartFile) (lists : List (List Captured)) (services : List ServicePair) (plan : Plan)
     → command_of words ≡ Some (Run folder out ways) → AreCapture files folder file lists → HasRemap files ways.remap services → verdict file.start lists ≡ Ok plan
-    → Verdict words files (Ok (ToReplay out (job_of (record { start = file.start; calls = plan.calls; facts = plan.facts }) services ways)))
+    → Verdict words files (Ok (ToReplay out (run_job (record { start = file.start; calls = plan.calls; facts = plan.facts }) services ways)))
 
 abbrev pub CapturesArePrepared : Type 0
 CapturesArePrepared = (words : List (List ℕ)) (files : FileMap) (folder out : List ℕ) (file : StartFile) (lists : List (List Captured)) (plan : Plan)
@@ -65,7 +65,7 @@ abbrev pub LegalCapturesAreReplayed : Type 0
 LegalCapturesAreReplayed = (words : List (List ℕ)) (files : FileMap) (folder out : List ℕ) (ways : Ways) (file : StartFile) (lists : List (List Captured)) (services : List ServicePair)
     → command_of words ≡ Some (Run folder out ways) → AreCapture files folder file lists → HasRemap files ways.remap services → CanBeLegal file.start (all_calls lists)
     → let calls = by_stamp (all_calls lists) in
-    Verdict words files (Ok (ToReplay out (job_of (record { start = file.start; calls = calls; facts = facts_of file.start.schema calls }) services ways)))
+    Verdict words files (Ok (ToReplay out (run_job (record { start = file.start; calls = calls; facts = facts_of file.start.schema calls }) services ways)))
 
 -- and which wait for which is told
 abbrev pub LegalCapturesArePrepared : Type 0

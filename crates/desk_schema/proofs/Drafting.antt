@@ -6,7 +6,7 @@ use Rattle.std.specs.Cmp.Lexicographic.{slice_cmp}
 use Rattle.std.specs.Option.{unwrap_or}
 use Rattle.std.specs.List.{AllByRecursion, AllZip, Contains, cons_option, slice_get}
 use Rattle.std.specs.Ordering.{nat_cmp, int_cmp}
-use Rattle.std.proofs.lemmas.Bool.{eqb-true, eq-eqb, false≢true, and_parts, and_from}
+use Rattle.std.proofs.lemmas.Bool.{eqb-true, eq-eqb, false≢true, and_parts, and_from, false_from_ne_true}
 use Rattle.std.proofs.lemmas.Cmp.{tied_itself, int_cmp_total, nat_list_cmp_total}
 use Rattle.std.proofs.lemmas.List.{append-nil}
 use Rattle.std.proofs.lemmas.List.Elements.{filter_map-append, Contains-push, Contains-push_cases, Contains-append_left}
@@ -21,7 +21,7 @@ use Rattle.desk_schema.specs.declared.schema.Kind.{Kind}
 use Rattle.desk_schema.specs.declared.schema.Kind.TheVariants.{Int, Text, Seq}
 use Rattle.desk_schema.specs.declared.schema.Table.{Table}
 use Rattle.desk_schema.specs.declared.schema.Column.{Column}
-use Rattle.desk_schema.specs.Schema.{SchemaView, IsSchema, columns_of}
+use Rattle.desk_schema.specs.Schema.{columns_of}
 use Rattle.desk_schema.specs.Line.{with_name, with_number}
 use Rattle.desk_schema.specs.Start.{StartView}
 use Rattle.desk_schema.specs.State.{State, nothing, added}
@@ -32,7 +32,7 @@ use Rattle.desk_schema.specs.Inside.Sound.{IsSoundState}
 use Rattle.desk_schema.specs.Draft.{IsReached}
 use Rattle.desk_schema.specs.Inside.Draft.{AreKeys, IsDraft}
 use Rattle.desk_schema.specs.File.{IsStart}
-use Rattle.desk_schema.proofs.Files.{reached_more, start_at, whole_schema}
+use Rattle.desk_schema.proofs.Files.{reached_more, start_at}
 use Rattle.desk_schema.proofs.Members.{Contains-none, Contains-here, Contains-there, Contains-cases}
 use Rattle.desk_schema.proofs.Steps.{known_kind, sound_nothing, sound_added}
 
@@ -59,14 +59,10 @@ is_same (value.Text xs) there = (Equal-is (slice_cmp nat_cmp xs xs)).1 (tied_its
 is_same (value.Row n) there = eq-eqb n n refl
 is_same (value.Draw p n) there = and_from (eqb p p) (eqb n n) (eq-eqb p p refl) (eq-eqb n n refl)
 
-not_same : (same : Bool) → (same ≡ true → ⊥) → same ≡ false
-not_same true never = absurd (never refl)
-not_same false never = refl
-
 key_new : (keys : List Value) (key : Value) → (Contains keys key → ⊥) → IsNewKey 1 keys key
 key_new [] key fresh = tt
 key_new (first ∷ keys) key fresh = (
-  not_same (same_key 1 first key) (λ same. let P : Value → Type 0 = λ v. Contains (first ∷ keys) v in fresh (subst P (same_is first key same) (Contains-here first keys))),
+  false_from_ne_true (same_key 1 first key) (λ same. let P : Value → Type 0 = λ v. Contains (first ∷ keys) v in fresh (subst P (same_is first key same) (Contains-here first keys))),
   key_new keys key (λ there. fresh (Contains-there first keys key there)),
 )
 
@@ -130,9 +126,6 @@ module _ {view state : State} {keys : List (ℕ × Value)} (shown : view ≡ sta
   finished next rule is =
       let P : StartView → Type 0 = IsStart in
       subst P (sym is) (start_at (added state (NextRow next)) (reached_more state (NextRow next) now.reached rule) refl)
-
-  pub finished_schema : {schema : SchemaView} (next : ℕ) → MayFollow state (NextRow next) → schema ≡ state.start.schema → IsSchema schema
-  finished_schema next rule is = let P : SchemaView → Type 0 = IsSchema in subst P (sym is) (whole_schema state now.sound rule.whole)
 
   -- a kind that may be declared comes back by the name of its sequence
   pub kind_back : (kind : Kind) → IsKind state.start.schema.sequences (with_name state.start.schema.sequences kind)

@@ -1,7 +1,7 @@
 -- Tests of a row and of a column's kind.
 use Rattle.std.proofs.Common.{◌≡◌, ℕ, zero, suc, ◌+◌, ◌-◌, ◌<◌, ◌≤◌, List, [], ◌∷◌, length, get_or, drop, Some, sym, ◌∙◌, ap, subst, arith, ◌↔◌}
 use Rattle.std.specs.List.{AllByRecursion, AllZip, Contains, slice_get}
-use Rattle.std.proofs.lemmas.List.{drop_more, drop_all}
+use Rattle.std.proofs.lemmas.List.{drop_more}
 use Rattle.std.proofs.lemmas.Option.{slice_get_within}
 use Rattle.desk_values.specs.declared.value.Image.{Image}
 use Rattle.desk_values.specs.Good.{Ascend}
@@ -49,21 +49,6 @@ module _ {A B : Type 0} (R : A → B → Type 0) where
         λ all. let found : R x y × AllZip R (drop (i + 1) xs) (drop (i + 1) ys) = subst S second (subst Q first (remain.0 all)) in found.1,
         λ rest. remain.1 (subst Q (sym first) (subst S (sym second) (related, rest))),
       )
-
-  pub one_unrelated : (xs : List A) (ys : List B) (i : ℕ) (x : A) (y : B) → i < length xs → i < length ys → x ≡ get_or xs i x → y ≡ get_or ys i y → (R x y → ⊥) → Remain xs ys i → AllZip R xs ys → ⊥
-  one_unrelated xs ys i x y in_xs in_ys is_x is_y unrelated remain all =
-      let first : drop i xs ≡ x ∷ drop (i + 1) xs = drop_more xs i x in_xs ∙ ap (λ v. v ∷ drop (i + 1) xs) (sym is_x) in
-      let second : drop i ys ≡ y ∷ drop (i + 1) ys = drop_more ys i y in_ys ∙ ap (λ v. v ∷ drop (i + 1) ys) (sym is_y) in
-      let Q : List A → Type 0 = λ zs. AllZip R zs (drop i ys) in
-      let S : List B → Type 0 = λ zs. AllZip R (x ∷ drop (i + 1) xs) zs in
-      let found : R x y × AllZip R (drop (i + 1) xs) (drop (i + 1) ys) = subst S second (subst Q first (remain.0 all)) in
-      unrelated found.0
-
-  pub all_related : (xs : List A) (ys : List B) (i : ℕ) → length xs ≤ i → length ys ≤ i → Remain xs ys i → AllZip R xs ys
-  all_related xs ys i end_xs end_ys remain =
-      let Q : List A → Type 0 = λ zs. AllZip R zs (drop i ys) in
-      let S : List B → Type 0 = λ zs. AllZip R [] zs in
-      remain.1 (subst Q (sym (drop_all i xs end_xs)) (subst S (sym (drop_all i ys end_ys)) tt))
 
 -- a sequence that is there has its name among the names
 name_there : (names : List (List ℕ)) (sequence : ℕ) → sequence < length names → Contains names (name_of names sequence)

@@ -26,9 +26,6 @@ module _ {N : Type 0} (name_in : N → List ℕ) (test : List ℕ → Bool) wher
   abbrev pub Passed : List N → ℕ → Option ℕ → Type 0
   Passed items i found = found ≡ option_map (λ place. place + i) (place_where test (map name_in (drop i items)))
 
-  pub none_passed : (items : List N) → Passed items 0 (place_where test (map name_in items))
-  none_passed items = sym (lowest _)
-
   pub one_passed : (items : List N) (i : ℕ) (item : N) (found : Option ℕ) → i < length items → item ≡ get_or items i item
       → test (name_in item) ≡ false → Passed items i found → Passed items (i + 1) found
   one_passed items i item found here is fails passed =

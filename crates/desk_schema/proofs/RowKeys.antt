@@ -1,5 +1,5 @@
 -- Keys of rows in a set.
-use Rattle.std.proofs.Common.{◌≡◌, ℕ, Bool, true, false, ◌||◌, List, [], ◌∷◌, map, refl, sym, ◌∙◌, ap, subst, Ordering, ◌↔◌, ◌⊎◌, inl, inr, ⊎_elim}
+use Rattle.std.proofs.Common.{◌≡◌, ℕ, true, ◌||◌, List, [], ◌∷◌, map, refl, sym, ◌∙◌, ap, subst, Ordering, ◌↔◌, ◌⊎◌, inl, inr, ⊎_elim}
 use Rattle.std.specs.declared.cmp.Ordering.TheVariants.{Less, Equal, Greater}
 use Rattle.std.specs.BTreeMap.{is_at}
 use Rattle.std.specs.BTreeSet.{insert_key}
@@ -8,6 +8,7 @@ use Rattle.std.specs.List.{Contains, list_any}
 use Rattle.std.specs.Ordering.{nat_cmp, int_cmp, ordering_then, match_ordering, is_eq}
 use Rattle.std.proofs.lemmas.Cmp.{tied_itself, nat_cmp_total, int_cmp_total, nat_list_cmp_total}
 use Rattle.std.proofs.lemmas.Map.Lookups.{exact_unsigned, exact_signed, exact_bytes}
+use Rattle.std.proofs.lemmas.Bool.{or_cases, or_right}
 use Rattle.desk_values.specs.declared.value.Value.{Value}
 use Rattle.desk_values.specs.declared.value.Value.TheVariants as value
 use Rattle.desk_schema.specs.declared.keys.Key.{Key}
@@ -72,27 +73,19 @@ found_there k [] found = cc
 found_there k (x ∷ xs) found = ⊎_elim
     (λ at. let P : ℕ × Value → Type 0 = λ y. Contains (row_key x ∷ map row_key xs) y in subst P (sym (row_exact k x (tied (row_cmp k x) at))) (Contains-here (row_key x) (map row_key xs)))
     (λ later. Contains-there (row_key x) (map row_key xs) (row_key k) (found_there k xs later))
-    (either (is_at (row_cmp k) x) (list_any (is_at (row_cmp k)) xs) found)
+    (or_cases (is_at (row_cmp k) x) (list_any (is_at (row_cmp k)) xs) found)
   where
     tied : (o : Ordering) → is_eq o ≡ true → o ≡ Equal
     tied Less e = cc
     tied Equal e = refl
     tied Greater e = cc
 
-    either : (a b : Bool) → (a || b) ≡ true → (a ≡ true) ⊎ (b ≡ true)
-    either true b e = inl refl
-    either false b e = inr e
-
 pub there_found : (k : RowKey) (ks : List RowKey) → Contains (map row_key ks) (row_key k) → list_any (is_at (row_cmp k)) ks ≡ true
 there_found k [] there = absurd (Contains-none (row_key k) there)
 there_found k (x ∷ xs) there = ⊎_elim
     (λ here. ap (λ o. is_eq o || list_any (is_at (row_cmp k)) xs) (row_tie k x (sym here)))
-    (λ later. either (is_at (row_cmp k) x) (list_any (is_at (row_cmp k)) xs) (there_found k xs later))
+    (λ later. or_right (is_at (row_cmp k) x) (list_any (is_at (row_cmp k)) xs) (there_found k xs later))
     (Contains-cases (row_key x) (map row_key xs) (row_key k) there)
-  where
-    either : (a b : Bool) → b ≡ true → (a || b) ≡ true
-    either true b e = refl
-    either false b e = e
 
 -- the keys with one more
 pub with_key : (k : RowKey) (ks : List RowKey) → IsWith (map row_key ks) (map row_key (insert_key row_cmp ks k)) (row_key k)

@@ -49,7 +49,7 @@ cut_at_parts byte (first ∷ bytes) p e =
           cut_later byte first bytes found.0 p (eqb-false first byte miss.0) (cut_at_parts byte bytes found.0 found.1) found.2
     ]
 
-unmapped : {A B : Type 0} (f : A → B) (o : Option A) → option_map f o ≡ None → o ≡ None
+pub unmapped : {A B : Type 0} (f : A → B) (o : Option A) → option_map f o ≡ None → o ≡ None
 unmapped f None h = refl
 unmapped f (Some x) h = absurd (none-some _ (sym h))
 

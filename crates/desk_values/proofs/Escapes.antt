@@ -9,6 +9,7 @@ use Rattle.std.proofs.lemmas.List.{length-append}
 use Rattle.std.proofs.lemmas.List.Elements.{All-from_recursion}
 use Rattle.std.proofs.lemmas.Slice.Eq.{bytes_eq-Decides}
 use Rattle.std.proofs.lemmas.Str.{IsUtf8-from_is_utf8, is_utf8-from_IsUtf8}
+use Rattle.std.proofs.lemmas.Option.{cond_some}
 use Rattle.percent_encoding.specs.AsciiSet.{should_percent_encode}
 use Rattle.percent_encoding.specs.Percent.{percent_encode_byte, encode_byte, percent_encode, percent_decode}
 use Rattle.percent_encoding.proofs.PercentLemmas.{round_trip, IsByte}
@@ -16,7 +17,7 @@ use Rattle.desk_values.specs.declared.escape.TheConstants.{ESCAPES}
 use Rattle.desk_values.specs.Good.{IsTxt}
 use Rattle.desk_values.specs.Text.{is_plain, hex_digit, escape, escaped, txt_text}
 use Rattle.desk_values.specs.Reading.{txt_in, escaped_of, txt_of}
-use Rattle.desk_values.proofs.Options.{none_from, if_some, when_some}
+use Rattle.desk_values.proofs.Options.{none_from, when_some}
 use Rattle.desk_values.proofs.Readers.{IsReader, behind}
 
 abbrev pub AllSmall : List ℕ → Type 0
@@ -81,7 +82,7 @@ IsUtf8-small bytes is = subst AllSmall is.1.1 (encodes_small is.0 is.1.0)
 pub txt_in_taken : (bytes text : List ℕ) → txt_in bytes ≡ Some text → IsTxt bytes × (bytes ≡ text)
 unfolding txt_in
 txt_in_taken bytes text e =
-    let test = if_some (leb (length bytes) 1000 && is_utf8 bytes) bytes text e in
+    let test = cond_some (leb (length bytes) 1000 && is_utf8 bytes) bytes text e in
     let both = and_parts (leb (length bytes) 1000) (is_utf8 bytes) test.0 in
     (record { limit = leb-true _ _ both.0; utf8 = IsUtf8-from_is_utf8 bytes both.1 }, test.1)
 

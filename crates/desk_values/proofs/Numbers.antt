@@ -7,14 +7,14 @@ use Rattle.std.specs.Fmt.{decimal, signed_decimal}
 use Rattle.std.specs.Str.{bytes_eq, IsUtf8}
 use Rattle.std.specs.Str.Parse.{digits_value, IsNumeral, AllDigits, ParsesUnsigned}
 use Rattle.std.proofs.lemmas.Bool.{ne_eqb, eqb-true, eqb-false, ltb-true, lt-ltb, leb-true, le-leb, and_parts, and_cases, or_parts, not-false, both_ways}
-use Rattle.std.proofs.lemmas.Option.{same_Some, none-some}
+use Rattle.std.proofs.lemmas.Option.{same_Some, none-some, cond_some}
 use Rattle.std.proofs.lemmas.Slice.Eq.{bytes_eq-Decides}
 use Rattle.std.proofs.lemmas.Str.{IsUtf8-from_ascii}
 use Rattle.std.proofs.lemmas.Str.Parse.{numerals_by_value, tells_digits, IsNumeralModel, without_leading_plus_none}
 use Rattle.std.proofs.lemmas.Fmt.{decimal_is_IsNumeral, decimal-digits_value, decimal_digit, first_decimal, IsAscii-decimal}
 use Rattle.desk_values.specs.Reading.{number_of, number_below, integer_of, negative, not_negative, ◌>>=◌}
 use Rattle.desk_values.specs.Inside.{is_loose}
-use Rattle.desk_values.proofs.Options.{bind_some, if_some, chosen, none_from}
+use Rattle.desk_values.proofs.Options.{bind_some, chosen, none_from}
 use Rattle.desk_values.proofs.Readers.{IsReader, first_of}
 
 -- ---- numbers without a sign
@@ -23,7 +23,7 @@ number_taken : (bytes : List ℕ) (n : ℕ) → number_of bytes ≡ Some n → (
 unfolding number_of
 number_taken bytes n e =
     let found = digits_value 10 bytes in
-    let test = if_some (bytes_eq (decimal found) bytes && ltb found (2 ^ 64)) found n e in
+    let test = cond_some (bytes_eq (decimal found) bytes && ltb found (2 ^ 64)) found n e in
     let both = and_parts (bytes_eq (decimal found) bytes) (ltb found (2 ^ 64)) test.0 in
     subst (λ (m : ℕ). (m < 2 ^ 64) × (bytes ≡ decimal m)) test.1 (ltb-true found (2 ^ 64) both.1, sym ((bytes_eq-Decides (decimal found) bytes).0 both.0))
 
@@ -99,7 +99,7 @@ below_taken : (limit : ℕ) (bytes : List ℕ) (n : ℕ) → number_below limit 
 unfolding number_below
 below_taken limit bytes n e =
     let first = bind_some (number_of bytes) _ n e in
-    let test = if_some (ltb first.0 limit) first.0 n first.2 in
+    let test = cond_some (ltb first.0 limit) first.0 n first.2 in
     subst (λ (m : ℕ). (m < limit) × (bytes ≡ decimal m)) test.1 (ltb-true first.0 limit test.0, (number_taken bytes first.0 first.1).1)
 
 pub numbers_below : (limit : ℕ) → limit ≤ 2 ^ 64 → IsReader (number_below limit) (λ n. n < limit) decimal
@@ -113,13 +113,13 @@ numbers_below limit le = record {
 
 not_negative_taken : (bytes : List ℕ) (n : ℕ) (z : ℤ) → bytes ≡ decimal n → not_negative n ≡ Some z → FitsSigned w64 z × (bytes ≡ signed_decimal z)
 not_negative_taken bytes n z text e =
-    let test = if_some (ltb n (2 ^ 63)) (pos n) z e in
+    let test = cond_some (ltb n (2 ^ 63)) (pos n) z e in
     let small : n < 2 ^ 63 = ltb-true n (2 ^ 63) test.0 in
     subst (λ (y : ℤ). FitsSigned w64 y × (bytes ≡ signed_decimal y)) test.1 (record { sfits = small }, text)
 
 negative_taken : (bytes : List ℕ) (n : ℕ) (z : ℤ) → bytes ≡ 45 ∷ decimal n → negative n ≡ Some z → FitsSigned w64 z × (bytes ≡ signed_decimal z)
 negative_taken bytes n z text e =
-    let test = if_some (ltb 0 n && leb n (2 ^ 63)) (negsuc (n - 1)) z e in
+    let test = cond_some (ltb 0 n && leb n (2 ^ 63)) (negsuc (n - 1)) z e in
     let both = and_parts (ltb 0 n) (leb n (2 ^ 63)) test.0 in
     let some : 0 < n = ltb-true 0 n both.0 in
     let small : n ≤ 2 ^ 63 = leb-true n (2 ^ 63) both.1 in

@@ -13,11 +13,6 @@ pub map_some : {A B : Type 0} (f : A → B) (read : Option A) (y : B) → option
 map_some f None y e = absurd cc
 map_some f (Some x) y e = (x, refl, cc)
 
--- a test that was passed
-pub if_some : {A : Type 0} (b : Bool) (x y : A) → cond b (Some x) None ≡ Some y → (b ≡ true) × (x ≡ y)
-if_some true x y e = (refl, cc)
-if_some false x y e = absurd cc
-
 -- a test that was not
 pub unless_some : {A : Type 0} (b : Bool) (x y : A) → cond b None (Some x) ≡ Some y → (b ≡ false) × (x ≡ y)
 unless_some true x y e = absurd cc

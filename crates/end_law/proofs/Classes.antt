@@ -2,7 +2,7 @@
 use Rattle.std.proofs.Common.{◌≡◌, ℕ, ◌+◌, true, false, eqb, if◌then◌else◌, List, [], ◌∷◌, Option, None, Some, refl, sym, ap, subst, ◌∙◌, arith, ⊎_elim}
 use Rattle.std.specs.List.{AllZip, Contains}
 use Rattle.std.specs.List.Sorted.{IsPermutation}
-use Rattle.std.specs.Option.{option_and_then, option_map}
+use Rattle.std.specs.Option.{option_map}
 use Rattle.std.proofs.lemmas.Bool.{and_cases, eq-eqb, eqb-true, not-false, or_parts}
 use Rattle.std.proofs.lemmas.List.Sorted.{IsPermutation-cons, IsPermutation-middle, IsPermutation-refl, IsPermutation-trans}
 use Rattle.std.proofs.lemmas.Option.{none-some, same_Some}
@@ -31,30 +31,23 @@ use Rattle.renamed_rows.proofs.Members.{image_is}
 use Rattle.renaming_law.specs.Replies.{IsRenamedOutcome}
 use Rattle.renaming_law.specs.Replies as renamed
 use Rattle.renaming_law.specs.Twins.{AreSets}
-use Rattle.renaming_law.proofs.Rising.{bags_sets}
+use Rattle.renaming_law.proofs.Rising.{bags_sets, least_row}
 use Rattle.carrying_law.specs.Carried.{carried_image, carried_images, carried_left, carried_number, carried_row, carried_value, each_some, row_of}
 use Rattle.divergence.specs.Class.{class_between, is_committed, is_write_divergence}
 use Rattle.bag_laws.specs.Equality.{found}
 use Rattle.bag_laws.specs.Laws.{AreSameMaps}
 use Rattle.divergence.specs.Laws.{IsSameOutcome, rows, count, committed, rolled_back, marked, connected, disconnected, refused}
-use Rattle.carrying_law.proofs.Carrying.{renamed_carried}
+use Rattle.carrying_law.proofs.Carrying.{renamed_carried, then_some}
 use Rattle.divergence.proofs.Classes.{same_is_equal}
 use Rattle.end_law.specs.Tables.{AreCarried}
 use Rattle.end_law.specs.Laws.{CarriedTablesAreOne}
 use Rattle.end_law.proofs.Order.{AscendFrom, one_ascending}
-use Rattle.end_law.proofs.Laid.{least_row, same_rows}
+use Rattle.end_law.proofs.Laid.{same_rows}
 use Rattle.pairs_law.proofs.Starts.{each_in}
 use Rattle.end_law.proofs.Written.{written}
+use Rattle.desk_values.proofs.Options.{map_some}
 
 -- ---- each of a list
-
-then_some : {A B : Type 0} (f : A → Option B) (o : Option A) (y : B) → option_and_then f o ≡ Some y → (x : A) × (o ≡ Some x) × (f x ≡ Some y)
-then_some f None y e = absurd (none-some y e)
-then_some f (Some x) y e = (x, refl, e)
-
-map_some : {A B : Type 0} (f : A → B) (o : Option A) (y : B) → option_map f o ≡ Some y → (x : A) × (o ≡ Some x) × (f x ≡ y)
-map_some f None y e = absurd (none-some y e)
-map_some f (Some x) y e = (x, refl, same_Some (f x) y e)
 
 module _ {A B : Type 0} (f : A → Option B) where
   each_zipped : (xs : List A) (ys : List B) → each_some f xs ≡ Some ys → AllZip (λ x y. f x ≡ Some y) xs ys

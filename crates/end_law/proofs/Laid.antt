@@ -1,5 +1,5 @@
 -- What changes leave of rows, by its members: with each id renamed it is what renamed changes leave of renamed rows.
-use Rattle.std.proofs.Common.{◌≡◌, ℕ, ◌+◌, ◌≤◌, true, false, eqb, if◌then◌else◌, List, [], ◌∷◌, Option, None, Some, refl, sym, ap, subst, ◌∙◌, arith, ◌⊎◌, inl, inr, ⊎_elim}
+use Rattle.std.proofs.Common.{◌≡◌, ℕ, ◌+◌, true, false, eqb, if◌then◌else◌, List, [], ◌∷◌, Option, None, Some, refl, sym, ap, subst, ◌∙◌, arith, ◌⊎◌, inl, inr, ⊎_elim}
 use Rattle.std.specs.List.{AllByRecursion, AllZip, Contains}
 use Rattle.std.proofs.lemmas.Bool.{eqb-true, eq-eqb}
 use Rattle.std.proofs.lemmas.List.Elements.{Contains-append_cases, Contains-append_left, Contains-append_right}
@@ -14,10 +14,7 @@ use Rattle.renamed_rows.specs.Images.{IsRenamedImage, IsRenamedLeft}
 use Rattle.renamed_rows.proofs.Members.{same_ids}
 use Rattle.told_ids.proofs.Placed.{places}
 use Rattle.renaming_law.specs.Twins.{AreSets}
-
-pub least_row : (n : ℕ) (xs : List Image) → RisesFrom n xs → (x : Image) → Contains xs x → n ≤ x.row
-least_row n [] up x c = absurd (Contains-none x c)
-least_row n (y ∷ ys) up x c = ⊎_elim (λ is. omega (arith, up.0, ap (λ (w : Image). w.row) is)) (λ later. omega (arith, up.0, least_row (y.row + 1) ys up.1 x later)) (Contains-cases y ys x c)
+use Rattle.renaming_law.proofs.Rising.{least_row}
 
 -- ---- one change
 

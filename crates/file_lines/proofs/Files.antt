@@ -3,9 +3,10 @@ use Rattle.std.proofs.Common.{◌≡◌, ◌≢◌, ℕ, ◌+◌, Bool, true, fa
 use Rattle.std.specs.Prelude.{◌==◌}
 use Rattle.std.proofs.lemmas.Bool.{eqb-true}
 use Rattle.std.proofs.lemmas.List.Concat.{flat_map-append}
+use Rattle.std.proofs.lemmas.Option.{same_Some}
 use Rattle.desk_values.specs.Fields.{Lacks, cut_at}
 use Rattle.desk_values.proofs.Cuts.{cut_at-joined, cut_at-none}
-use Rattle.file_lines.specs.File.{lines_text, Goes, Lead, IsFile, IsStuck, IsBadAt, Is, SaysOne}
+use Rattle.file_lines.specs.File.{lines_text, Goes, Lead, IsStuck, IsBadAt, Is, SaysOne}
 
 -- ---- one cut
 
@@ -16,11 +17,8 @@ pub record SameCut (text after text2 after2 : List ℕ) : Type 0 where
 pub same_cut : (text after text2 after2 : List ℕ) → Lacks 10 text → Lacks 10 text2 → text ++ 10 ∷ after ≡ text2 ++ 10 ∷ after2 → SameCut text after text2 after2
 same_cut text after text2 after2 lacks lacks2 e =
     let both : ◌≡◌ {A = Option (List ℕ × List ℕ)} (Some (text, after)) (Some (text2, after2)) = sym (cut_at-joined 10 text after lacks) ∙ ap (cut_at 10) e ∙ cut_at-joined 10 text2 after2 lacks2 in
-    let parts = same_parts (text, after) (text2, after2) both in
+    let parts = same_Some (text, after) (text2, after2) both in
     record { texts = ap (λ (p : List ℕ × List ℕ). p.0) parts; afters = ap (λ (p : List ℕ × List ℕ). p.1) parts }
-  where
-    same_parts : (p q : List ℕ × List ℕ) → ◌≡◌ {A = Option (List ℕ × List ℕ)} (Some p) (Some q) → p ≡ q
-    same_parts p q e = cc
 
 no_line : (last text after : List ℕ) → Lacks 10 last → Lacks 10 text → last ≡ text ++ 10 ∷ after → ⊥
 no_line last text after lacks lacks2 e =
@@ -49,9 +47,6 @@ module _ {S : Type 0} (Comes : S → List ℕ → S → Type 0) (done : S → Bo
     pub number : n ≡ 1 + length texts
     pub text : bytes ≡ lines_text texts ++ rest
 
-  pub none_so_far : (s : S) (bytes : List ℕ) → SoFar s bytes s 1 bytes
-  none_so_far s bytes = record { texts = []; lead = refl; number = omega arith; text = refl }
-
   lead_more : (s t u : S) (texts : List (List ℕ)) (text : List ℕ) → Lead Comes done s texts t → Goes Comes done t text u → Lead Comes done s (texts ++ text ∷ []) u
   lead_more s t u [] text lead goes = (u, subst (λ (v : S). Goes Comes done v text u) lead goes, refl)
   lead_more s t u (first ∷ texts) text lead goes = (lead.0, lead.1, lead_more lead.0 t u texts text lead.2 goes)
@@ -67,9 +62,6 @@ module _ {S : Type 0} (Comes : S → List ℕ → S → Type 0) (done : S → Bo
   bad_here : (s : S) (bytes : List ℕ) (t : S) (n : ℕ) (rest : List ℕ) → SoFar s bytes t n rest → IsStuck Comes done t rest → IsBadAt Comes done s 1 bytes n
   bad_here s bytes t n rest so_far stuck = record { texts = so_far.texts; before = t; rest = rest; lead = so_far.lead; number = so_far.number; text = so_far.text; stuck = stuck }
 
-  pub past_last : (s : S) (bytes : List ℕ) (t : S) (n : ℕ) (rest text after : List ℕ) → SoFar s bytes t n rest → rest ≡ text ++ 10 ∷ after → done t ≡ true → IsBadAt Comes done s 1 bytes n
-  past_last s bytes t n rest text after so_far cut ended = bad_here s bytes t n rest so_far (record { line = λ text2 after2 u e goes. (let never = sym ended ∙ goes.unended in cc); ended = λ _. subst (λ (r : List ℕ). r ≢ []) (sym cut) (not_none text after) })
-
   pub bad_next : (s : S) (bytes : List ℕ) (t : S) (n : ℕ) (rest text after : List ℕ) → SoFar s bytes t n rest → rest ≡ text ++ 10 ∷ after → Lacks 10 text → ((u : S) → ¬ (Comes t text u)) → IsBadAt Comes done s 1 bytes n
   bad_next s bytes t n rest text after so_far cut lacks never = bad_here s bytes t n rest so_far (record {
     line = λ text2 after2 u e goes. never u (subst (λ (x : List ℕ). Comes t x u) (sym (same_cut text after text2 after2 lacks goes.lacks (sym cut ∙ e)).texts) goes.comes);
@@ -78,9 +70,6 @@ module _ {S : Type 0} (Comes : S → List ℕ → S → Type 0) (done : S → Bo
 
   pub too_early : (s : S) (bytes : List ℕ) (t : S) (n : ℕ) (rest : List ℕ) → SoFar s bytes t n rest → Lacks 10 rest → (done t ≡ true → rest ≢ []) → IsBadAt Comes done s 1 bytes n
   too_early s bytes t n rest so_far lacks some = bad_here s bytes t n rest so_far (record { line = λ text after u e goes. no_line rest text after lacks goes.lacks e; ended = some })
-
-  pub at_last : (s : S) (bytes : List ℕ) (t : S) (n : ℕ) (rest : List ℕ) → SoFar s bytes t n rest → rest ≡ [] → done t ≡ true → IsFile Comes done s bytes t
-  at_last s bytes t n rest so_far none ended = record { texts = so_far.texts; lead = so_far.lead; text = so_far.text ∙ ap (λ (r : List ℕ). lines_text so_far.texts ++ r) none ∙ append-nil (lines_text so_far.texts); ended = ended }
 
   -- ---- at most one
 

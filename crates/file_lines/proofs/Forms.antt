@@ -1,5 +1,6 @@
 -- Files of lines that say something.
 use Rattle.std.proofs.Common.{◌≡◌, ℕ, Bool, true, false, List, [], ◌∷◌, ◌++◌, map, Option, Some, Result, Ok, Err, refl, ap, sym, subst, ◌∙◌}
+use Rattle.std.proofs.lemmas.Option.{same_Some}
 use Rattle.std.specs.List.{fold}
 use Rattle.desk_values.specs.declared.read_err.ReadErr.{ReadErr}
 use Rattle.desk_values.specs.declared.read_err.ReadErr.TheVariants.{Bad, Memory}
@@ -77,8 +78,5 @@ module _ {S L : Type 0} {read : List ℕ → Option L} (form : Form S L) (is : I
   -- the line that they are was added
   pub adds_line : {U : Type 0} (result : Result U ReadErr) (s : S) (bytes : List ℕ) (line : L) (t : S) → read bytes ≡ Some line → AddsLine form result s line t → Adds result t (Comes form s bytes)
   adds_line (Ok u) s bytes line t e h = let taken = is.takes bytes line e in record { line = line; fits = taken.0; text = taken.1; may = h.0; leads = h.1 }
-  adds_line (Err Bad) s bytes line t e h = λ after comes. h (subst (form.May s) (same comes.line line (sym (found bytes comes.line comes.fits comes.text) ∙ e)) comes.may)
-    where
-      same : (a b : L) → ◌≡◌ {A = Option L} (Some a) (Some b) → a ≡ b
-      same a b e = cc
+  adds_line (Err Bad) s bytes line t e h = λ after comes. h (subst (form.May s) (same_Some comes.line line (sym (found bytes comes.line comes.fits comes.text) ∙ e)) comes.may)
   adds_line (Err Memory) s bytes line t e h = tt

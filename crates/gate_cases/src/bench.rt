@@ -1,6 +1,6 @@
 //! A gate by itself, driven through many calls of 64 sessions with a window of 64 open calls.
 
-use crate::parts::{mode_of, number_of};
+use crate::fields::{mode_of, number_of};
 use crate::play::Play;
 use anyhow::anyhow;
 use desk_values::List;

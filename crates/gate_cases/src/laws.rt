@@ -4,8 +4,9 @@ ghost use Rattle.std.specs.Prelude.{◌<◌, ◌≤◌, length};
 
 use crate::plain::{Plain, needs_call};
 use crate::play::Play;
-use crate::random::{Random, any, sound};
+use crate::random::{any, any_lane, any_mode, sound};
 use anyhow::anyhow;
+use case_text::Random;
 use object_depends::{Fact, FactList, Mode, Needs};
 use std::alloc::Global;
 
@@ -105,9 +106,9 @@ impl Laws {
 /// What came of so many rounds.
 pub fn told(alloc: Global, rounds: u32) -> Result<String, anyhow::Error> {
     let mut laws = Laws::new();
-    let mut random = Random::new();
+    let mut random = Random::new(2026);
     for _ in 0..rounds {
-        let mode = random.mode();
+        let mode = any_mode(&mut random);
         let wild = any(alloc, &mut random)?;
         needed(alloc, &wild, mode, &mut laws)?;
         played(alloc, mode, &mut random, &mut laws)?;
@@ -240,7 +241,7 @@ fn looked(
         laws.may_go.see(ready == plain.ready(k));
         laws.ready = laws.ready.saturating_add(u64::from(ready));
     }
-    let lane = random.lane(alloc)?;
+    let lane = any_lane(alloc, random)?;
     let lane = lane.as_slice();
     laws.picked.see(gate.pick(lane) == plain.pick(lane));
     laws.done.see(gate.done(lane) == plain.done(lane));

@@ -14,8 +14,8 @@
 #![tactic(auto)]
 
 mod bench;
+mod fields;
 mod laws;
-mod parts;
 mod plain;
 mod play;
 mod random;
@@ -23,8 +23,8 @@ mod random;
 use anyhow::anyhow;
 use case_text::{numbers_text, stamp_text};
 use desk_values::List;
+use fields::{fact_of, mode_of, number_of, numbers_of};
 use object_depends::{FactList, Needs, requires_csv};
-use parts::{fact_of, mode_of, number_of, numbers_of};
 use play::Play;
 use std::alloc::Global;
 

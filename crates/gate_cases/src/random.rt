@@ -1,57 +1,32 @@
 //! Random calls, the same each time.
 
+use case_text::Random;
 use desk_values::List;
 use object_depends::{Fact, FactList, Mode};
 use std::alloc::Global;
 
-/// A generator of numbers.
-#[derive(Drop)]
-pub struct Random {
-    state: u64,
+/// A mode.
+pub fn any_mode(random: &mut Random) -> Mode {
+    match random.below(4) {
+        0 => Mode::Off,
+        1 => Mode::Scn,
+        2 => Mode::Object,
+        _ => Mode::Order,
+    }
 }
 
-impl Random {
-    /// The generator at its fixed seed.
-    pub fn new() -> Random {
-        Random { state: 2026 }
+/// Some sessions, one of them maybe without a call, one maybe twice.
+pub fn any_lane(alloc: Global, random: &mut Random) -> Result<Vec<u32>, anyhow::Error> {
+    let mut lane = Vec::new(alloc);
+    for _ in 0..random.below(4) {
+        lane.push(random.below(7))?;
     }
+    Ok(lane)
+}
 
-    /// The next number, below the limit; 0 where the limit is 0.
-    pub fn below(&mut self, limit: u32) -> u32 {
-        let state = self.state.wrapping_mul(6_364_136_223_846_793_005);
-        self.state = state.wrapping_add(1_442_695_040_888_963_407);
-        let number = u32::try_from(self.state >> 33).unwrap_or(0);
-        number.checked_rem(limit).unwrap_or(0)
-    }
-
-    /// A place in a list of so many items.
-    pub fn place(&mut self, len: usize) -> usize {
-        self.below(u32::try_from(len).unwrap_or(u32::MAX)) as usize
-    }
-
-    /// A mode.
-    pub fn mode(&mut self) -> Mode {
-        match self.below(4) {
-            0 => Mode::Off,
-            1 => Mode::Scn,
-            2 => Mode::Object,
-            _ => Mode::Order,
-        }
-    }
-
-    /// Some sessions, one of them maybe without a call, one maybe twice.
-    pub fn lane(&mut self, alloc: Global) -> Result<Vec<u32>, anyhow::Error> {
-        let mut lane = Vec::new(alloc);
-        for _ in 0..self.below(4) {
-            lane.push(self.below(7))?;
-        }
-        Ok(lane)
-    }
-
-    // A set of some of the first four tables.
-    fn tables(&mut self) -> u32 {
-        self.below(16)
-    }
+// A set of some of the first four tables.
+fn tables(random: &mut Random) -> u32 {
+    random.below(16)
 }
 
 /// Calls whose numbers and `seen` are those of a capture.
@@ -64,9 +39,9 @@ pub fn sound(alloc: Global, random: &mut Random) -> Result<FactList, anyhow::Err
         if random.below(3) == 0 {
             commits = commits.saturating_add(1);
             fact.number = commits;
-            fact.writes = random.tables();
+            fact.writes = tables(random);
             fact.refs = if random.below(4) == 0 {
-                random.tables()
+                tables(random)
             } else {
                 fact.writes
             };
@@ -83,7 +58,7 @@ pub fn any(alloc: Global, random: &mut Random) -> Result<FactList, anyhow::Error
         let mut fact = reader(random);
         fact.seen = u64::from(random.below(6));
         fact.number = u64::from(random.below(5));
-        fact.writes = random.tables();
+        fact.writes = tables(random);
         facts.push(fact)?;
     }
     Ok(facts)
@@ -94,7 +69,7 @@ fn reader(random: &mut Random) -> Fact {
     let refs = match random.below(6) {
         0 => 0,
         1 => u32::MAX,
-        2 => random.tables(),
+        2 => tables(random),
         _ => 1 << random.below(4).min(31),
     };
     Fact {

@@ -1,7 +1,7 @@
 -- The gate of a history: what it says is what the history says, and both stay together.
 use Rattle.std.proofs.Common.{◌≡◌, ℕ, ◌+◌, ◌<◌, ◌⊎◌, inl, inr, Bool, true, false, cond, List, [], ◌∷◌, ◌++◌, length, length-append, get_or, set, replicate, refl, sym, ap, subst, ◌∙◌, arith, slice_set}
-use Rattle.std.specs.Prelude.{◌↔◌, ◌&&◌, not, ◌==◌, if◌then◌else◌}
-use Rattle.std.proofs.lemmas.Bool.{cases_Bool, cases_eq, cases_lt, false≢true}
+use Rattle.std.specs.Prelude.{◌↔◌, ◌&&◌, not}
+use Rattle.std.proofs.lemmas.Bool.{cases_Bool, cases_eq, cases_lt, both_ways}
 use Rattle.std.proofs.lemmas.List.{get_or-replicate, get_or_past, get_or-set_same, get_or-set_other, length-replicate, length-set}
 use Rattle.std.proofs.lemmas.List.Folds.{sum_by-replicate}
 use Rattle.std.proofs.lemmas.List.Sums.{count_by-le-length, sum_by-set}
@@ -13,12 +13,11 @@ use Rattle.desk_values.specs.declared.capture.Event.TheVariants.{Start, Answer}
 use Rattle.object_depends.specs.Required.{is_required}
 use Rattle.commit_gate.specs.Gates.{GateView, IsBefore, IsReady, is_in, new_gate}
 use Rattle.commit_gate.proofs.Keeping.{in_more, in_other, in_within}
-use Rattle.replay_history.specs.Gap.{IsCallAt, pause_of}
+use Rattle.replay_history.specs.Gap.{IsCallAt, pause_before}
 use Rattle.history_laws.specs.Going.{MayGo}
 use Rattle.history_laws.specs.Places.{AreInPlace}
 use Rattle.history_laws.proofs.Extended.{answer_is, answered_in, answered_kept, legal_answer, legal_none, legal_start, none_answered, none_started, start_is, start_legal, started_in, started_kept}
 use Rattle.history_laws.proofs.Items.{item_there, last_at, some}
-use Rattle.history_laws.proofs.Places.{one_gap}
 use Rattle.replay_job.specs.Job.{IsReplayable, JobView}
 use Rattle.replay_job.specs.Runs.{IsLegalFor, IsPauseIn, MayStart, Requires}
 use Rattle.replay_history.specs.History.{IsWaiting}
@@ -30,16 +29,7 @@ use Rattle.gate_law.proofs.Turns.{before_is_just, just_is_before}
 pub in_place : (job : JobView) → IsReplayable job → AreInPlace job.calls
 in_place job replayable k call at = let fits = replayable.legal.each k call at in record { session = fits.session; place = fits.place }
 
--- each call has a pause
-has_pause : (job : JobView) → IsReplayable job → (k : ℕ) (call : Captured) → IsCallAt job.calls k call → (pause : ℕ) × IsPauseIn job call pause
-has_pause job replayable k call at =
-    let gap = one_gap job.calls (in_place job replayable) k call at in
-    (pause_of gap.0 (if call.place == 0 then job.connect else job.think), (gap.0, gap.1.0, refl))
-
 -- ---- sets of stamps
-
-out : (b : Bool) → b ≡ false → b ≡ true → ⊥
-out b off on = false≢true (sym off ∙ on)
 
 both : (a b : Bool) → (a && not b) ≡ true → (a ≡ true) × (b ≡ false)
 both true true e = absurd (cc)
@@ -85,7 +75,7 @@ module _ {job : JobView} {history : List Event} {gate : GateView} {waiting : Lis
   ready_goes : (k pause : ℕ) (call : Captured) → IsCallAt job.calls k call → IsPauseIn job call pause → IsReady gate k → Goes k pause
   ready_goes k pause call at paused ready = record {
     is_call = (call, at, paused);
-    fresh = λ started. out (is_in gate.started k) ready.fresh ((is.started k).1 started);
+    fresh = λ started. both_ways (is_in gate.started k) ready.fresh ((is.started k).1 started);
     turn = λ other before j ot bt just.
         let before_it = just_is_before job.calls job.facts (in_place job is.replayable) is.replayable.known j k before other bt ot just in
         (is.answered j).0 (ready.turn j (subst (λ facts. IsBefore facts k j) (sym is.facts) before_it));
@@ -116,8 +106,8 @@ module _ {job : JobView} {history : List Event} {gate : GateView} {waiting : Lis
   ready_tells k = (
     λ ready.
         let call = call_there k ready in
-        let pause = has_pause job is.replayable k call.0 call.1 in
-        (pause.0, legal_start job.calls (Requires job) (IsPauseIn job) history k pause.0 is.legal (ready_goes k pause.0 call.0 call.1 pause.1 ready)),
+        let pause = pause_before job.calls job.connect job.think call.0 in
+        (pause, legal_start job.calls (Requires job) (IsPauseIn job) history k pause is.legal (ready_goes k pause call.0 call.1 refl ready)),
     λ may. goes_ready k may.0 (start_legal job.calls (Requires job) (IsPauseIn job) history k may.0 may.1),
   )
 
@@ -130,7 +120,7 @@ module _ {job : JobView} {history : List Event} {gate : GateView} {waiting : Lis
   waiting_tells k = (
     λ there.
         let parts = both (is_in gate.started k) (is_in gate.answered k) (sym (is.between k) ∙ there) in
-        ((is.started k).0 parts.0, λ answered. out (is_in gate.answered k) parts.1 ((is.answered k).1 answered)),
+        ((is.started k).0 parts.0, λ answered. both_ways (is_in gate.answered k) parts.1 ((is.answered k).1 answered)),
     λ waits. let parts = open_in_gate k waits in is.between k ∙ rw (parts.0, parts.1) refl,
   )
 
@@ -221,7 +211,7 @@ module _ {job : JobView} {history : List Event} {gate : GateView} {waiting : Lis
     | inl done ↦
         let at = (is.answered k).0 done in
         let begun = is.legal.answer_started at.0 k at.1 at.2 in
-        absurd (out (is_in gate.started k) ready.fresh ((is.started k).1 (begun.0, begun.1, begun.3)))
+        absurd (both_ways (is_in gate.started k) ready.fresh ((is.started k).1 (begun.0, begun.1, begun.3)))
     | inr unanswered ↦ unanswered
   ]
 
@@ -235,7 +225,7 @@ module _ {job : JobView} {history : List Event} {gate : GateView} {waiting : Lis
   start_waits k pause may = (
     (length history, pause, last_at history (Start k pause)),
     λ done. elim (answered_in history (Start k pause) k done) [
-      | inl before ↦ out (is_in gate.answered k) (still k ((ready_tells k).1 may)) ((is.answered k).1 before)
+      | inl before ↦ both_ways (is_in gate.answered k) (still k ((ready_tells k).1 may)) ((is.answered k).1 before)
       | inr new ↦ absurd (cc (new.1))
     ],
   )
@@ -267,8 +257,8 @@ new_follows job replayable = record {
   started_len = length-replicate (length job.facts) false ∙ replayable.known.count;
   answered_len = length-replicate (length job.facts) false ∙ replayable.known.count;
   waiting_len = length-replicate (length job.calls) false;
-  started = λ k. (λ there. absurd (out (is_in (replicate (length job.facts) false) k) (none_in (length job.facts) k) there), λ there. absurd (none_started k there));
-  answered = λ k. (λ there. absurd (out (is_in (replicate (length job.facts) false) k) (none_in (length job.facts) k) there), λ there. absurd (none_answered k there));
+  started = λ k. (λ there. absurd (both_ways (is_in (replicate (length job.facts) false) k) (none_in (length job.facts) k) there), λ there. absurd (none_started k there));
+  answered = λ k. (λ there. absurd (both_ways (is_in (replicate (length job.facts) false) k) (none_in (length job.facts) k) there), λ there. absurd (none_answered k there));
   between = λ k. rw (none_in (length job.calls) k, none_in (length job.facts) k) refl;
   events = let none = size_none (length job.facts) in omega (arith, none);
 }

@@ -2,52 +2,41 @@
 use Rattle.std.proofs.Common.{◌≡◌, ◌∙◌, ◌<◌, ℕ, zero, suc, Bool, true, false, List, [], ◌∷◌, length, refl, sym, ap, subst, inl, inr, arith}
 use Rattle.std.specs.Prelude.{◌||◌, ◌&&◌, nat_le, nat_lt, slice_get, slice_index, Some}
 use Rattle.std.specs.List.{Any, list_any}
-use Rattle.std.proofs.lemmas.Bool.{eq-eqb, false≢true, le-leb, leb-true, lt-ltb, ltb-true}
+use Rattle.std.proofs.lemmas.Bool.{false≢true, le-leb, leb-true, lt-ltb, ltb-true, and_parts, or_cases}
 use Rattle.std.proofs.lemmas.List.Folds.{Any-from_list_any, list_any-from_Any}
+use Rattle.std.proofs.Math.Bool.{or-true}
 use Rattle.desk_values.specs.declared.value.Value.{Value}
 use Rattle.desk_values.specs.declared.value.Value.TheVariants.{Null, Int, Text, Row, Draw}
 use Rattle.desk_values.specs.declared.value.Image.{Image}
 use Rattle.desk_values.specs.declared.capture.Captured.{Captured}
 use Rattle.desk_values.specs.Ids.{ids_of_image, is_id}
+use Rattle.desk_values.specs.Comparison.{same_key}
 use Rattle.desk_schema.specs.Start.{StartView}
+use Rattle.desk_schema.proofs.Drafting.{is_same, same_is}
 use Rattle.replay_history.specs.Capture.{IsKnown, IsRun, StandsIn}
-use Rattle.machine_model.specs.State.{State, is_between, is_given, is_same_id, opening, stands_in}
+use Rattle.machine_model.specs.State.{State, is_between, is_given, opening, stands_in}
 use Rattle.machine_model.specs.Step.{Gives}
 use Rattle.given_ids.specs.Counters.{IsPassed}
-use Rattle.given_ids.proofs.Members.{any_weaker, both, either, or_true, same_numbers}
+use Rattle.given_ids.proofs.Members.{any_weaker}
 use Rattle.given_ids.proofs.Runs.{run_count, run_fresh, run_gave, run_passed, run_start}
 
 -- ---- ids of rows
 
-same_is : (id other : Value) → is_same_id id other ≡ true → other ≡ id
-same_is (Row m) (Row n) is = ap Row (sym (same_numbers m n is))
-same_is (Draw p m) (Draw q n) is =
-    let parts = both _ _ is in
-    ap (λ s. Draw s n) (sym (same_numbers p q parts.0)) ∙ ap (Draw p) (sym (same_numbers m n parts.1))
-same_is _ _ is = absurd (false≢true is)
-
-is_same : (id other : Value) → is_id id ≡ true → other ≡ id → is_same_id id other ≡ true
-is_same id other is same = subst (λ (o : Value). is_same_id id o ≡ true) (sym same) (itself id is)
-  where
-    itself : (id : Value) → is_id id ≡ true → is_same_id id id ≡ true
-    itself (Row n) is = eq-eqb n n refl
-    itself (Draw q n) is = ap (λ (b : Bool). b && is_same_id (Row n) (Row n)) (eq-eqb q q refl) ∙ eq-eqb n n refl
-    itself Null is = absurd (false≢true is)
-    itself (Int n) is = absurd (false≢true is)
-    itself (Text text) is = absurd (false≢true is)
+no_null : (id : Value) → is_id id ≡ true → id ≡ Null → ⊥
+no_null id is e = false≢true (ap is_id (sym e) ∙ is)
 
 module _ (rows : List Image) (id : Value) where
   abbrev HasId : Image → Type 0
   HasId image = Any (λ other. other ≡ id) (ids_of_image image)
 
   abbrev has_id : Image → Bool
-  has_id image = list_any (is_same_id id) (ids_of_image image)
+  has_id image = list_any (same_key 1 id) (ids_of_image image)
 
   found : (image : Image) → has_id image ≡ true → HasId image
-  found image is = any_weaker (λ other. is_same_id id other ≡ true) (λ other. other ≡ id) (λ other same. same_is id other same) (ids_of_image image) (Any-from_list_any (is_same_id id) (ids_of_image image) is)
+  found image is = any_weaker (λ other. same_key 1 id other ≡ true) (λ other. other ≡ id) (λ other same. sym (same_is id other same)) (ids_of_image image) (Any-from_list_any (same_key 1 id) (ids_of_image image) is)
 
   finds : is_id id ≡ true → (image : Image) → HasId image → has_id image ≡ true
-  finds is image has = list_any-from_Any (is_same_id id) (ids_of_image image) (any_weaker (λ other. other ≡ id) (λ other. is_same_id id other ≡ true) (λ other same. is_same id other is same) (ids_of_image image) has)
+  finds is image has = list_any-from_Any (same_key 1 id) (ids_of_image image) (any_weaker (λ other. other ≡ id) (λ other. same_key 1 id other ≡ true) (λ other same. subst (λ (o : Value). same_key 1 id o ≡ true) (sym same) (is_same id (no_null id is))) (ids_of_image image) has)
 
   stands_there : stands_in rows id ≡ true → StandsIn rows id
   stands_there is = any_weaker (λ image. has_id image ≡ true) HasId found rows (Any-from_list_any has_id rows is)
@@ -59,7 +48,7 @@ module _ (rows : List Image) (id : Value) where
 
 number_new : (first end n : ℕ) → is_between (Some first) (Some end) n ≡ true → (n < end) × (n < first → ⊥)
 number_new first end n is =
-    let tests = both (nat_le first n) (nat_lt n end) is in
+    let tests = and_parts (nat_le first n) (nat_lt n end) is in
     let least = leb-true first n tests.0 in
     (ltb-true n end tests.1, λ less. omega (arith, least, less))
 
@@ -121,7 +110,7 @@ module _ (start : StartView) (calls : List Captured) (last : State) (id : Value)
 
   -- what is given after a run from the opening state is known from the start or from a call
   pub known_after : is_given last id ≡ true → IsKnown start.rows calls (length calls) id
-  known_after given is = elim (either (stands_in start.rows id) (is_new start last id) (sym (here is) ∙ given)) [
+  known_after given is = elim (or_cases (stands_in start.rows id) (is_new start last id) (sym (here is) ∙ given)) [
     | inl stands ↦ inl (stands_there start.rows id stands)
     | inr new ↦ (let passed = new_passed start last id new in elim (run_gave (opening start) last calls id run passed.0) [
       | inl old ↦ absurd (passed.1 old)
@@ -136,5 +125,5 @@ module _ (start : StartView) (calls : List Captured) (last : State) (id : Value)
     | inr later ↦ (
         let passed = run_passed (opening start) last calls later.0 later.1 id run later.3 later.4 in
         let new = passed_new start last id is (run_count (opening start) last calls run) passed (run_fresh (opening start) last calls later.0 later.1 id run later.3 later.4) in
-        ap (λ (b : Bool). stands_in start.rows id || b) new ∙ or_true (stands_in start.rows id))
+        ap (λ (b : Bool). stands_in start.rows id || b) new ∙ or-true (stands_in start.rows id))
   ])

@@ -1,8 +1,6 @@
--- Members of lists, and tests of them.
-use Rattle.std.proofs.Common.{◌≡◌, ◌⊎◌, ◌<◌, ℕ, zero, suc, Bool, true, false, List, [], ◌∷◌, length, get_or, refl, sym, subst, inl, inr, arith}
-use Rattle.std.specs.Prelude.{◌||◌, ◌&&◌, nat_eq}
+-- Members of lists.
+use Rattle.std.proofs.Common.{◌≡◌, ◌⊎◌, ◌<◌, ℕ, zero, suc, List, [], ◌∷◌, length, get_or, refl, sym, subst, inl, inr, arith}
 use Rattle.std.specs.List.{AllByRecursion, Any}
-use Rattle.std.proofs.lemmas.Bool.{false≢true}
 
 module _ {X : Type 0} (P : X → Type 0) where
   pub any_here : (x : X) (xs : List X) → P x → Any P (x ∷ xs)
@@ -29,18 +27,3 @@ module _ {X : Type 0} (P : X → Type 0) where
     | inl here ↦ (zero, x, omega arith, refl, (each.0, here))
     | inr later ↦ (let rest = any_also Q xs each.1 later in (suc rest.0, rest.1, omega (arith, rest.2), rest.3, rest.4))
   ]
-
-pub either : (a b : Bool) → (a || b) ≡ true → (a ≡ true) ⊎ (b ≡ true)
-either true b is = inl refl
-either false b is = inr is
-
-pub both : (a b : Bool) → (a && b) ≡ true → (a ≡ true) × (b ≡ true)
-both true b is = (refl, is)
-both false b is = absurd (false≢true is)
-
-pub same_numbers : (m n : ℕ) → nat_eq m n ≡ true → m ≡ n
-same_numbers m n is = grind (arith, is)
-
-pub or_true : (b : Bool) → (b || true) ≡ true
-or_true true = refl
-or_true false = refl

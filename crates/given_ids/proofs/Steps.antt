@@ -2,8 +2,9 @@
 use Rattle.std.proofs.Common.{◌≡◌, ◌∙◌, ◌⊎◌, ◌<◌, ◌≤◌, ℕ, zero, suc, ◌+◌, Bool, true, false, ◌||◌, List, [], ◌∷◌, length, refl, sym, ap, subst, inl, inr, zero-add, arith}
 use Rattle.std.specs.Prelude.{if◌then◌else◌, slice_index, Option, None, Some}
 use Rattle.std.specs.List.{AllByRecursion, Any, list_any}
-use Rattle.std.proofs.lemmas.Bool.{cases_lt, eq-eqb}
+use Rattle.std.proofs.lemmas.Bool.{cases_lt, eq-eqb, eqb-true}
 use Rattle.std.proofs.lemmas.List.Folds.{Any-from_list_any}
+use Rattle.std.proofs.Math.Bool.{or-true}
 use Rattle.desk_values.specs.declared.value.Value.{Value}
 use Rattle.desk_values.specs.declared.value.Value.TheVariants.{Null, Int, Text, Row, Draw}
 use Rattle.desk_values.specs.declared.call.Call.{Call}
@@ -12,10 +13,11 @@ use Rattle.replay_history.specs.Capture.{IsGivenBy}
 use Rattle.machine_model.specs.State.{State}
 use Rattle.machine_model.specs.Draws.{drawn_from, is_draw_of, moved}
 use Rattle.machine_model.specs.Step.{Gives, after_made, reply_in, step}
+use Rattle.machine_model.proofs.SoundSteps.{length_moved}
 use Rattle.given_ids.specs.Counters.{AreAtMost, IsPassed}
 use Rattle.given_ids.specs.Given.{GivesNext}
 use Rattle.given_ids.proofs.Giving.{reply_given}
-use Rattle.given_ids.proofs.Members.{any_split, or_true, same_numbers}
+use Rattle.given_ids.proofs.Members.{any_split}
 
 -- ---- rows
 
@@ -68,12 +70,12 @@ drawn_moves : (draws : List Value) (q n : ℕ) → Any (λ (drawn : Value). draw
 drawn_moves [] q n any = absurd (omega (arith, any.2))
 drawn_moves (draw ∷ draws) q n any = elim (any_split (λ (drawn : Value). drawn ≡ Draw q n) draw draws any) [
   | inl here ↦ ap (λ (b : Bool). b || list_any (is_draw_of q) draws) (ap (is_draw_of q) here ∙ eq-eqb q q refl)
-  | inr later ↦ ap (λ (b : Bool). is_draw_of q draw || b) (drawn_moves draws q n later) ∙ or_true (is_draw_of q draw)
+  | inr later ↦ ap (λ (b : Bool). is_draw_of q draw || b) (drawn_moves draws q n later) ∙ or-true (is_draw_of q draw)
 ]
 
 -- a sequence that moves has a draw
 draw_of : (q : ℕ) (x : Value) → is_draw_of q x ≡ true → (n : ℕ) × (x ≡ Draw q n)
-draw_of q (Draw p n) is = (n, ap (λ (s : ℕ). Draw s n) (same_numbers p q is))
+draw_of q (Draw p n) is = (n, ap (λ (s : ℕ). Draw s n) (eqb-true p q is))
 draw_of q Null is = cc
 draw_of q (Int n) is = cc
 draw_of q (Text text) is = cc
@@ -127,10 +129,6 @@ most_one false m bound le = omega (arith, le)
 moved_most : (draws : List Value) (from : ℕ) (ns : List ℕ) (bound : ℕ) → AllByRecursion (λ next. next ≤ bound) ns → AllByRecursion (λ next. next ≤ bound + 1) (moved draws from ns)
 moved_most draws from [] bound each = tt
 moved_most draws from (m ∷ ns) bound each = (most_one (list_any (is_draw_of from) draws) m bound each.0, moved_most draws (from + 1) ns bound each.1)
-
-pub moved_count : (draws : List Value) (from : ℕ) (ns : List ℕ) → length (moved draws from ns) ≡ length ns
-moved_count draws from [] = refl
-moved_count draws from (m ∷ ns) = ap suc (moved_count draws (from + 1) ns)
 
 -- ---- a reply
 
@@ -228,4 +226,4 @@ module _ (old new : State) (session : ℕ) (call : Call) (reply : Reply) (is : G
   step_start = ap (λ (s : State). s.start) is.1
 
   pub step_count : length new.next_values ≡ length old.next_values
-  step_count = ap (λ (s : State). length s.next_values) is.1 ∙ moved_count (reply_in old session call).draws 0 old.next_values
+  step_count = ap (λ (s : State). length s.next_values) is.1 ∙ length_moved (reply_in old session call).draws 0 old.next_values

@@ -1,13 +1,10 @@
 -- Items of lists by their places.
 use Rattle.std.proofs.Common.{◌≡◌, ℕ, zero, suc, ◌<◌, ◌⊎◌, inl, inr, List, [], ◌∷◌, ◌++◌, Option, Some, length, get_or, refl, sym, ap, ◌∙◌, arith}
 use Rattle.std.specs.Prelude.{slice_get}
-use Rattle.std.proofs.lemmas.Option.{slice_get_within, slice_get-get_or}
+use Rattle.std.proofs.lemmas.Option.{slice_get_within, slice_get-get_or, same_Some}
 
 abbrev pub some : {A : Type 0} → A → Option A
 some x = Some x
-
-pub some_is : {A : Type 0} (a b : A) → some a ≡ some b → b ≡ a
-some_is a b e = cc
 
 -- an item that a loop has at an index
 pub item_at : {A : Type 0} (items xs : List A) (i : ℕ) (x : A) → items ≡ xs → i < length items → x ≡ get_or items i x → slice_get xs i ≡ Some x
@@ -21,7 +18,7 @@ item_there (x ∷ xs) (suc i) lt = item_there xs i (omega arith)
 
 -- an item of a list with one more is one of the list, or the last
 pub at_push : {A : Type 0} (xs : List A) (x : A) (i : ℕ) (y : A) → slice_get (xs ++ x ∷ []) i ≡ Some y → (slice_get xs i ≡ Some y) ⊎ ((i ≡ length xs) × (x ≡ y))
-at_push [] x zero y e = inr (refl, sym (some_is x y e))
+at_push [] x zero y e = inr (refl, same_Some x y e)
 at_push [] x (suc i) y e = absurd cc
 at_push (z ∷ xs) x zero y e = inl e
 at_push (z ∷ xs) x (suc i) y e = elim (at_push xs x i y e) [

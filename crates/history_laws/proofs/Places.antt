@@ -1,19 +1,22 @@
 -- The calls of each session in a capture, by their places.
-use Rattle.std.proofs.Common.{◌≡◌, ◌≢◌, ℕ, zero, suc, ◌+◌, ◌-◌, ◌<◌, ◌≤◌, inl, inr, List, length, get_or, refl, sym, ap, ◌∙◌, arith}
+use Rattle.std.proofs.Common.{◌≡◌, ◌≢◌, ℕ, zero, suc, ◌+◌, ◌-◌, ◌<◌, ◌≤◌, inl, inr, Bool, true, List, [], ◌∷◌, Option, Some, None, length, get_or, refl, sym, ap, ◌∙◌, arith}
 use Rattle.std.specs.Prelude.{nat_eq, slice_get}
-use Rattle.std.proofs.lemmas.Bool.{cases_eq, cases_lt}
+use Rattle.std.specs.List.{find, position_or_len}
+use Rattle.std.proofs.lemmas.Bool.{both_ways, cases_eq, cases_lt, eq-eqb}
 use Rattle.std.proofs.lemmas.Bool.Decides.{eqb_tells}
+use Rattle.std.proofs.lemmas.List.Folds.{find_at}
 use Rattle.std.proofs.lemmas.List.Sums.{count_by_more_yes, count_by_more_no}
-use Rattle.std.proofs.lemmas.Option.{slice_get_within, slice_get-get_or, get_or_from_slice_get}
+use Rattle.std.proofs.lemmas.Option.{slice_get_within, slice_get-get_or, get_or_from_slice_get, none-some, same_Some}
 use Rattle.desk_values.specs.declared.capture.Captured.{Captured}
-use Rattle.replay_history.specs.Gap.{IsCallAt, IsJustBefore}
+use Rattle.desk_values.proofs.Options.{chosen}
+use Rattle.desk_values.proofs.Words.{find_passes}
+use Rattle.replay_history.specs.Gap.{IsCallAt, IsGap, IsJustBefore, gap_behind, gap_of, is_just_before}
 use Rattle.replay_history.specs.Capture.{session_calls_before}
 use Rattle.history_laws.specs.Laws.{IsOneBefore, IsOneGap}
 use Rattle.history_laws.specs.Places.{AreInPlace}
-use Rattle.history_laws.proofs.Items.{some_is}
 
 pub same_call : (calls : List Captured) (k : ℕ) (a b : Captured) → IsCallAt calls k a → IsCallAt calls k b → a ≡ b
-same_call calls k a b at bt = some_is b a (sym bt ∙ at)
+same_call calls k a b at bt = same_Some a b (sym at ∙ bt)
 
 -- ---- how many calls of a session there are before a stamp
 
@@ -70,6 +73,39 @@ last_below calls s (suc k) d within some_there =
           record { j = last.j; below = omega (arith, last.below); call = last.call; at = last.at; own = last.own; count = last.count ∙ sym same ∙ counts }
     ]
 
+-- ---- the call just before
+
+just_passes : (before call : Captured) → IsJustBefore before call → is_just_before before call ≡ true
+just_passes before call just =
+    let own : nat_eq before.session call.session ≡ true = eq-eqb before.session call.session just.session in
+    let next : nat_eq (suc before.place) call.place ≡ true = eq-eqb (suc before.place) call.place just.place in
+    rw (own, next) refl
+
+passes_just : (before call : Captured) → is_just_before before call ≡ true → IsJustBefore before call
+passes_just before call passes = elim (eqb_tells before.session call.session) [
+  | inl own ↦ elim (eqb_tells (suc before.place) call.place) [
+    | inl next ↦ record { session = own.1; place = next.1 }
+    | inr next ↦ absurd (both_ways (is_just_before before call) (rw (own.0, next.0) refl) passes)
+  ]
+  | inr other ↦ absurd (both_ways (is_just_before before call) (rw other.0 refl) passes)
+]
+
+-- where one passes, one is found
+found_none : {X : Type 0} (test : X → Bool) (xs : List X) (k : ℕ) (x : X) → slice_get xs k ≡ Some x → test x ≡ true → find test xs ≡ None → ⊥
+found_none test [] k x at passes none = absurd (none-some x at)
+found_none test (y ∷ ys) zero x at passes none = elim (chosen (test y) (Some y) (find test ys) None none) [
+  | inl hit ↦ none-some y (sym hit.1)
+  | inr miss ↦ both_ways (test y) miss.0 (ap test (same_Some y x at) ∙ passes)
+]
+found_none test (y ∷ ys) (suc k) x at passes none = elim (chosen (test y) (Some y) (find test ys) None none) [
+  | inl hit ↦ none-some y (sym hit.1)
+  | inr miss ↦ found_none test ys k x at passes miss.1
+]
+
+gap_within : (found : Option Captured) (call : Captured) → gap_behind found call ≤ call.began
+gap_within None call = omega arith
+gap_within (Some before) call = omega arith
+
 -- ---- the calls of a legal capture
 
 module _ (calls : List Captured) (each : AreInPlace calls) where
@@ -124,16 +160,26 @@ module _ (calls : List Captured) (each : AreInPlace calls) where
       let just = just_before k call at later in
       (just.0, just.1, (stands_before just.0 k just.1 call just.2 at just.3, just.2, just.3, same_before k call just.0 just.1 at just.2 just.3))
 
-  pub one_gap : (k : ℕ) (call : Captured) → IsCallAt calls k call → (gap : ℕ) × IsOneGap calls call gap
-  one_gap k call at = elim (cases_eq call.place 0) [
-    | inl first ↦ (call.began, ((λ _. refl, λ j before bt just. absurd (omega (arith, just.place, first))), omega arith, λ other is. is.0 first))
-    | inr later ↦
-        let b = one_before k call at (omega (arith, later)) in (
-          call.began - b.1.ended,
-          (
-            (λ first. absurd (later first), λ j before bt just. ap (λ (c : Captured). call.began - c.ended) (sym (b.2.3 j before bt just).1)),
-            omega arith,
-            λ other is. is.1 b.0 b.1 b.2.1 b.2.2,
-          ),
-        )
-  ]
+  -- what is found just before a call is the one that stands there
+  gap_holds : (k : ℕ) (call : Captured) → IsCallAt calls k call → IsGap calls call (gap_of calls call)
+  gap_holds k call at = of_found (find (λ before. is_just_before before call) calls) refl where
+    of_found : (found : Option Captured) → find (λ before. is_just_before before call) calls ≡ found → IsGap calls call (gap_behind found call)
+    of_found None e = (λ _. refl, λ j before bt just. absurd (found_none (λ other. is_just_before other call) calls j before bt (just_passes before call just) e))
+    of_found (Some before) e =
+        let just = passes_just before call (find_passes (λ other. is_just_before other call) calls before e) in
+        let bt = sym (find_at (λ other. is_just_before other call) calls) ∙ e in
+        let i = position_or_len (λ other. is_just_before other call) calls in
+        (λ first. absurd (omega (arith, first, just.place)), λ j other ot too. ap (λ (c : Captured). call.began - c.ended) (sym (same_before k call i before at bt just j other ot too).1))
+
+  pub one_gap : (k : ℕ) (call : Captured) → IsCallAt calls k call → IsOneGap calls call (gap_of calls call)
+  one_gap k call at =
+      let holds = gap_holds k call at in (
+        holds,
+        gap_within (find (λ before. is_just_before before call) calls) call,
+        λ other is. elim (cases_eq call.place 0) [
+          | inl first ↦ is.0 first ∙ sym (holds.0 first)
+          | inr later ↦
+              let b = one_before k call at (omega (arith, later)) in
+              is.1 b.0 b.1 b.2.1 b.2.2 ∙ sym (holds.1 b.0 b.1 b.2.1 b.2.2)
+        ],
+      )

@@ -4,7 +4,7 @@ use Rattle.desk_values.specs.declared.call.Reply.{Reply}
 use Rattle.desk_values.specs.declared.capture.Captured.{Captured}
 use Rattle.desk_values.specs.declared.capture.Event.{Event}
 use Rattle.desk_values.specs.declared.capture.Event.TheVariants.{Start, Answer}
-use Rattle.replay_history.specs.Gap.{IsCallAt, IsGap, IsJustBefore}
+use Rattle.replay_history.specs.Gap.{IsCallAt, IsGap, IsJustBefore, gap_of}
 use Rattle.replay_history.specs.History.{IsLegalHistory, IsTruthfulHistory, IsWaiting}
 use Rattle.history_laws.specs.Going.{MayGo}
 use Rattle.history_laws.specs.Places.{AreInPlace}
@@ -42,4 +42,4 @@ abbrev pub IsOneGap : List Captured → Captured → ℕ → Type 0
 IsOneGap calls call gap = IsGap calls call gap × (gap ≤ call.began) × ((other : ℕ) → IsGap calls call other → other ≡ gap)
 
 abbrev pub CallsHaveOneGap : Type 0
-CallsHaveOneGap = (calls : List Captured) → AreInPlace calls → (k : ℕ) (call : Captured) → IsCallAt calls k call → (gap : ℕ) × IsOneGap calls call gap
+CallsHaveOneGap = (calls : List Captured) → AreInPlace calls → (k : ℕ) (call : Captured) → IsCallAt calls k call → IsOneGap calls call (gap_of calls call)

@@ -3,12 +3,12 @@ use Rattle.std.specs.Prelude.{◌≡◌, ℕ, ◌<◌, List}
 use Rattle.desk_values.specs.declared.capture.Captured.{Captured}
 use Rattle.desk_values.specs.declared.limits.TheConstants.{SESSION_LIMIT}
 use Rattle.replay_history.specs.Gap.{IsCallAt}
-use Rattle.replay_history.specs.Capture.{session_calls_before}
+use Rattle.replay_history.specs.Capture.{HasPlace}
 
 -- the call has a session's number, and as many calls of its session before it as it says
 pub record IsInPlace (calls : List Captured) (k : ℕ) (call : Captured) : Type 0 where
   pub session : call.session < SESSION_LIMIT
-  pub place : call.place ≡ session_calls_before calls call.session k
+  pub place : HasPlace calls k call
 
 -- so have the calls of a legal capture
 abbrev pub AreInPlace : List Captured → Type 0

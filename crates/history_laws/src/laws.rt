@@ -41,7 +41,7 @@ pub fn calls_keep_their_order()
     ensures before { CallsHaveOneBefore }
 {}
 
-/// Each call has one time before it, and that is no longer than from the capture's start to the call.
+/// Each call has one time before it, the one that `gap_of` gives, and that is no longer than from the capture's start to the call.
 pub fn calls_have_one_gap()
     ensures { CallsHaveOneGap }
 {}

@@ -1,6 +1,6 @@
 -- The test of two ids.
-use Rattle.std.proofs.Common.{◌≡◌, ◌==◌, ◌&&◌, Bool, true, false, refl, ap}
-use Rattle.std.proofs.lemmas.Bool.{eqb-true, eq-eqb}
+use Rattle.std.proofs.Common.{◌≡◌, ◌==◌, Bool, refl, ap}
+use Rattle.std.proofs.lemmas.Bool.{eqb-true, eq-eqb, and_parts}
 use Rattle.std.specs.Bool.{Decides}
 use Rattle.std.specs.Cmp.{IsEquivalence, decided}
 use Rattle.id_pairs.specs.declared.Id.{Id}
@@ -8,15 +8,10 @@ use Rattle.id_pairs.specs.declared.Id.TheVariants.{Row, Draw}
 use Rattle.id_pairs.specs.Ids.{same_id}
 use Rattle.id_pairs.specs.contracts.IdPartialEq.TheImpl as derived
 
-both_true : (a b : Bool) → (a && b) ≡ true → (a ≡ true) × (b ≡ true)
-both_true true true e = (refl, refl)
-both_true true false e = cc
-both_true false b e = cc
-
 -- it tells whether they are one
 pub same_decides : (a b : Id) → Decides (same_id a b) (a ≡ b)
 same_decides (Row a) (Row b) = (λ e. ap Row (eqb-true a b e), λ e. eq-eqb a b (cc))
-same_decides (Draw p a) (Draw q b) = (λ e. let t = both_true (p == q) (a == b) e in let s = eqb-true p q t.0 in let u = eqb-true a b t.1 in cc, λ e. let s : p ≡ q = cc in let t : a ≡ b = cc in rw (eq-eqb p q s, eq-eqb a b t) refl)
+same_decides (Draw p a) (Draw q b) = (λ e. let t = and_parts (p == q) (a == b) e in let s = eqb-true p q t.0 in let u = eqb-true a b t.1 in cc, λ e. let s : p ≡ q = cc in let t : a ≡ b = cc in rw (eq-eqb p q s, eq-eqb a b t) refl)
 same_decides (Row a) (Draw q b) = (λ e. absurd (cc), λ e. absurd (cc))
 same_decides (Draw p a) (Row b) = (λ e. absurd (cc), λ e. absurd (cc))
 

@@ -1,11 +1,12 @@
 -- What is known of the calls of a job.
 use Rattle.std.proofs.Common.{◌≡◌, ℕ, zero, suc, ◌+◌, ◌<◌, ◌≤◌, Bool, true, false, cond, List, [], ◌∷◌, length, take, map, refl, sym, ap, subst, ◌∙◌, arith, rules}
-use Rattle.std.specs.Prelude.{Option, None, Some, Result, Ok, nat_lt, slice_get, if◌then◌else◌, count_by}
+use Rattle.std.specs.Prelude.{None, Ok, nat_lt, slice_get, if◌then◌else◌, count_by}
 use Rattle.std.specs.List.{AllByRecursion}
 use Rattle.std.proofs.lemmas.List.{length-map}
 use Rattle.std.proofs.lemmas.List.Elements.{recursion_from_All, All-from_recursion}
 use Rattle.std.proofs.lemmas.List.Sorted.{All-permutation}
 use Rattle.std.proofs.lemmas.List.Sums.{sum_by-cons}
+use Rattle.std.proofs.lemmas.Option.{same_Some}
 use Rattle.desk_values.specs.declared.value.Image.{Image}
 use Rattle.desk_values.specs.declared.capture.Captured.{Captured}
 use Rattle.replay_history.specs.Capture.{FitsIn, commits, commits_before}
@@ -17,13 +18,12 @@ use Rattle.desk_values.specs.declared.limits.TheConstants.{LAST_MOMENT}
 use Rattle.capture_format.specs.SessionFile.{AreCallsFrom}
 use Rattle.capture_laws.specs.Sessions.{AreSessionsFrom}
 use Rattle.capture_laws.specs.Stamps.{all_calls, by_stamp}
-use Rattle.capture_laws.proofs.Members.{each_joined}
+use Rattle.capture_laws.proofs.Members.{get_there, each_get}
 use Rattle.capture_laws.proofs.Permuted.{stamped_are_all}
-use Rattle.capture_verdict.specs.declared.refusal.Refusal.{Refusal}
 use Rattle.capture_verdict.specs.Facts.{fact_of, facts_of}
 use Rattle.capture_verdict.specs.Tests.{bad_stamp, too_many}
-use Rattle.capture_verdict.specs.Verdict.{IsLegal, Plan, fault_of, or_else, verdict, verdict_of}
-use Rattle.capture_verdict.proofs.Legality.{all_stamped, plan_legal, plan_sound}
+use Rattle.capture_verdict.specs.Verdict.{IsLegal, Plan, fault_of, verdict, verdict_of}
+use Rattle.capture_verdict.proofs.Legality.{all_stamped, plan_legal, plan_sound, ok_is, passed}
 use Rattle.desk_schema.specs.File.{IsStart}
 use Rattle.desk_schema.specs.Sound.{IsSoundStart}
 use Rattle.desk_schema.proofs.Files.{sound_start}
@@ -33,14 +33,7 @@ use Rattle.replay_history.specs.declared.mode.Mode.TheVariants.{Order}
 use Rattle.replay_job.specs.Job.{AreKnownOf, HasMoments, IsKnownOf, IsTarget, JobView}
 use Rattle.replay_job.specs.Replays.{IsSoundJob}
 use Rattle.job_laws.specs.Jobs.{IsTrial, job_of, plain_fact}
-
-some_is : {X : Type 0} (a b : X) → ◌≡◌ {A = Option X} (Some a) (Some b) → a ≡ b
-some_is a b e = cc
-
-call_within : (calls : List Captured) (k : ℕ) → k < length calls → (call : Captured) × IsCallAt calls k call
-call_within [] k within = absurd (omega (arith, within))
-call_within (call ∷ calls) zero within = (call, refl)
-call_within (call ∷ calls) (suc k) within = call_within calls k (omega (arith, within))
+use Rattle.capture_format.proofs.Cuts.{all_append}
 
 count_cons : {X : Type 0} (p : X → Bool) (x : X) (xs : List X) → count_by p (x ∷ xs) ≡ cond (p x) 1 0 + count_by p xs
 count_cons p x xs = sum_by-cons _ x xs
@@ -49,7 +42,7 @@ count_cons p x xs = sum_by-cons _ x xs
 module _ (fact_of : Captured → Fact) (known : (call : Captured) → IsKnownOf call (fact_of call)) where
   fact_is : (calls : List Captured) (k : ℕ) (call : Captured) → IsCallAt calls k call → fact_at (map fact_of calls) k ≡ fact_of call
   fact_is [] k call at = cc
-  fact_is (first ∷ calls) zero call at = ap fact_of (some_is first call at)
+  fact_is (first ∷ calls) zero call at = ap fact_of (same_Some first call at)
   fact_is (first ∷ calls) (suc k) call at = fact_is calls k call at
 
   each_known : (calls : List Captured) (k : ℕ) (call : Captured) → IsCallAt calls k call → IsKnownOf call (fact_at (map fact_of calls) k)
@@ -86,7 +79,7 @@ module _ (fact_of : Captured → Fact) (known : (call : Captured) → IsKnownOf 
   -- those of a legal capture are sound
   pub are_sound : (rows : List Image) (calls : List Captured) → ((k : ℕ) (call : Captured) → IsCallAt calls k call → FitsIn rows calls k call) → AreSound (map fact_of calls)
   are_sound rows calls each k within =
-      let there = call_within calls k (omega (arith, within, length-map calls fact_of)) in
+      let there = get_there calls k (omega (arith, within, length-map calls fact_of)) in
       let call = there.0 in
       let fits = each k call there.1 in
       let is = fact_is calls k call there.1 in
@@ -100,18 +93,6 @@ module _ (fact_of : Captured → Fact) (known : (call : Captured) → IsKnownOf 
 
 -- ---- what a verdict gives
 
-passed : (fault : Option Refusal) (others : Result Plan Refusal) (plan : Plan) → or_else fault others ≡ Ok plan → (fault ≡ None) × (others ≡ Ok plan)
-passed None others plan is = (refl, is)
-passed (Some fault) others plan is = cc
-
-same_plan : (a b : Plan) → ◌≡◌ {A = Result Plan Refusal} (Ok a) (Ok b) → b ≡ a
-same_plan a b e = cc
-
-pub at_each : {X : Type 0} (P : X → Type 0) (xs : List X) (k : ℕ) (x : X) → AllByRecursion P xs → slice_get xs k ≡ Some x → P x
-at_each P [] k x all at = cc
-at_each P (y ∷ ys) zero x all at = subst P (some_is y x at) all.0
-at_each P (y ∷ ys) (suc k) x all at = at_each P ys k x all.1 at
-
 abbrev IsInTime : Captured → Type 0
 IsInTime call = call.began ≤ LAST_MOMENT
 
@@ -121,7 +102,7 @@ calls_in_time session place least (call ∷ calls) are = (are.0.began, calls_in_
 
 lists_in_time : (session : ℕ) (lists : List (List Captured)) → AreSessionsFrom session lists → AllByRecursion IsInTime (all_calls lists)
 lists_in_time session [] are = tt
-lists_in_time session (calls ∷ lists) are = each_joined IsInTime calls (all_calls lists) (calls_in_time session 0 0 calls are.0) (lists_in_time (session + 1) lists are.1)
+lists_in_time session (calls ∷ lists) are = all_append IsInTime calls (all_calls lists) (calls_in_time session 0 0 calls are.0) (lists_in_time (session + 1) lists are.1)
 
 known_fact : (start : StartView) (call : Captured) → IsKnownOf call (fact_of start.schema call)
 known_fact start call = record { session = refl; seen = refl; number = refl }
@@ -139,7 +120,7 @@ module _ (start : StartView) (lists : List (List Captured)) (plan : Plan) (is : 
   stamps = passed (bad_stamp (all_calls lists)) (verdict_of start ordered) plan (passed (too_many (all_calls lists)) _ plan is).1
 
   plan_is : plan ≡ record { calls = ordered; facts = facts_of start.schema ordered }
-  plan_is = same_plan _ plan (passed (fault_of start ordered) _ plan stamps.1).1
+  plan_is = ok_is _ plan (passed (fault_of start ordered) _ plan stamps.1).1
 
   -- what is known of the calls agrees with them
   pub plan_known : AreSound plan.facts → AreKnownOf plan.calls plan.facts
@@ -149,7 +130,7 @@ module _ (start : StartView) (lists : List (List Captured)) (plan : Plan) (is : 
   pub plan_moments : AreSessionsFrom 0 lists → HasMoments plan.calls
   plan_moments are k call at =
       let all : AllByRecursion IsInTime ordered = recursion_from_All IsInTime ordered (All-permutation IsInTime (all_calls lists) ordered (stamped_are_all (all_calls lists) (all_stamped (all_calls lists) stamps.0)) (All-from_recursion IsInTime (all_calls lists) (lists_in_time 0 lists are))) in
-      at_each IsInTime ordered k call all (ap (λ (cs : List Captured). slice_get cs k) (sym (ap (λ (p : Plan). p.calls) plan_is)) ∙ at)
+      each_get IsInTime ordered k call all (ap (λ (cs : List Captured). slice_get cs k) (sym (ap (λ (p : Plan). p.calls) plan_is)) ∙ at)
 
 -- ---- jobs
 

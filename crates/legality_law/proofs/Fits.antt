@@ -11,7 +11,7 @@ use Rattle.desk_values.specs.declared.capture.Captured.{Captured}
 use Rattle.desk_schema.specs.Start.{StartView}
 use Rattle.machine_model.specs.State.{State, opening}
 use Rattle.machine_model.specs.Step.{Gives, run, step}
-use Rattle.replay_history.specs.Capture.{IsKnown, IsRun, binds_of}
+use Rattle.replay_history.specs.Capture.{IsKnown, IsRun, binds_of, commits_in}
 use Rattle.capture_laws.specs.Known.{ids_known, is_stranger}
 use Rattle.capture_laws.specs.Moments.{ended_in}
 use Rattle.capture_laws.specs.Same.{same_reply}
@@ -20,7 +20,7 @@ use Rattle.capture_laws.proofs.Sameness.{reply_decided}
 use Rattle.capture_laws.proofs.Strangers.{not_stranger}
 use Rattle.capture_verdict.specs.declared.refusal.Refusal.{Refusal}
 use Rattle.capture_verdict.specs.declared.refusal.Refusal.TheVariants.{Reply as OtherReply}
-use Rattle.capture_verdict.specs.Tests.{asked, bad_ids, bad_number, bad_reply, bad_seen, bad_times, commits_in, first_refused, right_number, right_reply, unless}
+use Rattle.capture_verdict.specs.Tests.{asked, bad_ids, bad_number, bad_reply, bad_seen, bad_times, first_refused, right_number, right_reply, unless}
 use Rattle.capture_verdict.specs.Verdict.{IsLegal, fault_of}
 use Rattle.capture_verdict.proofs.Legality.{run_more}
 use Rattle.legality_law.proofs.Walks.{none_refused}

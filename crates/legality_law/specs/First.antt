@@ -1,22 +1,19 @@
 -- Where a test that goes over calls first fails, and the plan of calls.
-use Rattle.std.specs.Prelude.{◌≡◌, ℕ, ◌<◌, List, ◌++◌, take, Option, None, Some, Ok}
+use Rattle.std.specs.Prelude.{◌≡◌, ℕ, ◌<◌, List, ◌++◌, take, None, Some, Ok}
 use Rattle.desk_values.specs.declared.capture.Captured.{Captured}
 use Rattle.desk_schema.specs.Start.{StartView}
 use Rattle.replay_history.specs.Gap.{IsCallAt}
 use Rattle.capture_verdict.specs.declared.refusal.Refusal.{Refusal}
+use Rattle.capture_laws.specs.Scan.{Test}
 use Rattle.capture_verdict.specs.Facts.{facts_of}
 use Rattle.capture_verdict.specs.Verdict.{Plan, verdict}
 
--- a test sees a call and those before it
-abbrev pub Test : Type 0
-Test = List Captured → Captured → Option Refusal
-
 -- the calls before this place pass the test
-abbrev pub PassBefore : Test → List Captured → List Captured → ℕ → Type 0
+abbrev pub PassBefore : Test Refusal → List Captured → List Captured → ℕ → Type 0
 PassBefore test before calls k = (j : ℕ) (call : Captured) → j < k → IsCallAt calls j call → test (before ++ take j calls) call ≡ None
 
 -- behind other calls, the test refuses a call so, and none before it
-pub record IsFirstRefused (test : Test) (before calls : List Captured) (refusal : Refusal) : Type 0 where
+pub record IsFirstRefused (test : Test Refusal) (before calls : List Captured) (refusal : Refusal) : Type 0 where
   pub place : ℕ
   pub call : Captured
   pub there : IsCallAt calls place call
@@ -24,7 +21,7 @@ pub record IsFirstRefused (test : Test) (before calls : List Captured) (refusal 
   pub earlier : PassBefore test before calls place
 
 -- each call passes
-abbrev pub IsNeverRefused : Test → List Captured → List Captured → Type 0
+abbrev pub IsNeverRefused : Test Refusal → List Captured → List Captured → Type 0
 IsNeverRefused test before calls = (k : ℕ) (call : Captured) → IsCallAt calls k call → test (before ++ take k calls) call ≡ None
 
 -- the plan of calls by stamp: they, and what is known of each

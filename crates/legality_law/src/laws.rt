@@ -1,20 +1,20 @@
 //! Laws of the verdict. A call does nothing: its clause is the law.
 
-ghost use Rattle.std.specs.Prelude.{◌≡◌, ◌≤◌, ◌↔◌, ℕ, true, List, length, take, None, Ok, Some};
+ghost use Rattle.std.specs.Prelude.{◌≡◌, ◌≤◌, ◌↔◌, ℕ, true, List, length, None, Ok, Some};
 ghost use Rattle.std.specs.List.Sorted.{IsPermutation};
 ghost use Rattle.desk_values.specs.declared.capture.Captured.{Captured};
 ghost use Rattle.desk_schema.specs.Schema.{SchemaView};
 ghost use Rattle.desk_schema.specs.Start.{StartView};
-ghost use Rattle.replay_history.specs.Capture.{commits_before, number_of};
 ghost use Rattle.replay_history.specs.Gap.{IsCallAt};
 ghost use Rattle.capture_verdict.specs.declared.refusal.Refusal.{Refusal};
+ghost use Rattle.capture_laws.specs.Scan.{Test};
 ghost use Rattle.capture_laws.specs.Sessions.{AreSessionsFrom};
 ghost use Rattle.capture_laws.specs.Stamps.{all_calls, by_stamp};
 ghost use Rattle.object_depends.specs.Facts.{has_table};
 ghost use Rattle.capture_verdict.specs.Facts.{fact_of};
-ghost use Rattle.capture_verdict.specs.Tests.{bad_stamp, commits_in, first_refused, right_number};
+ghost use Rattle.capture_verdict.specs.Tests.{bad_stamp, first_refused};
 ghost use Rattle.capture_verdict.specs.Verdict.{CanBeLegal, IsLegal, verdict};
-ghost use Rattle.legality_law.specs.First.{IsFirstRefused, IsNeverRefused, IsTaken, Test, plan_of};
+ghost use Rattle.legality_law.specs.First.{IsFirstRefused, IsNeverRefused, IsTaken, plan_of};
 ghost use Rattle.legality_law.specs.Tables.{References, Writes};
 
 /// Where some order of the calls is a legal capture, the verdict takes them. That order is the one by stamp.
@@ -31,15 +31,9 @@ pub fn taken_where_legal()
 /// A test that goes over calls refuses at the first of them that it fails, and nowhere where each passes. Where each number
 /// is the stamp of one call, the place of a call among those by stamp is its stamp: so a refusal is at the least one.
 pub fn first_refused_by_place()
-    ensures refused { (test : Test) (before calls : List Captured) (refusal : Refusal) → (first_refused test before calls ≡ Some refusal) ↔ IsFirstRefused test before calls refusal }
-    ensures passed { (test : Test) (before calls : List Captured) → (first_refused test before calls ≡ None) ↔ IsNeverRefused test before calls }
+    ensures refused { (test : Test Refusal) (before calls : List Captured) (refusal : Refusal) → (first_refused test before calls ≡ Some refusal) ↔ IsFirstRefused test before calls refusal }
+    ensures passed { (test : Test Refusal) (before calls : List Captured) → (first_refused test before calls ≡ None) ↔ IsNeverRefused test before calls }
     ensures stamps { (calls : List Captured) (k : ℕ) (call : Captured) → bad_stamp calls ≡ None → IsCallAt (by_stamp calls) k call → call.stamp ≡ k }
-{}
-
-/// The values that the tests of numbers hold to be right are those of a legal capture.
-pub fn right_values_are_legal()
-    ensures number { (calls : List Captured) (k : ℕ) (call : Captured) → right_number (take k calls) call ≡ number_of calls k call }
-    ensures seen { (calls : List Captured) (k : ℕ) → commits_in (take k calls) ≡ commits_before calls k }
 {}
 
 /// The tables that are known of a call are those that it speaks of: a numbered commit wrote and references those of its images, any

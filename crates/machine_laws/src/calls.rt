@@ -4,6 +4,7 @@
 //! 100.
 
 use anyhow::anyhow;
+use case_text::Random;
 use desk_values::{Binds, Call, Copied, Txt, Value};
 use std::alloc::Global;
 
@@ -51,27 +52,6 @@ fn form_of(word: &str) -> Option<Form> {
         "gone" => Some(Form::Gone),
         "new" => Some(Form::New),
         _ => None,
-    }
-}
-
-/// Numbers that look random: a linear congruential generator of 64 bits (Knuth, MMIX), of which the upper half is taken.
-#[derive(Drop)]
-pub struct Random {
-    state: u64,
-}
-
-impl Random {
-    /// The generator at its fixed seed.
-    pub fn new() -> Random {
-        Random { state: 2026 }
-    }
-
-    /// The next number, below the limit; 0 where the limit is 0.
-    pub fn below(&mut self, limit: u32) -> u32 {
-        let state = self.state.wrapping_mul(6_364_136_223_846_793_005);
-        self.state = state.wrapping_add(1_442_695_040_888_963_407);
-        let number = u32::try_from(self.state >> 33).unwrap_or(0);
-        number.checked_rem(limit).unwrap_or(0)
     }
 }
 

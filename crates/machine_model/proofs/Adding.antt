@@ -3,6 +3,7 @@ use Rattle.std.proofs.Common.{◌≡◌, ℕ, ◌+◌, ◌<◌, ◌≤◌, List,
 use Rattle.std.specs.Prelude.{Bool, true, false, ◌||◌, ◌&&◌, if◌then◌else◌, Result, Ok}
 use Rattle.std.specs.Prelude.{nat_eq, None, Some}
 use Rattle.std.specs.List.{cons_option, filter, filter_map, list_any}
+use Rattle.std.proofs.Math.Bool.{or-false, or_assoc}
 use Rattle.std.proofs.lemmas.List.Folds.{list_any-append}
 use Rattle.desk_values.specs.declared.value.Value.{Value}
 use Rattle.desk_values.specs.Comparison.{same_key}
@@ -18,17 +19,9 @@ use Rattle.sql_tree.specs.Plain.{Term}
 use Rattle.machine_model.specs.Found.{Environment, faults_over, no_faults, row_faults, value_in}
 use Rattle.machine_model.specs.View.{key_of_table, keys_held}
 
-or_assoc : (a b c : Bool) → ((a || b) || c) ≡ (a || (b || c))
-or_assoc true b c = refl
-or_assoc false b c = refl
-
-or_false : (b : Bool) → (b || false) ≡ b
-or_false true = refl
-or_false false = refl
-
 pub joined_none : (f : Faults) → joined f no_faults ≡ f
 unfolding joined
-joined_none f = rw (or_false f.divides, or_false f.overflows) refl
+joined_none f = rw (or-false f.divides, or-false f.overflows) refl
 
 pub none_joined : (f : Faults) → joined no_faults f ≡ f
 unfolding joined
@@ -36,7 +29,7 @@ none_joined f = refl
 
 pub noted_ok : {A : Type 0} (f : Faults) (a : A) → noted f (Ok a) ≡ f
 unfolding noted
-noted_ok f a = rw (or_false f.divides, or_false f.overflows) refl
+noted_ok f a = rw (or-false f.divides, or-false f.overflows) refl
 
 pub any_fault_none : {R A : Type 0} (part : R → Result A Fault) → any_fault part [] ≡ no_faults
 unfolding any_fault
@@ -115,10 +108,6 @@ module _ {X Y : Type 0} (g : X → Y) (xs : List X) (i : ℕ) where
         kept_front false = refl
 
 -- ---- tests of what is chosen or joined
-
-and_false : (a : Bool) → (a && false) ≡ false
-and_false true = refl
-and_false false = refl
 
 any_of_table : (level table : ℕ) (key : Value) (held : List HeldKey) → list_any (λ (h : HeldKey). nat_eq h.table table && same_key level key h.key) held ≡ list_any (same_key level key) (filter_map (key_of_table table) held)
 any_of_table level table key [] = refl

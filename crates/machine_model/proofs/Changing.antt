@@ -12,7 +12,7 @@ use Rattle.machine_model.specs.Rows.{row_key}
 use Rattle.machine_model.specs.View.{View, is_held}
 use Rattle.machine_model.specs.Writes.{any_value, exceeds, leaves, repeats_key, updated, violates_not_null}
 use Rattle.machine_model.specs.Answer.{update_causes}
-use Rattle.machine_model.specs.Inside.Parts.{meets_hold, update_first}
+use Rattle.machine_model.specs.Inside.FirstCauses.{meets_hold, update_first}
 use Rattle.machine_model.proofs.Adding.{any_filtered}
 use Rattle.machine_model.proofs.Refusing.{first_of}
 

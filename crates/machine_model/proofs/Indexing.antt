@@ -11,8 +11,9 @@ use Rattle.machine_model.specs.Rows.{IsRising, RisesFrom, lay, lay_all, of_table
 use Rattle.machine_model.specs.declared.session.Session.{Session}
 use Rattle.machine_model.specs.View.{rows_seen}
 use Rattle.machine_model.specs.Writes.{is_among}
-use Rattle.machine_model.specs.Inside.Rows.{lay_tables, place}
-use Rattle.machine_model.specs.Inside.Index.{AreIndexes, FindsRows, HasRows, is_of_table, row_at, row_under}
+use Rattle.machine_model.specs.Inside.Rows.{lay_tables, place, row_at}
+use Rattle.machine_model.specs.Inside.Index.{AreIndexes, FindsRows, HasRows, is_of_table, row_under}
+use Rattle.machine_model.proofs.Members.{each_at}
 use Rattle.machine_model.proofs.Stocking.{of_other, of_same}
 
 -- ---- the row of a number
@@ -62,6 +63,9 @@ own_rows_in whole n (x ∷ xs) up same =
 
 pub own_rows : (xs : List Image) → IsRising xs → AllByRecursion (λ x. row_at x.row xs ≡ Some x) xs
 own_rows xs up = own_rows_in xs 0 xs up (λ row le. refl)
+
+pub own_row : (xs : List Image) (i : ℕ) (x : Image) → IsRising xs → i < length xs → x ≡ get_or xs i x → row_at x.row xs ≡ Some x
+own_row xs i x up within read = rw (← read) at (each_at (λ (y : Image). row_at y.row xs ≡ Some y) xs i x within (own_rows xs up))
 
 -- a row that is found is among them
 pub found_among : (xs : List Image) (x : Image) → row_at x.row xs ≡ Some x → is_among xs x ≡ true

@@ -92,11 +92,6 @@ gone_between new x xs at gone is read apart = sym (gone_absent new xs x gone (λ
 pub gone_last : (new : Image) (xs : List Image) (at : ℕ) → is_there new ≡ false → at ≡ place new.row xs → length xs ≤ at → xs ≡ placed shown new xs
 gone_last new xs at gone is beyond = sym (gone_absent new xs new gone (λ within same. omega arith))
 
--- what stands is shown
-pub shown_there : (new : Image) (xs : List Image) → is_there new ≡ true → placed one new xs ≡ placed shown new xs
-shown_there new [] there = rw there refl
-shown_there new (x ∷ xs) there = grind (arith, nat_tests, there, shown_there new xs there)
-
 -- ---- rows keep rising
 
 pub rises_less : (m n : ℕ) (xs : List Image) → n ≤ m → RisesFrom m xs → RisesFrom n xs

@@ -1,5 +1,5 @@
 -- What holds of each member, as lists are put together and taken apart.
-use Rattle.std.proofs.Common.{ℕ, zero, suc, Bool, List, [], ◌∷◌, ◌++◌, map, get_or, take, set}
+use Rattle.std.proofs.Common.{ℕ, zero, suc, ◌<◌, Bool, List, [], ◌∷◌, ◌++◌, length, map, get_or, take, set, arith}
 use Rattle.std.specs.Prelude.{replicate}
 use Rattle.std.specs.List.{AllByRecursion, filter}
 use Rattle.std.proofs.lemmas.List.Elements.{All-append, All-filter, All-from_recursion, All-replicate, All-set, All-take, All-weaker, recursion_from_All}
@@ -26,6 +26,11 @@ module _ {X : Type 0} (P : X → Type 0) where
   pub each_mapped : {Y : Type 0} (f : Y → X) (ys : List Y) → AllByRecursion (λ y. P (f y)) ys → AllByRecursion P (map f ys)
   each_mapped f [] h = tt
   each_mapped f (y ∷ ys) h = (h.0, each_mapped f ys h.1)
+
+  pub each_at : (xs : List X) (i : ℕ) (d : X) → i < length xs → AllByRecursion P xs → P (get_or xs i d)
+  each_at [] i d within all = absurd (omega arith)
+  each_at (x ∷ xs) zero d within all = all.0
+  each_at (x ∷ xs) (suc i) d within all = each_at xs i d (omega arith) all.1
 
   pub one_of : (xs : List X) (i : ℕ) (d : X) → P d → AllByRecursion P xs → P (get_or xs i d)
   one_of [] i d h all = h

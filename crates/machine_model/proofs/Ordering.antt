@@ -1,10 +1,10 @@
 -- What a stable sort leaves: the list that putting the items in one by one leaves too.
-use Rattle.std.proofs.Common.{◌≡◌, ℕ, suc, ◌+◌, Bool, true, false, ◌||◌, List, [], ◌∷◌, get_or, map, if◌then◌else◌, refl, sym, ap, subst, ◌∙◌, arith}
+use Rattle.std.proofs.Common.{◌≡◌, ℕ, zero, suc, ◌+◌, Bool, true, false, ◌||◌, List, [], ◌∷◌, get_or, map, if◌then◌else◌, refl, sym, ap, subst, ◌∙◌, arith}
 use Rattle.std.specs.List.{AllByRecursion, filter, list_any}
-use Rattle.std.specs.List.Sorted.{IsSortedBy, IsStableBy, ties}
+use Rattle.std.specs.List.Sorted.{IsPermutation, IsSortedBy, IsStableBy, ties}
 use Rattle.std.specs.Cmp.{IsStrictWeakOrder}
 use Rattle.std.proofs.lemmas.List.Elements.{recursion_from_All}
-use Rattle.std.proofs.lemmas.List.Sorted.{sorted_far}
+use Rattle.std.proofs.lemmas.List.Sorted.{IsPermutation-cons, IsPermutation-middle, IsPermutation-refl, IsPermutation-sym, IsPermutation-trans, sorted_far}
 use denote.Ref.{Bor}
 use Rattle.std.specs.Prelude.{ℤ, pos, ◌==◌}
 use Rattle.std.specs.Ordering.{is_lt, nat_cmp, int_cmp, ordering_reverse, ordering_then, then_cmp, on}
@@ -78,6 +78,14 @@ module _ {X : Type 0} (lt : X → X → Bool) where
     itself : (x : X) → lt x x ≡ false
     itself x = elim (lt x x) as (λ b. lt x x ≡ b → lt x x ≡ false) [ true ↦ λ is. o.one_way x x is | false ↦ λ is. is ] refl
 
+    sorted_from : (xs : List X) → InOrder xs → IsSortedBy lt xs
+    sorted_from [] up k d low within = absurd (omega arith)
+    sorted_from (x ∷ []) up k d low within = absurd (omega arith)
+    sorted_from (x ∷ y ∷ xs) up zero d low within = up.0.0
+    sorted_from (x ∷ y ∷ xs) up (suc k) d low within =
+        let next : suc (k + 1) ≡ suc k + 1 = omega arith in
+        subst (λ n. lt (get_or (x ∷ y ∷ xs) n d) (get_or (y ∷ xs) k d) ≡ false) next (sorted_from (y ∷ xs) up.1 k d (omega arith) (omega arith))
+
     -- what comes after all that ties with it
     none_tie : (x y : X) (ys : List X) → lt x y ≡ true → AllByRecursion (λ z. lt z y ≡ false) ys → filter (ties lt x) ys ≡ []
     none_tie x y [] before all = refl
@@ -101,6 +109,18 @@ module _ {X : Type 0} (lt : X → X → Bool) where
 
     pub sorted_is : (xs ys : List X) → IsSortedBy lt ys → IsStableBy lt xs ys → ys ≡ put_all xs
     sorted_is xs ys up stable = same_order ys (put_all xs) (in_order_from ys up) (in_order_all xs) (λ z. stable z ∙ sym (ties_all z xs))
+
+module _ {X : Type 0} (lt : X → X → Bool) where
+  moved_put : (x : X) (ys : List X) → IsPermutation (x ∷ ys) (put lt x ys)
+  moved_put x [] = IsPermutation-refl (x ∷ [])
+  moved_put x (y ∷ ys) = elim (lt y x) as (λ b. IsPermutation (x ∷ y ∷ ys) (if b then y ∷ put lt x ys else x ∷ y ∷ ys)) [
+    | true ↦ IsPermutation-trans (x ∷ y ∷ ys) (y ∷ x ∷ ys) (y ∷ put lt x ys) (IsPermutation-sym (y ∷ x ∷ ys) (x ∷ y ∷ ys) (IsPermutation-middle (y ∷ []) x ys)) (IsPermutation-cons y (x ∷ ys) (put lt x ys) (moved_put x ys))
+    | false ↦ IsPermutation-refl (x ∷ y ∷ ys)
+  ]
+
+  pub moved_all : (xs : List X) → IsPermutation xs (put_all lt xs)
+  moved_all [] = IsPermutation-refl []
+  moved_all (x ∷ xs) = IsPermutation-trans (x ∷ xs) (x ∷ put_all lt xs) (put lt x (put_all lt xs)) (IsPermutation-cons x xs (put_all lt xs) (moved_all xs)) (moved_put x (put_all lt xs))
 
 module _ {X Y : Type 0} (f : X → Y) (lt : Y → Y → Bool) where
   map_put : (x : X) (xs : List X) → map f (put (λ a b. lt (f a) (f b)) x xs) ≡ put lt (f x) (map f xs)
@@ -171,3 +191,10 @@ module _ (level : ℕ) (keys : List (Key ℕ)) where
   -- in the order that a sort of references leaves
   pub ordered_sorted : (xs ys : List (Bor Image)) → IsSortedBy (λ a b. comes_before a.now b.now) ys → IsStableBy (λ a b. comes_before a.now b.now) xs ys → looked_at ys ≡ ordered level keys (looked_at xs)
   ordered_sorted xs ys up stable = sorted_as (λ (image : Bor Image). image.now) comes_before xs ys (ranks_by (row_total level keys) (λ (image : Bor Image). image.now)) up stable ∙ put_all_is (looked_at xs)
+
+  -- they are the rows, and none comes before the one in front of it
+  pub in_order : (rows : List Image) → IsSortedBy comes_before (ordered level keys rows)
+  in_order rows = subst (IsSortedBy comes_before) (put_all_is rows) (sorted_from comes_before (ranks_by (row_total level keys) (λ (image : Image). image)) (put_all comes_before rows) (in_order_all comes_before (ranks_by (row_total level keys) (λ (image : Image). image)) rows))
+
+  pub same_rows : (rows : List Image) → IsPermutation rows (ordered level keys rows)
+  same_rows rows = subst (IsPermutation rows) (put_all_is rows) (moved_all comes_before rows)

@@ -36,7 +36,7 @@ same_key_is level (Draw p a) (Draw q b) = both_tied (p == q) (a == b) (nat_cmp p
 same_key_is level a Null = refl
 same_key_is level a b = refl
 
-or_swap : (a b c d : Bool) → ((a || b) || (c || d)) ≡ ((a || c) || (b || d))
+pub or_swap : (a b c d : Bool) → ((a || b) || (c || d)) ≡ ((a || c) || (b || d))
 or_swap a b c d = grind arith
 
 module _ (level : ℕ) where

@@ -1,5 +1,6 @@
 -- What is known of a statement that was read and checked.
 use Rattle.std.proofs.Common.{◌≡◌, ℕ, ◌+◌, ◌<◌, Bool, true, false, List, [], ◌∷◌, length, refl, subst, arith}
+use Rattle.std.proofs.lemmas.Bool.{or_parts}
 use Rattle.std.proofs.lemmas.List.{length-map}
 use Rattle.std.specs.Prelude.{◌||◌, if◌then◌else◌, is_none, Option, None, Some, Result, Ok, Err}
 use Rattle.std.specs.Option.{option_map, unwrap_or}
@@ -22,10 +23,6 @@ use Rattle.sql_eval.proofs.CheckLaws.{nothing_is_overlooked}
 use Rattle.machine_model.specs.Request.{Request, statement, checked, read, request_of, table_named}
 
 -- ---- a checked statement names what there is
-
-or_left : (a b : Bool) → (a || b) ≡ false → a ≡ false
-or_left true b e = e
-or_left false b e = refl
 
 more_place : (place : Option ℕ) (count : ℕ) → (is_none place ≡ false → unwrap_or place 0 < count) → is_none (option_map (λ p. p + 1) place) ≡ false → unwrap_or (option_map (λ p. p + 1) place) 0 < count + 1
 more_place None count within known = absurd cc
@@ -57,7 +54,7 @@ asked_numbers f (totals ts) asks = omega (arith, asks, length-map ts (map_total 
 module _ (schema : SchemaView) (binds : List Value) where
   numbers_sound : (plan : Plan Name) → AsksIfSelect plan → ((fault : Fault) → applies schema binds plan fault ≡ false) → IsSoundPlan schema (numbered schema plan)
   numbers_sound (select table asked condition keys for_update) asks none = asked_numbers _ asked asks
-  numbers_sound (next sequence) asks none = known_number schema.sequences sequence (or_left _ _ (none UnknownSequence))
+  numbers_sound (next sequence) asks none = known_number schema.sequences sequence (or_parts _ _ (none UnknownSequence)).0
   numbers_sound (insert table named entries) asks none = omega (arith, known_number (table_names schema.tables) table (none UnknownTable), length-map schema.tables (λ (t : Table). t.name))
   numbers_sound other asks none = tt
 

@@ -39,7 +39,7 @@ stands_there image is = is_there_by image.left image refl is.values
 -- ---- changes
 
 module _ (P : Image → Type 0) where
-  each_placed : (show : Image → List Image) (new : Image) (xs : List Image) → AllByRecursion P (show new) → AllByRecursion P xs → AllByRecursion P (placed show new xs)
+  pub each_placed : (show : Image → List Image) (new : Image) (xs : List Image) → AllByRecursion P (show new) → AllByRecursion P xs → AllByRecursion P (placed show new xs)
   each_placed show new [] shows h = shows
   each_placed show new (x ∷ xs) shows h =
       elim (ltb x.row new.row) as (λ b. AllByRecursion P (if b then x ∷ placed show new xs else if eqb x.row new.row then show new ++ xs else show new ++ x ∷ xs)) [

@@ -72,7 +72,7 @@ commits_sound : (commits : List (List Image)) (images : List Image) → AllByRec
 commits_sound commits [] sound new = sound
 commits_sound commits (image ∷ images) sound new = each_joined AreSound commits ((image ∷ images) ∷ []) sound (new, tt)
 
-length_moved : (draws : List Value) (sequence : ℕ) (ns : List ℕ) → length (moved draws sequence ns) ≡ length ns
+pub length_moved : (draws : List Value) (sequence : ℕ) (ns : List ℕ) → length (moved draws sequence ns) ≡ length ns
 length_moved draws sequence [] = refl
 length_moved draws sequence (n ∷ ns) = ap suc (length_moved draws (sequence + 1) ns)
 

@@ -1,10 +1,11 @@
 -- Whether a row stands among rising images.
-use Rattle.std.proofs.Common.{◌≡◌, ◌≢◌, ℕ, zero, suc, ◌<◌, ◌≤◌, Bool, true, false, ◌||◌, List, [], ◌∷◌, length, get_or, inl, inr, refl, sym, arith}
+use Rattle.std.proofs.Common.{◌≡◌, ◌≢◌, ℕ, zero, suc, ◌<◌, ◌≤◌, true, false, ◌||◌, List, [], ◌∷◌, length, get_or, inl, inr, refl, sym, arith}
 use Rattle.std.specs.Prelude.{nat_eq}
 use Rattle.std.specs.List.{list_any}
 use Rattle.std.specs.List.Sorted.{IsNonDecreasingBy, IsPartitionPoint}
 use Rattle.std.specs.Ordering.{nat_cmp, ordering_index}
 use Rattle.std.specs.declared.cmp.Ordering.TheVariants.{Less, Equal, Greater}
+use Rattle.std.proofs.Math.Bool.{or-true}
 use Rattle.std.proofs.lemmas.Bool.Decides.{nat_tests}
 use Rattle.std.proofs.lemmas.Cmp.{ranked}
 use Rattle.std.proofs.lemmas.Bool.{cases_lt}
@@ -12,15 +13,11 @@ use Rattle.desk_values.specs.declared.value.Image.{Image}
 use Rattle.machine_model.specs.Rows.{IsRising}
 use Rattle.machine_model.proofs.Laying.{comparisons_rise, no_image}
 
-or_true : (b : Bool) → (b || true) ≡ true
-or_true true = refl
-or_true false = refl
-
 module _ (row : ℕ) where
   stands : (xs : List Image) (at : ℕ) (d : Image) → at < length xs → (get_or xs at d).row ≡ row → list_any (λ (image : Image). nat_eq image.row row) xs ≡ true
   stands [] at d within same = absurd (omega arith)
   stands (x ∷ xs) zero d within same = grind (arith, nat_tests)
-  stands (x ∷ xs) (suc at) d within same = rw (stands xs at d (omega arith) same) (or_true (nat_eq x.row row))
+  stands (x ∷ xs) (suc at) d within same = rw (stands xs at d (omega arith) same) (or-true (nat_eq x.row row))
 
   stands_nowhere : (xs : List Image) → ((k : ℕ) (d : Image) → k < length xs → (get_or xs k d).row ≢ row) → list_any (λ (image : Image). nat_eq image.row row) xs ≡ false
   stands_nowhere [] other = refl

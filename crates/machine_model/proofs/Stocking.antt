@@ -1,8 +1,8 @@
 -- What laying changes does to the rows of each table.
-use Rattle.std.proofs.Common.{◌≡◌, ◌≢◌, ℕ, zero, suc, ◌+◌, ◌<◌, ◌≤◌, List, [], ◌∷◌, ◌++◌, length, get_or, set, map, reverse, true, false, eqb, ◌⊎◌, inl, inr, refl, sym, ap, ◌∙◌, add-zero, get_or-set_same, get_or-set_other, length-set, arith}
+use Rattle.std.proofs.Common.{◌≡◌, ◌≢◌, ℕ, zero, suc, ◌+◌, ◌<◌, ◌≤◌, List, [], ◌∷◌, ◌++◌, length, get_or, set, map, true, false, eqb, ◌⊎◌, inl, inr, refl, sym, ap, ◌∙◌, add-zero, get_or-set_same, get_or-set_other, length-set, arith}
 use Rattle.std.proofs.lemmas.Bool.{eq-eqb, eqb-true, ne_eqb}
 use Rattle.std.proofs.Math.Seq.{map-set_same}
-use Rattle.std.proofs.lemmas.List.{get_or-map, length-map, map-append, map-set, reverse-append}
+use Rattle.std.proofs.lemmas.List.{get_or-map, length-map, map-append, map-set}
 use Rattle.desk_values.specs.declared.value.Image.{Image}
 use Rattle.machine_model.specs.Rows.{lay, of_table, placed, shown}
 use Rattle.machine_model.specs.Inside.Rows.{AreLatest, HaveRoom, Stock, lay_tables, stocked}
@@ -85,7 +85,3 @@ room_less n stocks have k d below = let there : n + 1 ≤ (get_or stocks k d).ro
 pub none_of_length : (changes : List Image) → length changes ≡ 0 → changes ≡ []
 none_of_length [] none = refl
 none_of_length (change ∷ changes) none = absurd (omega arith)
-
--- the last change that is left is the first in their order
-pub popped : {X : Type 0} (old new : List X) (x : X) → old ≡ new ++ x ∷ [] → reverse old ≡ x ∷ reverse new
-popped old new x is = rw (is, reverse-append) refl

@@ -2,20 +2,23 @@
 use Rattle.std.proofs.Common.{◌≡◌, ℕ, ◌+◌, ◌<◌, Bool, true, false, ◌&&◌, ◌||◌, not, ltb, eqb, if◌then◌else◌, List, [], ◌∷◌, ◌++◌, map, Option, None, Some, refl, sym, ap, ◌∙◌, arith}
 use mathlib.Core.Bool.{true≢false}
 use Rattle.std.specs.List.{AllByRecursion, filter, list_any}
+use Rattle.std.proofs.Math.Bool.{and-false, or-true, or_assoc}
 use Rattle.std.proofs.lemmas.Bool.{ltb-true, eqb-true, eq-eqb, ne_eqb}
 use Rattle.std.proofs.lemmas.Bool.Decides.{nat_tests}
+use Rattle.std.proofs.lemmas.Option.{same_Some}
 use Rattle.desk_values.specs.declared.value.Value.{Value}
 use Rattle.desk_values.specs.declared.value.Image.{Image}
 use Rattle.desk_values.specs.Comparison.{same_key}
 use Rattle.desk_schema.proofs.Drafting.{same_is}
 use Rattle.machine_model.specs.Rows.{IsRising, RisesFrom, is_there, lay, row_key, shown}
 use Rattle.machine_model.specs.Writes.{is_among, repeats_key}
-use Rattle.machine_model.specs.Inside.Index.{FindsRows, all_shown, kept, print_of, row_at}
+use Rattle.machine_model.specs.Inside.Index.{FindsRows, print_of, staying}
+use Rattle.machine_model.specs.Inside.Rows.{all_shown, row_at}
 use Rattle.machine_model.proofs.Indexing.{own_rows}
 use Rattle.machine_model.proofs.Laying.{lay_between, lay_below, lay_last, lay_over}
 use Rattle.machine_model.proofs.Looks.{filtered_from}
 use Rattle.machine_model.proofs.Members.{each_filtered, each_weaker}
-use Rattle.machine_model.proofs.Repeating.{same_back}
+use Rattle.machine_model.proofs.Repeating.{or_swap, same_back}
 
 -- ---- two lists told apart in one
 
@@ -37,61 +40,44 @@ none_among : (n : ℕ) (x : Image) (cs : List Image) → RisesFrom n cs → x.ro
 none_among n x [] up lt = refl
 none_among n x (c ∷ cs) up lt = rw (ne_eqb c.row x.row (λ e. omega (arith, up.0))) (none_among (c.row + 1) x cs up.1 (omega (arith, up.0)))
 
-kept_nothing : (xs : List Image) → kept xs [] ≡ xs
-kept_nothing [] = refl
-kept_nothing (x ∷ xs) = ap (λ l. x ∷ l) (kept_nothing xs)
+staying_nothing : (xs : List Image) → staying xs [] ≡ xs
+staying_nothing [] = refl
+staying_nothing (x ∷ xs) = ap (λ l. x ∷ l) (staying_nothing xs)
 
 -- a change below all rows leaves all
-kept_beyond : (n : ℕ) (c : Image) (xs cs : List Image) → RisesFrom n xs → c.row < n → kept xs (c ∷ cs) ≡ kept xs cs
-kept_beyond n c [] cs up lt = refl
-kept_beyond n c (x ∷ xs) cs up lt = rw (ne_eqb c.row x.row (λ e. omega (arith, up.0)), kept_beyond (x.row + 1) c xs cs up.1 (omega (arith, up.0))) refl
+staying_beyond : (n : ℕ) (c : Image) (xs cs : List Image) → RisesFrom n xs → c.row < n → staying xs (c ∷ cs) ≡ staying xs cs
+staying_beyond n c [] cs up lt = refl
+staying_beyond n c (x ∷ xs) cs up lt = rw (ne_eqb c.row x.row (λ e. omega (arith, up.0)), staying_beyond (x.row + 1) c xs cs up.1 (omega (arith, up.0))) refl
 
-kept_below : (x c : Image) (xs cs : List Image) → x.row < c.row → RisesFrom (c.row + 1) cs → kept (x ∷ xs) (c ∷ cs) ≡ x ∷ kept xs (c ∷ cs)
-kept_below x c xs cs lt up = let apart : is_among (c ∷ cs) x ≡ false = none_among c.row x (c ∷ cs) (omega arith, up) lt in rw apart refl
+staying_below : (x c : Image) (xs cs : List Image) → x.row < c.row → RisesFrom (c.row + 1) cs → staying (x ∷ xs) (c ∷ cs) ≡ x ∷ staying xs (c ∷ cs)
+staying_below x c xs cs lt up = let apart : is_among (c ∷ cs) x ≡ false = none_among c.row x (c ∷ cs) (omega arith, up) lt in rw apart refl
 
-kept_over : (x c : Image) (xs cs : List Image) → x.row ≡ c.row → RisesFrom (x.row + 1) xs → kept (x ∷ xs) (c ∷ cs) ≡ kept xs cs
-kept_over x c xs cs same up = rw (eq-eqb c.row x.row (sym same), kept_beyond (x.row + 1) c xs cs up (omega arith)) refl
+staying_over : (x c : Image) (xs cs : List Image) → x.row ≡ c.row → RisesFrom (x.row + 1) xs → staying (x ∷ xs) (c ∷ cs) ≡ staying xs cs
+staying_over x c xs cs same up = rw (eq-eqb c.row x.row (sym same), staying_beyond (x.row + 1) c xs cs up (omega arith)) refl
 
 -- rows with changes over them are those that stay and those that are shown
-pub laid_mixed : (n m : ℕ) (xs cs : List Image) → RisesFrom n xs → RisesFrom m cs → Mixed (lay xs cs) (kept xs cs) (all_shown cs)
+pub laid_mixed : (n m : ℕ) (xs cs : List Image) → RisesFrom n xs → RisesFrom m cs → Mixed (lay xs cs) (staying xs cs) (all_shown cs)
 laid_mixed n m [] [] up over = nothing
-laid_mixed n m (x ∷ xs) [] up over = rw (kept_nothing (x ∷ xs)) (only_left (x ∷ xs))
+laid_mixed n m (x ∷ xs) [] up over = rw (staying_nothing (x ∷ xs)) (only_left (x ∷ xs))
 laid_mixed n m [] (c ∷ cs) up over = rw (lay_last c cs m over) (mixed_shown c (laid_mixed n (c.row + 1) [] cs up over.1))
 laid_mixed n m (x ∷ xs) (c ∷ cs) up over =
-    elim (ltb x.row c.row) as (λ b. ltb x.row c.row ≡ b → Mixed (lay (x ∷ xs) (c ∷ cs)) (kept (x ∷ xs) (c ∷ cs)) (all_shown (c ∷ cs))) [
-      | true ↦ λ below. rw (lay_below c cs m over x xs (ltb-true _ _ below), kept_below x c xs cs (ltb-true _ _ below) over.1) (stays (laid_mixed (x.row + 1) m xs (c ∷ cs) up.1 over))
-      | false ↦ λ above. elim (eqb x.row c.row) as (λ b. eqb x.row c.row ≡ b → Mixed (lay (x ∷ xs) (c ∷ cs)) (kept (x ∷ xs) (c ∷ cs)) (all_shown (c ∷ cs))) [
-        | true ↦ λ same. rw (lay_over c cs m over x xs (eqb-true _ _ same), kept_over x c xs cs (eqb-true _ _ same) up.1) (mixed_shown c (laid_mixed (x.row + 1) (c.row + 1) xs cs up.1 over.1))
+    elim (ltb x.row c.row) as (λ b. ltb x.row c.row ≡ b → Mixed (lay (x ∷ xs) (c ∷ cs)) (staying (x ∷ xs) (c ∷ cs)) (all_shown (c ∷ cs))) [
+      | true ↦ λ below. rw (lay_below c cs m over x xs (ltb-true _ _ below), staying_below x c xs cs (ltb-true _ _ below) over.1) (stays (laid_mixed (x.row + 1) m xs (c ∷ cs) up.1 over))
+      | false ↦ λ above. elim (eqb x.row c.row) as (λ b. eqb x.row c.row ≡ b → Mixed (lay (x ∷ xs) (c ∷ cs)) (staying (x ∷ xs) (c ∷ cs)) (all_shown (c ∷ cs))) [
+        | true ↦ λ same. rw (lay_over c cs m over x xs (eqb-true _ _ same), staying_over x c xs cs (eqb-true _ _ same) up.1) (mixed_shown c (laid_mixed (x.row + 1) (c.row + 1) xs cs up.1 over.1))
         | false ↦ λ apart.
             let beyond : c.row < x.row = grind (arith, nat_tests) in
-            rw (lay_between c cs m over x xs beyond, kept_beyond x.row c (x ∷ xs) cs (omega arith, up.1) beyond) (mixed_shown c (laid_mixed n (c.row + 1) (x ∷ xs) cs up over.1))
+            rw (lay_between c cs m over x xs beyond, staying_beyond x.row c (x ∷ xs) cs (omega arith, up.1) beyond) (mixed_shown c (laid_mixed n (c.row + 1) (x ∷ xs) cs up over.1))
       ] refl
     ] refl
 
 -- ---- keys of both
 
-some_one : {X : Type 0} {a b : X} → Some a ≡ Some b → a ≡ b
-some_one same = cc
-
 none_some : {X : Type 0} {a : X} (o : Option X) → None ≡ o → o ≡ Some a → ⊥
 none_some o none some = absurd (cc)
 
-and_false : (b : Bool) → (b && false) ≡ false
-and_false true = refl
-and_false false = refl
-
-or_true : (b : Bool) → (b || true) ≡ true
-or_true true = refl
-or_true false = refl
-
-or_assoc : (a b c : Bool) → (a || (b || c)) ≡ ((a || b) || c)
-or_assoc a b c = grind arith
-
 or_between : (a b c : Bool) → (a || (b || c)) ≡ (b || (a || c))
 or_between a b c = grind arith
-
-or_swap : (a b c d : Bool) → ((a || b) || (c || d)) ≡ ((a || c) || (b || d))
-or_swap a b c d = grind arith
 
 last_group : (a b c d : Bool) → ((a || b) || (c || d)) ≡ ((b || c) || (a || d))
 last_group a b c d = grind arith
@@ -109,7 +95,7 @@ module _ (level : ℕ) where
 
   any_mixed : (p : Value → Bool) {all left right : List Image} → Mixed all left right → list_any p (map row_key all) ≡ (list_any p (map row_key left) || list_any p (map row_key right))
   any_mixed p nothing = refl
-  any_mixed p (stays {x = x} {left = left} {right = right} mixed) = rw (any_mixed p mixed) (or_assoc (p (row_key x)) (list_any p (map row_key left)) (list_any p (map row_key right)))
+  any_mixed p (stays {x = x} {left = left} {right = right} mixed) = rw (any_mixed p mixed) (sym (or_assoc (p (row_key x)) (list_any p (map row_key left)) (list_any p (map row_key right))))
   any_mixed p (shows {x = x} {left = left} {right = right} mixed) = rw (any_mixed p mixed) (or_between (p (row_key x)) (list_any p (map row_key left)) (list_any p (map row_key right)))
 
   -- one row more that stays
@@ -124,12 +110,12 @@ module _ (level : ℕ) where
   repeats_mixed (shows {x = x} {left = left} {right = right} mixed) = rw (any_mixed (same_key level (row_key x)) mixed, repeats_mixed mixed) (regroup_right (list_any (same_key level (row_key x)) (map row_key left)) (list_any (same_key level (row_key x)) (map row_key right)) (repeats_key level (map row_key left)) (repeats_key level (map row_key right)) (list_any (meets left) right))
 
   -- where those that stay are apart, a key stands twice that two of the others have, or one of them and one that stays
-  pub repeats_laid : (new : Image) (xs cs : List Image) → IsRising xs → IsRising cs → repeats_key level (map row_key (kept xs cs)) ≡ false
-      → repeats_key level (map row_key (new ∷ lay xs cs)) ≡ (repeats_key level (map row_key (new ∷ all_shown cs)) || (meets (kept xs cs) new || list_any (meets (kept xs cs)) (all_shown cs)))
+  pub repeats_laid : (new : Image) (xs cs : List Image) → IsRising xs → IsRising cs → repeats_key level (map row_key (staying xs cs)) ≡ false
+      → repeats_key level (map row_key (new ∷ lay xs cs)) ≡ (repeats_key level (map row_key (new ∷ all_shown cs)) || (meets (staying xs cs) new || list_any (meets (staying xs cs)) (all_shown cs)))
   unfolding repeats_key
   repeats_laid new xs cs up over apart =
       let mixed = laid_mixed 0 0 xs cs up over in
-      rw (any_mixed (same_key level (row_key new)) mixed, repeats_mixed mixed, apart) (last_group (meets (kept xs cs) new) (list_any (same_key level (row_key new)) (map row_key (all_shown cs))) (repeats_key level (map row_key (all_shown cs))) (list_any (meets (kept xs cs)) (all_shown cs)))
+      rw (any_mixed (same_key level (row_key new)) mixed, repeats_mixed mixed, apart) (last_group (meets (staying xs cs) new) (list_any (same_key level (row_key new)) (map row_key (all_shown cs))) (repeats_key level (map row_key (all_shown cs))) (list_any (meets (staying xs cs)) (all_shown cs)))
 
 -- ---- rows that are found by their keys
 
@@ -146,7 +132,7 @@ some_any p q row z [] at passes has = absurd (cc)
 some_any p q row z (y ∷ ys) at passes has = elim (eqb y.row row) as (λ b. (if b then Some y else row_at row ys) ≡ Some z → list_any p (map row_key (filter q (y ∷ ys))) ≡ true) [
   | true ↦ λ here. let is : y ≡ z = cc in rw (is, passes, has) refl
   | false ↦ λ later. elim (q y) as (λ b. list_any p (map row_key (if b then y ∷ filter q ys else filter q ys)) ≡ true) [
-    | true ↦ rw (some_any p q row z ys later passes has) (or_true (p (row_key y)))
+    | true ↦ rw (some_any p q row z ys later passes has) (or-true (p (row_key y)))
     | false ↦ some_any p q row z ys later passes has
   ]
 ] at
@@ -172,8 +158,8 @@ module _ (row_under : ℕ → Option ℕ) (rows : List Image) (up : IsRising row
   none_twice n [] above all = refl
   none_twice n (y ∷ ys) above all = rw (found_apart (y.row + 1) y ys all.0 above.1 (omega arith) all.1) (none_twice (y.row + 1) ys above.1 all.1)
 
-  pub kept_apart : (cs : List Image) → repeats_key 1 (map row_key (kept rows cs)) ≡ false
-  kept_apart cs = none_twice 0 (kept rows cs) (filtered_from _ 0 rows up) (each_filtered (λ y. row_under (print_of (row_key y)) ≡ Some y.row) _ rows all_found)
+  pub staying_apart : (cs : List Image) → repeats_key 1 (map row_key (staying rows cs)) ≡ false
+  staying_apart cs = none_twice 0 (staying rows cs) (filtered_from _ 0 rows up) (each_filtered (λ y. row_under (print_of (row_key y)) ≡ Some y.row) _ rows all_found)
 
   module _ (level : ℕ) (one : level ≡ 1) (key : Value) (cs : List Image) where
     -- what has the key is the row under its print
@@ -183,49 +169,49 @@ module _ (row_under : ℕ → Option ℕ) (rows : List Image) (up : IsRising row
     has_not : (y : Image) → row_at y.row rows ≡ Some y → (row_under (print_of key) ≡ Some y.row → same_key level key (row_key y) ≡ true → not (is_among cs y) ≡ false) → (not (is_among cs y) && same_key level key (row_key y)) ≡ false
     has_not y at but = elim (same_key level key (row_key y)) as (λ b. same_key level key (row_key y) ≡ b → (not (is_among cs y) && b) ≡ false) [
       | true ↦ λ same. rw (but (under_print y at same) same) refl
-      | false ↦ λ other. and_false (not (is_among cs y))
+      | false ↦ λ other. and-false (not (is_among cs y))
     ] refl
 
-    nobody_has : ((y : Image) → row_at y.row rows ≡ Some y → row_under (print_of key) ≡ Some y.row → same_key level key (row_key y) ≡ true → not (is_among cs y) ≡ false) → list_any (same_key level key) (map row_key (kept rows cs)) ≡ false
+    nobody_has : ((y : Image) → row_at y.row rows ≡ Some y → row_under (print_of key) ≡ Some y.row → same_key level key (row_key y) ≡ true → not (is_among cs y) ≡ false) → list_any (same_key level key) (map row_key (staying rows cs)) ≡ false
     nobody_has but = none_any (same_key level key) (λ (image : Image). not (is_among cs image)) rows (each_weaker (λ (y : Image). row_at y.row rows ≡ Some y) (λ (y : Image). (not (is_among cs y) && same_key level key (row_key y)) ≡ false) (λ y at. has_not y at (but y at)) rows (own_rows rows up))
 
     -- nothing is under the print
-    pub meets_nothing : (under : Option ℕ) → None ≡ under → under ≡ row_under (print_of key) → false ≡ list_any (same_key level key) (map row_key (kept rows cs))
+    pub meets_nothing : (under : Option ℕ) → None ≡ under → under ≡ row_under (print_of key) → false ≡ list_any (same_key level key) (map row_key (staying rows cs))
     meets_nothing under none is = sym (nobody_has (λ y at found same. absurd (none_some under none (is ∙ found))))
 
     module _ (row : ℕ) (is : Some row ≡ row_under (print_of key)) where
       same_number : (y : Image) → row_under (print_of key) ≡ Some y.row → row ≡ y.row
-      same_number y found = some_one (is ∙ found)
+      same_number y found = same_Some row y.row (is ∙ found)
 
       -- no row has the number that is
-      pub meets_nobody : (there : Option Image) → None ≡ there → there ≡ row_at row rows → false ≡ list_any (same_key level key) (map row_key (kept rows cs))
+      pub meets_nobody : (there : Option Image) → None ≡ there → there ≡ row_at row rows → false ≡ list_any (same_key level key) (map row_key (staying rows cs))
       meets_nobody there none at = sym (nobody_has (λ y own found same. absurd (none_some there none (at ∙ ap (λ n. row_at n rows) (same_number y found) ∙ own))))
 
       -- one has it
-      pub meets_one : (z : Image) → Some z ≡ row_at row rows → (not (is_among cs z) && same_key level key (row_key z)) ≡ list_any (same_key level key) (map row_key (kept rows cs))
+      pub meets_one : (z : Image) → Some z ≡ row_at row rows → (not (is_among cs z) && same_key level key (row_key z)) ≡ list_any (same_key level key) (map row_key (staying rows cs))
       meets_one z at =
-          let one_row : (y : Image) → row_at y.row rows ≡ Some y → row_under (print_of key) ≡ Some y.row → z ≡ y = λ y own found. some_one (at ∙ ap (λ n. row_at n rows) (same_number y found) ∙ own) in
-          elim (not (is_among cs z)) as (λ b. not (is_among cs z) ≡ b → (b && same_key level key (row_key z)) ≡ list_any (same_key level key) (map row_key (kept rows cs))) [
-            | true ↦ λ stands. elim (same_key level key (row_key z)) as (λ b. same_key level key (row_key z) ≡ b → b ≡ list_any (same_key level key) (map row_key (kept rows cs))) [
+          let one_row : (y : Image) → row_at y.row rows ≡ Some y → row_under (print_of key) ≡ Some y.row → z ≡ y = λ y own found. same_Some z y (at ∙ ap (λ n. row_at n rows) (same_number y found) ∙ own) in
+          elim (not (is_among cs z)) as (λ b. not (is_among cs z) ≡ b → (b && same_key level key (row_key z)) ≡ list_any (same_key level key) (map row_key (staying rows cs))) [
+            | true ↦ λ stands. elim (same_key level key (row_key z)) as (λ b. same_key level key (row_key z) ≡ b → b ≡ list_any (same_key level key) (map row_key (staying rows cs))) [
               | true ↦ λ has. sym (some_any (same_key level key) (λ (image : Image). not (is_among cs image)) row z rows (sym at) stands has)
               | false ↦ λ other. sym (nobody_has (λ y own found same. absurd (true≢false (sym same ∙ ap (λ (i : Image). same_key level key (row_key i)) (sym (one_row y own found)) ∙ other))))
             ] refl
             | false ↦ λ gone. sym (nobody_has (λ y own found same. ap (λ (i : Image). not (is_among cs i)) (sym (one_row y own found)) ∙ gone))
           ] refl
 
-      pub meets_same : (z : Image) → Some z ≡ row_at row rows → (changed same : Bool) → changed ≡ false → changed ≡ is_among cs z → same ≡ same_key level key (row_key z) → same ≡ list_any (same_key level key) (map row_key (kept rows cs))
+      pub meets_same : (z : Image) → Some z ≡ row_at row rows → (changed same : Bool) → changed ≡ false → changed ≡ is_among cs z → same ≡ same_key level key (row_key z) → same ≡ list_any (same_key level key) (map row_key (staying rows cs))
       meets_same z at changed same stands is_changed is_same = let stays : is_among cs z ≡ false = sym is_changed ∙ stands in is_same ∙ rw stays at (meets_one z at)
 
-      pub meets_gone : (z : Image) → Some z ≡ row_at row rows → (changed : Bool) → changed ≡ true → changed ≡ is_among cs z → not changed ≡ list_any (same_key level key) (map row_key (kept rows cs))
+      pub meets_gone : (z : Image) → Some z ≡ row_at row rows → (changed : Bool) → changed ≡ true → changed ≡ is_among cs z → not changed ≡ list_any (same_key level key) (map row_key (staying rows cs))
       meets_gone z at changed gone is_changed = let goes : is_among cs z ≡ true = sym is_changed ∙ gone in ap not gone ∙ rw goes at (meets_one z at)
 
   -- what was looked at says whether a key stands twice
   module _ (level : ℕ) (one : level ≡ 1) (new : Image) (cs : List Image) (over : IsRising cs) (seen : List Image) (shows_all : seen ≡ all_shown cs) where
-    told_apart : repeats_key level (map row_key (new ∷ lay rows cs)) ≡ (repeats_key level (map row_key (new ∷ seen)) || (meets level (kept rows cs) new || list_any (meets level (kept rows cs)) seen))
-    told_apart = rw shows_all (repeats_laid level new rows cs up over (rw one (kept_apart cs)))
+    told_apart : repeats_key level (map row_key (new ∷ lay rows cs)) ≡ (repeats_key level (map row_key (new ∷ seen)) || (meets level (staying rows cs) new || list_any (meets level (staying rows cs)) seen))
+    told_apart = rw shows_all (repeats_laid level new rows cs up over (rw one (staying_apart cs)))
 
     pub twice_changed : true ≡ repeats_key level (map row_key (new ∷ seen)) → true ≡ repeats_key level (map row_key (new ∷ lay rows cs))
     twice_changed changed = rw (← changed) at (sym told_apart)
 
-    pub twice_kept : (met some : Bool) → false ≡ repeats_key level (map row_key (new ∷ seen)) → met ≡ meets level (kept rows cs) new → some ≡ list_any (meets level (kept rows cs)) seen → (met || some) ≡ repeats_key level (map row_key (new ∷ lay rows cs))
-    twice_kept met some changed meets_is some_is = rw (← changed, ← meets_is, ← some_is) at (sym told_apart)
+    pub twice_staying : (met some : Bool) → false ≡ repeats_key level (map row_key (new ∷ seen)) → met ≡ meets level (staying rows cs) new → some ≡ list_any (meets level (staying rows cs)) seen → (met || some) ≡ repeats_key level (map row_key (new ∷ lay rows cs))
+    twice_staying met some changed meets_is some_is = rw (← changed, ← meets_is, ← some_is) at (sym told_apart)

@@ -1,8 +1,8 @@
 -- Words of private clauses and of what holds of fields. They need not be believed.
 pub mod Decision
 pub mod Evaluation
+pub mod FirstCauses
 pub mod Index
 pub mod Machine
-pub mod Parts
 pub mod Repeats
 pub mod Rows

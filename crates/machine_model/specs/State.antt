@@ -1,10 +1,11 @@
 -- The state of the server.
-use Rattle.std.specs.Prelude.{ℕ, Bool, true, ◌&&◌, ◌||◌, false, nat_eq, nat_le, nat_lt, List, [], take, replicate, slice_get, slice_index_or, Option, None, Some, is_some}
+use Rattle.std.specs.Prelude.{ℕ, Bool, true, ◌&&◌, ◌||◌, false, nat_le, nat_lt, List, [], take, replicate, slice_get, slice_index_or, Option, None, Some, is_some}
 use Rattle.std.specs.List.{list_any}
 use Rattle.desk_values.specs.declared.limits.TheConstants.{SESSION_LIMIT}
 use Rattle.desk_values.specs.declared.value.Value.{Value}
 use Rattle.desk_values.specs.declared.value.Value.TheVariants.{Row, Draw}
 use Rattle.desk_values.specs.declared.value.Image.{Image}
+use Rattle.desk_values.specs.Comparison.{same_key}
 use Rattle.desk_values.specs.Ids.{ids_of_image}
 use Rattle.desk_schema.specs.Start.{StartView}
 use Rattle.machine_model.specs.declared.session.Session.{Session}
@@ -46,14 +47,9 @@ tables state n = lay_all state.start.rows (take n state.commits)
 
 -- ---- which ids were given
 
-abbrev pub is_same_id : Value → Value → Bool
-is_same_id (Row m) (Row n) = nat_eq m n
-is_same_id (Draw p m) (Draw q n) = nat_eq p q && nat_eq m n
-is_same_id other id = false
-
--- the id stands in the rows: as a row's number or among its values
+-- the id stands in the rows: as a row's number or among its values (ids are the same key at each level)
 abbrev pub stands_in : List Image → Value → Bool
-stands_in rows id = list_any (λ (image : Image). list_any (is_same_id id) (ids_of_image image)) rows
+stands_in rows id = list_any (λ (image : Image). list_any (same_key 1 id) (ids_of_image image)) rows
 
 -- a number from the first on and below the second
 abbrev pub is_between : Option ℕ → Option ℕ → ℕ → Bool

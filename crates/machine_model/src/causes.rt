@@ -2,7 +2,7 @@
 
 ghost use Rattle.std.specs.Prelude.{◌≡◌};
 ghost use Rattle.machine_model.specs.Causes.{no_cause, ranked};
-ghost use Rattle.machine_model.specs.Inside.Parts.{first_causes};
+ghost use Rattle.machine_model.specs.Inside.FirstCauses.{first_causes};
 
 use desk_values::Fault;
 use sql_eval::Faults;

@@ -9,9 +9,11 @@ use std::alloc::Global;
 /// What the expressions of a statement are evaluated with.
 #[derive(Clone, Copy)]
 pub struct Evaluation<'a> {
+    /// Where values are made.
     pub alloc: Global,
     /// The level of the rules.
     pub level: u32,
+    /// The values of the binds.
     pub binds: &'a Binds,
     /// No values: those of a row that is gone.
     pub no_values: &'a Values,

@@ -15,10 +15,9 @@ use crate::session::{Session, Transaction};
 use crate::tables::lay_tables;
 use desk_values::{Copied, Memory};
 use std::alloc::Global;
-use std::mem;
 
 /// Writes and holds what a statement does in a table. An `Err` changes nothing.
-pub fn write(own: &mut Transaction, table: u32, writing: Writing) -> Result<(), Memory>
+fn write(own: &mut Transaction, table: u32, writing: Writing) -> Result<(), Memory>
     ensures ok { OnOk result (own.new ≡ holding table own.old writing) }
     ensures err { OnErr result (own.new ≡ own.old) }
 {

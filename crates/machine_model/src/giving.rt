@@ -3,10 +3,11 @@
 ghost use Rattle.std.specs.Prelude.{◌≡◌, ◌&&◌};
 ghost use Rattle.std.specs.List.{list_any};
 ghost use Rattle.desk_values.specs.declared.value.Value.TheVariants.{Row as RowId};
+ghost use Rattle.desk_values.specs.Comparison.{same_key};
 ghost use Rattle.desk_values.specs.Ids.{ids_of_image, is_id};
-ghost use Rattle.machine_model.specs.State.{is_between, is_same_id, stands_in};
+ghost use Rattle.machine_model.specs.State.{is_between, stands_in};
 
-use desk_values::{Image, Value};
+use desk_values::{Image, Value, same_key};
 
 /// Whether the id stands in the rows: as a row's number or among its values.
 pub fn stands_in(rows: &[Image], id: &Value) -> bool
@@ -17,7 +18,7 @@ pub fn stands_in(rows: &[Image], id: &Value) -> bool
 
 #[tactic(auto, using(crate::proofs::Adding::any_filter))]
 fn has_id(image: &Image, id: &Value) -> bool
-    ensures { result ≡ list_any (is_same_id id.now) (ids_of_image image.now) }
+    ensures { result ≡ list_any (same_key 1 id.now) (ids_of_image image.now) }
 {
     is_row(id, image.row)
         || match &image.left {
@@ -27,27 +28,17 @@ fn has_id(image: &Image, id: &Value) -> bool
 }
 
 fn is_row(id: &Value, row: u64) -> bool
-    ensures { result ≡ is_same_id id.now (RowId row) }
+    ensures { result ≡ same_key 1 id.now (RowId row) }
 {
     matches!(id, Value::Row(number) if *number == row)
 }
 
 fn stands_among(values: &[Value], id: &Value) -> bool
-    ensures { result ≡ list_any (λ value. is_id value && is_same_id id.now value) values.now }
+    ensures { result ≡ list_any (λ value. is_id value && same_key 1 id.now value) values.now }
 {
     values
         .iter()
-        .any(|value| value.is_id() && is_same_id(id, value))
-}
-
-fn is_same_id(id: &Value, other: &Value) -> bool
-    ensures { result ≡ is_same_id id.now other.now }
-{
-    match (id, other) {
-        (Value::Row(a), Value::Row(b)) => a == b,
-        (Value::Draw(p, a), Value::Draw(q, b)) => p == q && a == b,
-        _ => false,
-    }
+        .any(|value| value.is_id() && same_key(1, id, value))
 }
 
 /// Whether a number is from the first on and below the second.

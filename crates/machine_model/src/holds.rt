@@ -13,7 +13,9 @@ use desk_values::{Copied, Image, List, Memory, Value, same_key};
 /// The sessions beside one: those before it and those after it.
 #[derive(Clone, Copy)]
 pub struct Others<'a> {
+    /// Those of lower numbers.
     pub before: &'a [Session],
+    /// Those of higher numbers.
     pub after: &'a [Session],
 }
 

@@ -1,6 +1,8 @@
 //! The keys of rows, and the tests of new images.
 
 ghost use Rattle.std.specs.Prelude.{◌≡◌, ◌||◌};
+ghost use Rattle.std.specs.Option.{option_copied, unwrap_or};
+ghost use Rattle.desk_values.specs.declared.value.Value.TheVariants.{Null};
 ghost use Rattle.desk_values.specs.Comparison.{same_key};
 ghost use Rattle.machine_model.specs.Rows.{row_key};
 ghost use Rattle.machine_model.specs.Writes.{any_column, any_value, exceeds, exceeds_length, leaves, leaves_range, violates_not_null};
@@ -11,13 +13,26 @@ use crate::found::values_of;
 use desk_schema::{Column, Kind};
 use desk_values::{Image, Value, same_key};
 
+/// The first value of a row, if it has one.
+pub fn first_value(image: &Image) -> Option<&Value>
+    ensures { unwrap_or (option_copied result) Null ≡ row_key image.now }
+{
+    let Some(values) = &image.left else {
+        return None;
+    };
+    match values.as_slice() {
+        [key, ..] => Some(key),
+        [] => None,
+    }
+}
+
 /// The first value of a row, Null where there is none.
 pub fn row_key<'a>(with: Evaluation<'a>, image: &'a Image) -> &'a Value
     ensures { result.now ≡ row_key image.now }
 {
-    match values_of(with, image).as_slice() {
-        [key, ..] => key,
-        [] => with.null,
+    match first_value(image) {
+        Some(key) => key,
+        None => with.null,
     }
 }
 

@@ -7,16 +7,24 @@ ghost use Rattle.std.specs.Option.{option_copied};
 ghost use Rattle.desk_values.specs.declared.value.Image.{Image as AnyImage};
 ghost use Rattle.machine_model.specs.Rows.{IsRising, row_key};
 ghost use Rattle.machine_model.specs.Step.{committed_in};
-ghost use Rattle.machine_model.specs.Inside.Rows.{stocked};
 ghost use Rattle.machine_model.specs.Inside.Index.{AreIndexes, HasRows, has_print, is_others, print_of, row_under, text_print};
+ghost use Rattle.machine_model.specs.Inside.Rows.{row_at, stocked};
+ghost use Rattle.machine_model.specs.declared.index.TheConstants.{EMPTY_PRINT};
 
+use crate::images::first_value;
 use crate::rows::{TableRows, row_among};
 use desk_values::{Image, Memory, Outcome, Value};
 use std::alloc::Global;
 use std::collections::HashMap;
 
-/// The committed rows of a table by the prints of their keys. It is kept where no two rows have one print, and not where
-/// memory was short; rows are looked through then.
+/// The print of the empty text. It is odd, so that bytes of 0 at the front of a text count too.
+const EMPTY_PRINT: u64 = 14_695_981_039_346_656_037;
+
+/// By what the print of a text is multiplied for each byte, an odd number.
+const PRINT_FACTOR: u64 = 1_099_511_628_211;
+
+/// The committed rows of a table by the prints of their keys. It is kept until two rows have one print or memory is short;
+/// from then on rows are looked through.
 #[derive(Drop)]
 pub struct KeyIndex {
     is_kept: bool,
@@ -34,7 +42,7 @@ impl KeyIndex {
             prints: HashMap::new(alloc),
         };
         for image in rows {
-            index.note(rows, image.row);
+            index.note_row(rows, image);
         }
         index
     }
@@ -59,10 +67,20 @@ impl KeyIndex {
         ensures { (image : AnyImage) (rest : List AnyImage) → image.row ≡ row → HasRows self.old rows.now (image ∷ rest) → HasRows self.new rows.now rest }
     {
         if let Some(image) = row_among(rows, row) {
-            let print = print_of_row(image);
-            let is_one = !is_others(rows, row, print, self.row_of(print));
-            self.is_kept = self.is_kept && is_one && put(&mut self.prints, print, row);
+            self.note_row(rows, image);
         }
+    }
+
+    /// Notes this one of the rows.
+    fn note_row(&mut self, rows: &[Image], image: &Image)
+        requires rising { IsRising rows.now }
+        requires among { row_at image.now.row rows.now ≡ Some image.now }
+        ensures { (first : AnyImage) (rest : List AnyImage) → first.row ≡ image.now.row → HasRows self.old rows.now (first ∷ rest) → HasRows self.new rows.now rest }
+    {
+        let row = image.row;
+        let print = print_of_row(image);
+        let is_alone = !is_others(rows, row, print, self.row_of(print));
+        self.is_kept = self.is_kept && is_alone && put(&mut self.prints, print, row);
     }
 }
 
@@ -98,12 +116,9 @@ fn has_print(image: Option<&Image>, print: u64) -> bool
 fn print_of_row(image: &Image) -> u64
     ensures { result ≡ print_of (row_key image.now) }
 {
-    let Some(values) = &image.left else {
-        return 0;
-    };
-    match values.as_slice() {
-        [key, ..] => print_of(key),
-        [] => 0,
+    match first_value(image) {
+        Some(key) => print_of(key),
+        None => 0,
     }
 }
 
@@ -119,13 +134,14 @@ pub fn print_of(key: &Value) -> u64
     }
 }
 
+/// The print of a text, by its bytes.
 fn text_print(bytes: &[u8]) -> u64
-    ensures { result ≡ text_print 0 bytes.now }
+    ensures { result ≡ text_print EMPTY_PRINT bytes.now }
 {
-    let mut print = 0_u64;
+    let mut print = EMPTY_PRINT;
     for byte in bytes {
         print = print
-            .wrapping_mul(1_099_511_628_211)
+            .wrapping_mul(PRINT_FACTOR)
             .wrapping_add(u64::from(*byte));
     }
     print

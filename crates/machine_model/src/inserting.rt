@@ -9,9 +9,10 @@ ghost use Rattle.machine_model.specs.Causes.{ranked};
 ghost use Rattle.machine_model.specs.Found.{sound};
 ghost use Rattle.machine_model.specs.Writes.{column_value, input_place, input_value, inputs_for, row_values};
 ghost use Rattle.machine_model.specs.Answer.{insert_causes, insert_effect, new_causes, new_row, ruled};
-ghost use Rattle.machine_model.specs.Inside.Decision.{Decides, view_of_place};
-ghost use Rattle.machine_model.specs.Inside.Index.{IsPlace};
+ghost use Rattle.machine_model.specs.Inside.Decision.{Decides, view_of_basis};
+ghost use Rattle.machine_model.specs.Inside.Index.{IsBasis};
 
+use crate::basis::{Basis, makes_twice};
 use crate::causes::Causes;
 use crate::deciding::{done, is_full, refusal};
 use crate::draws::drawn_value;
@@ -20,7 +21,6 @@ use crate::evaluation::Evaluation;
 use crate::found::evaluated;
 use crate::holds::hold_key;
 use crate::images::{row_key, tested};
-use crate::place::{Place, makes_twice};
 use desk_schema::Column;
 use desk_values::{Copied, Fault, Image, List, Memory, Outcome, Value, Values};
 use sql_eval::{Columns, Faults, ReadyInput, ReadyInputs};
@@ -41,27 +41,27 @@ struct Given<'a> {
 /// What an INSERT is answered, and what it does. The row that it makes has this number.
 pub fn insert(
     with: Evaluation<'_>,
-    place: Place<'_>,
+    basis: Basis<'_>,
     columns: &[Column],
     draws: Values,
     row: u64,
     named: &Option<Columns>,
     inputs: &ReadyInputs,
 ) -> Result<Decision, Memory>
-    requires { IsPlace place }
-    ensures { let env = env_of with.entry in let view = view_of_place place.entry in let entries = map entry_of inputs.now in let new = new_row env columns.now draws row place.entry.table named.now entries in IfOk result (λ d. Decides view (ruled place.entry.table view draws (insert_causes env columns.now view draws new entries) (insert_effect new)) d) }
+    requires { IsBasis basis }
+    ensures { let env = env_of with.entry in let view = view_of_basis basis.entry in let entries = map entry_of inputs.now in let new = new_row env columns.now draws row basis.entry.table named.now entries in IfOk result (λ d. Decides view (ruled basis.entry.table view draws (insert_causes env columns.now view draws new entries) (insert_effect new)) d) }
 {
     let given = Given {
         columns,
         named,
         inputs: inputs.as_slice(),
     };
-    let (new, faults) = new_row(with, given, draws.as_slice(), row, place.table)?;
-    match insert_fault(with, place, columns, &new, faults)? {
+    let (new, faults) = new_row(with, given, draws.as_slice(), row, basis.table)?;
+    match insert_fault(with, basis, columns, &new, faults)? {
         Some(fault) => Ok(refusal(fault, draws)),
         None => {
             let effect = insertion(with, new)?;
-            Ok(done(place.table, draws, effect))
+            Ok(done(basis.table, draws, effect))
         }
     }
 }
@@ -173,21 +173,21 @@ fn place_among(named: &[u32], number: usize) -> Option<usize>
 /// Why the new row may not be made, the faults of whose inputs these are.
 fn insert_fault(
     with: Evaluation<'_>,
-    place: Place<'_>,
+    basis: Basis<'_>,
     columns: &[Column],
     new: &Image,
     faults: Faults,
 ) -> Result<Option<Fault>, Memory>
-    requires { IsPlace place }
-    ensures { let view = view_of_place place.entry in IfOk result (λ fault. fault ≡ ranked (new_causes (env_of with.entry) columns.now view faults new.now)) }
+    requires { IsBasis basis }
+    ensures { let view = view_of_basis basis.entry in IfOk result (λ fault. fault ≡ ranked (new_causes (env_of with.entry) columns.now view faults new.now)) }
 {
-    let first = Causes::first(faults, is_full(&place.session.own.changes));
+    let first = Causes::first(faults, is_full(&basis.session.own.changes));
     if let Some(fault) = first.ranked() {
         return Ok(Some(fault));
     }
-    let duplicate = makes_twice(with, place, new)?;
+    let duplicate = makes_twice(with, basis, new)?;
     let key = row_key(with, new);
-    let locked = hold_key(with.level, place.others, place.table, key);
+    let locked = hold_key(with.level, basis.others, basis.table, key);
     let causes = Causes {
         locked,
         duplicate,

@@ -1,14 +1,24 @@
-//! Laws of the states that the server comes to and of its replies. A call does nothing: its clause is the law.
+//! Laws of the states that the server comes to, of its replies, and of the order of rows. A call does nothing: its clause is the law.
 
 ghost use Rattle.std.specs.Prelude.{ℕ, List};
 ghost use Rattle.std.specs.List.{AllByRecursion};
+ghost use Rattle.std.specs.List.Sorted.{IsPermutation, IsSorted};
+ghost use Rattle.desk_values.specs.declared.value.Image.{Image};
 ghost use Rattle.desk_values.specs.declared.call.Call.{Call};
 ghost use Rattle.desk_values.specs.Good.{HasGoodShape};
 ghost use Rattle.desk_schema.specs.Start.{StartView};
 ghost use Rattle.desk_schema.specs.File.{IsStart};
+ghost use Rattle.sql_tree.specs.declared.tree.Key.{Key};
+ghost use Rattle.machine_model.specs.Found.{ordered, row_order};
 ghost use Rattle.machine_model.specs.State.{State, opening, tables};
 ghost use Rattle.machine_model.specs.Step.{replies_of, reply_in, step};
 ghost use Rattle.machine_model.specs.Sound.{AreStanding, IsSound};
+
+/// The rows of an ORDER BY are the rows, and none comes before the one in front of it.
+pub fn rows_are_ordered()
+    ensures rows { (level : ℕ) (keys : List (Key ℕ)) (rows : List Image) → IsPermutation rows (ordered level keys rows) }
+    ensures order { (level : ℕ) (keys : List (Key ℕ)) (rows : List Image) → IsSorted (row_order level keys) (ordered level keys rows) }
+{}
 
 /// The server is sound at first.
 pub fn openings_are_sound()

@@ -4,10 +4,11 @@
 //!
 //! `specs` says what a call is answered and what it leaves (`Step`), by what it can depend on (`View`). `PlainMachine`
 //! decides a call on what it borrows (`Decision`), and then does what was decided; want of memory comes before anything
-//! changes. Rows are seen by reference, and the rows after all commits are kept by table.
+//! changes. Rows are seen by reference, and the rows after all commits are kept by table, with an index of their keys.
 #![tactic(auto)]
 
 mod answering;
+mod basis;
 mod causes;
 mod deciding;
 mod deleting;
@@ -25,7 +26,6 @@ pub mod laws;
 mod machine;
 mod order;
 mod permission;
-mod place;
 mod repeats;
 mod rows;
 mod seeing;

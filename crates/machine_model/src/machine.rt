@@ -11,14 +11,15 @@ ghost use Rattle.machine_model.specs.View.{others, plain_view, rows_seen, view_o
 ghost use Rattle.machine_model.specs.Request.{connect as connect_request, disconnect as disconnect_request, read, request_of, statement as statement_request, unsound};
 ghost use Rattle.machine_model.specs.Answer.{answer, reply_of};
 ghost use Rattle.machine_model.specs.Step.{Gives, after, after_made, answer_in, answer_to, committed_in, view_for};
-ghost use Rattle.machine_model.specs.Inside.Decision.{Decides, Executes, committed_by, done_so, view_of_place, view_of_seen};
+ghost use Rattle.machine_model.specs.Inside.Decision.{Decides, Executes, committed_by, done_so, view_of_basis, view_of_seen};
 ghost use Rattle.desk_values.specs.Good.{IsGoodReply};
 ghost use Rattle.machine_model.specs.Inside.Evaluation.{env_of};
-ghost use Rattle.machine_model.specs.Inside.Index.{IsPlace};
+ghost use Rattle.machine_model.specs.Inside.Index.{IsBasis};
 ghost use Rattle.machine_model.specs.Sound.{AreStanding, IsSound};
 ghost use Rattle.machine_model.specs.Rows.{IsRising, lay_all};
 
 use crate::answering::{answered, refused};
+use crate::basis::Basis;
 use crate::deleting::delete;
 use crate::draws::{draws_of, move_sequences};
 use crate::effect::{Decision, Deed};
@@ -30,7 +31,6 @@ use crate::index::{KeyIndex, indexes_of, note_commit};
 use crate::inserting::insert;
 use crate::laws::tables_stand;
 use crate::permission::statement_fault;
-use crate::place::Place;
 use crate::rows::{Rows, TableRows};
 use crate::seeing::rows_seen;
 use crate::seen::Seen;
@@ -409,7 +409,7 @@ impl PlainMachine {
         let columns = self.columns(table);
         insert(
             self.evaluation(binds),
-            self.place(session, table),
+            self.basis(session, table),
             columns,
             draws,
             self.next_row(),
@@ -495,13 +495,13 @@ impl PlainMachine {
     }
 
     /// What an INSERT into a table can depend on.
-    fn place(&self, session: usize, table: u32) -> Place<'_>
+    fn basis(&self, session: usize, table: u32) -> Basis<'_>
         requires { session < 64 }
-        ensures is_place { IsPlace result }
-        ensures view { view_of_place result ≡ view_of self.now.state session (Some table) }
+        ensures is_basis { IsBasis result }
+        ensures view { view_of_basis result ≡ view_of self.now.state session (Some table) }
         ensures table { result.table ≡ table }
     {
-        Place {
+        Basis {
             session: self.session(session),
             others: self.others(session),
             table,

@@ -4,8 +4,7 @@ ghost use Rattle.std.specs.Prelude.{◌≡◌, ◌+◌, ◌<◌, ◌≤◌, ◌+
 ghost use Rattle.std.specs.Option.{option_copied};
 ghost use Rattle.std.specs.Vec.{vec_capacity};
 ghost use Rattle.machine_model.specs.Rows.{IsRising, is_there, lay, noted, of_table, one, placed, shown};
-ghost use Rattle.machine_model.specs.Inside.Index.{row_at};
-ghost use Rattle.machine_model.specs.Inside.Rows.{place};
+ghost use Rattle.machine_model.specs.Inside.Rows.{place, row_at};
 
 use desk_values::{Copied, Image, List, Memory};
 use std::alloc::Global;

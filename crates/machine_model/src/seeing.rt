@@ -2,7 +2,7 @@
 
 ghost use Rattle.std.specs.Prelude.{◌≡◌, ◌++◌, map, IfOk, OnOk};
 ghost use Rattle.machine_model.specs.Rows.{IsRising, lay, lay_all, of_table, shown};
-ghost use Rattle.machine_model.specs.Inside.Rows.{AreLatest, stocked};
+ghost use Rattle.machine_model.specs.Inside.Rows.{AreLatest, all_shown, stocked};
 ghost use Rattle.sql_eval.specs.Totals.{looked_at};
 ghost use Rattle.machine_model.specs.View.{commits_seen, rows_seen};
 
@@ -57,6 +57,23 @@ fn picked<'a>(alloc: Global, images: &'a [Image], table: u32) -> Result<Vec<&'a 
     for image in images {
         if image.table == table {
             seen.push(image)?;
+        }
+    }
+    Ok(seen)
+}
+
+/// Those of one table, but rows that are gone.
+pub fn shown_of<'a>(
+    alloc: Global,
+    images: &'a [Image],
+    table: u32,
+) -> Result<Vec<&'a Image>, Memory>
+    ensures { IfOk result (λ seen. looked_at seen.items ≡ all_shown (of_table table images.now)) }
+{
+    let mut seen = Vec::new(alloc);
+    for image in images {
+        if image.table == table {
+            show(&mut seen, image)?;
         }
     }
     Ok(seen)

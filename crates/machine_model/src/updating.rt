@@ -7,7 +7,7 @@ ghost use Rattle.sql_eval.specs.Totals.{looked_at};
 ghost use Rattle.machine_model.specs.Inside.Evaluation.{env_of, replaced};
 ghost use Rattle.desk_values.specs.declared.call.Outcome.TheVariants.{Count};
 ghost use Rattle.machine_model.specs.Causes.{ranked};
-ghost use Rattle.machine_model.specs.Inside.Parts.{meets_hold, update_first};
+ghost use Rattle.machine_model.specs.Inside.FirstCauses.{meets_hold, update_first};
 ghost use Rattle.machine_model.specs.Found.{matches, matching, row_faults, value_in};
 ghost use Rattle.machine_model.specs.Rows.{row_key, row_numbers};
 ghost use Rattle.machine_model.specs.Writes.{keys_moved, moved_keys, repeats_key, sources, updated};

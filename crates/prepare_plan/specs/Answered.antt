@@ -9,7 +9,10 @@ use Rattle.prepare_plan.specs.declared.prepared.Prepared.{Prepared}
 abbrev pub plan_seen : Prepared → Result Plan Refusal
 plan_seen prepared = Ok (record { calls = prepared.calls.items; facts = prepared.facts })
 
--- want of memory tells nothing
-abbrev pub refusal_told : Refusal → Option (Result Plan Refusal)
-refusal_told Memory = None
-refusal_told refusal = Some (Err refusal)
+-- what a refusal tells of what was to be answered, where the answer with it is this; want of memory tells nothing
+abbrev pub told_as : {R : Type 0} → (Refusal → R) → Refusal → Option R
+told_as answer Memory = None
+told_as answer refusal = Some (answer refusal)
+
+abbrev pub refusal_told : {X : Type 0} → Refusal → Option (Result X Refusal)
+refusal_told refusal = told_as Err refusal

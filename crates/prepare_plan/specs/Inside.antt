@@ -13,20 +13,19 @@ use Rattle.desk_values.specs.declared.value.Value.{Value}
 use Rattle.desk_values.specs.declared.value.Value.TheVariants.{Row, Draw}
 use Rattle.desk_values.specs.declared.capture.Captured.{Captured}
 use Rattle.capture_verdict.specs.declared.refusal.Refusal.{Refusal}
-use Rattle.capture_verdict.specs.declared.refusal.Refusal.TheVariants.{Memory}
 use Rattle.prepare_plan.specs.declared.seats.Seat.{Seat}
 use Rattle.prepare_plan.specs.declared.seats.Seat.TheVariants.{Empty, Taken, Crowded}
 use Rattle.prepare_plan.specs.declared.known.KnownIds.{KnownIds}
 use Rattle.capture_verdict.specs.Tests.{bad_stamp}
+use Rattle.prepare_plan.specs.Answered.{told_as}
 
 -- the calls that are looked at
 abbrev pub shown : List (Bor Captured) → List Captured
 shown calls = map (λ (call : Bor Captured). call.now) calls
 
--- want of memory tells nothing of a test
+-- what a refusal tells of a test
 abbrev pub told : Refusal → Option (Option Refusal)
-told Memory = None
-told refusal = Some (Some refusal)
+told refusal = told_as Some refusal
 
 -- a test is passed where there is no refusal
 abbrev pub passed : Unit {0} → Option Refusal
@@ -62,10 +61,6 @@ ordered calls = ordered_or (bad_stamp calls) calls
 
 abbrev pub ordered_seen : Room Captured → Result (List Captured) Refusal
 ordered_seen calls = Ok calls.items
-
-abbrev pub order_told : Refusal → Option (Result (List Captured) Refusal)
-order_told Memory = None
-order_told refusal = Some (Err refusal)
 
 -- ---- ids
 

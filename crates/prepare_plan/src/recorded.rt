@@ -4,22 +4,20 @@ ghost use Rattle.std.specs.Prelude.{◌≡◌, ◌+◌, ◌<◌, ◌≤◌, ◌+
 ghost use Rattle.std.specs.List.{AllByRecursion};
 ghost use Rattle.desk_values.specs.Answers.{Answers};
 ghost use Rattle.desk_values.specs.declared.capture.Captured.{Captured as Call};
-ghost use Rattle.replay_history.specs.Capture.{commits};
-ghost use Rattle.capture_verdict.specs.Tests.{bad_number, bad_seen, bad_times, commits_in, first_refused, right_number};
+ghost use Rattle.replay_history.specs.Capture.{commits, commits_in};
+ghost use Rattle.capture_verdict.specs.Tests.{bad_number, bad_seen, bad_times, first_refused, right_number};
 ghost use Rattle.capture_verdict.specs.Inside.{IsFit};
 ghost use Rattle.prepare_plan.specs.Inside.{passed, told};
 
 use capture_verdict::Refusal;
-use desk_values::{Captured, Outcome};
+use desk_values::Captured;
+use replay_history::commits;
 
 /// Whether a call is a numbered commit: it committed something.
 pub(crate) fn is_numbered(call: &Captured) -> bool
     ensures { result ≡ commits call.now.reply.outcome }
 {
-    match &call.reply.outcome {
-        Outcome::Committed(images) => !images.is_empty(),
-        _ => false,
-    }
+    commits(&call.reply.outcome)
 }
 
 /// How many numbered commits there are when one more call is counted.

@@ -5,7 +5,8 @@ ghost use Rattle.std.specs.List.{filter_map, find, range_with_len};
 ghost use Rattle.desk_values.specs.Answers.{Answers};
 ghost use Rattle.desk_values.specs.declared.capture.Captured.{Captured as Call};
 ghost use Rattle.prepare_plan.specs.declared.seats.Seat.TheVariants.{Empty as NoCall};
-ghost use Rattle.prepare_plan.specs.Inside.{shown, IsSeat, AreSeatsOf, is_taken, taken_call, ordered, ordered_seen, order_told};
+ghost use Rattle.prepare_plan.specs.Inside.{shown, IsSeat, AreSeatsOf, is_taken, taken_call, ordered, ordered_seen};
+ghost use Rattle.prepare_plan.specs.Answered.{refusal_told};
 
 use capture_verdict::Refusal;
 use desk_values::{CallList, Captured, Copied, Memory, Reserved};
@@ -45,7 +46,7 @@ impl<'a> Seat<'a> {
 /// The calls by stamp; `Stamp` where some stamp is not that of one call, with the least.
 pub(crate) fn ordered(alloc: Global, calls: &[&Captured]) -> Result<CallList, Refusal>
     requires { length calls.now ≤ 100000 }
-    ensures { Answers ordered_seen order_told result (ordered (shown calls.now)) }
+    ensures { Answers ordered_seen refusal_told result (ordered (shown calls.now)) }
 {
     let seats = seated(alloc, calls)?;
     match free_seat(&seats) {

@@ -1,5 +1,7 @@
 -- The first of the faults that apply is the one of the lowest rank.
 use Rattle.std.proofs.Common.{◌≡◌, ◌≤◌, ◌⊎◌, inl, inr, ℕ, Bool, true, false, if◌then◌else◌, Option, None, Some, refl, ap, ◌∙◌, arith, ⊎_elim}
+use Rattle.std.proofs.lemmas.Bool.{and_parts, or_cases}
+use Rattle.std.proofs.Math.Bool.{or-true}
 use Rattle.std.specs.Prelude.{◌&&◌, ◌||◌, IfSome, IsSomeAnd, is_none, is_some}
 use Rattle.desk_values.specs.declared.fault.Fault.{Fault}
 use Rattle.desk_values.specs.declared.fault.Fault.TheVariants.{Syntax, UnknownTable, UnknownColumn, UnknownSequence, UnknownService, Kinds, BindMissing, Locked, DuplicateKey, NullValue, OutOfRange, TextTooLong, ZeroDivisor, Overflow, ReadOnly, NotConnected, AlreadyConnected, UnderWay, TooManyRows}
@@ -77,18 +79,6 @@ none_is : {X : Type 0} (o : Option X) → is_none o ≡ true → o ≡ None
 none_is None is = refl
 none_is (Some x) is = absurd (let never : false ≡ true = is in cc)
 
-both_are : (a b : Bool) → (a && b) ≡ true → (a ≡ true) × (b ≡ true)
-both_are true b is = (refl, is)
-both_are false b is = absurd (let never : false ≡ true = is in cc)
-
-one_is : (a b : Bool) → (a || b) ≡ true → (a ≡ true) ⊎ (b ≡ true)
-one_is true b is = inl refl
-one_is false b is = inr is
-
-or_right : (a : Bool) → (a || true) ≡ true
-or_right true = refl
-or_right false = refl
-
 reads_only_is : (o : Option Rights) → is_read_only o ≡ true → o ≡ Some rights.ReadOnly
 reads_only_is None is = absurd (let never : false ≡ true = is in cc)
 reads_only_is (Some rights.ReadWrite) is = absurd (let never : false ≡ true = is in cc)
@@ -106,18 +96,18 @@ sets_is set_read_only is = refl
 
 module _ (view : View) (plan : Plan ℕ) where
   may_only_read : (is_read_only view.rights || view.reads_only) ≡ true → MayOnlyRead view
-  may_only_read is = ⊎_elim (λ rights. inl (reads_only_is view.rights rights)) (λ reads. inr reads) (one_is (is_read_only view.rights) view.reads_only is)
+  may_only_read is = ⊎_elim (λ rights. inl (reads_only_is view.rights rights)) (λ reads. inr reads) (or_cases (is_read_only view.rights) view.reads_only is)
 
   only_reads : MayOnlyRead view → (is_read_only view.rights || view.reads_only) ≡ true
   only_reads (inl rights) = ap (λ (o : Option Rights). is_read_only o || view.reads_only) rights
-  only_reads (inr reads) = ap (λ (b : Bool). is_read_only view.rights || b) reads ∙ or_right (is_read_only view.rights)
+  only_reads (inr reads) = ap (λ (b : Bool). is_read_only view.rights || b) reads ∙ or-true (is_read_only view.rights)
 
   statements_apply : IfSome (statement_fault view plan) (Forbids view plan)
   unfolding statement_fault
   statements_apply =
       first_applies (is_none view.rights) NotConnected _ (Forbids view plan) (none_is view.rights)
-      (first_applies (needs_write_access plan && (is_read_only view.rights || view.reads_only)) ReadOnly _ (Forbids view plan) (λ is. let both = both_are (needs_write_access plan) (is_read_only view.rights || view.reads_only) is in (both.0, may_only_read both.1))
-      (first_applies (sets_read_only plan && is_under_way view) UnderWay _ (Forbids view plan) (λ is. let both = both_are (sets_read_only plan) (is_under_way view) is in (sets_is plan both.0, both.1)) tt))
+      (first_applies (needs_write_access plan && (is_read_only view.rights || view.reads_only)) ReadOnly _ (Forbids view plan) (λ is. let both = and_parts (needs_write_access plan) (is_read_only view.rights || view.reads_only) is in (both.0, may_only_read both.1))
+      (first_applies (sets_read_only plan && is_under_way view) UnderWay _ (Forbids view plan) (λ is. let both = and_parts (sets_read_only plan) (is_under_way view) is in (sets_is plan both.0, both.1)) tt))
 
   statements_lowest : (other : Fault) → Forbids view plan other → IsAtMost (fault_rank other) (statement_fault view plan)
   unfolding statement_fault

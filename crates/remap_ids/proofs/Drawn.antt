@@ -1,9 +1,8 @@
 -- Draws by place, and pairs at the front of others.
 use Rattle.std.proofs.Common.{◌≡◌, ◌∙◌, ℕ, ◌<◌, ◌≤◌, zero, suc, List, [], ◌∷◌, ◌++◌, drop, get_or, length, min, refl, sym, ap, arith}
 use Rattle.std.proofs.lemmas.List.{drop_all}
-use Rattle.std.proofs.lemmas.List.Sums.{fold-append}
 use Rattle.desk_values.specs.declared.value.Value.{Value}
-use Rattle.id_pairs.specs.Pairs.{IdPair, all_new, with_new, drawn_pair, drawn_pairs}
+use Rattle.id_pairs.specs.Pairs.{IdPair, all_new, drawn_pair, drawn_pairs}
 
 pub drawn_next : (captured replayed : List Value) (i : ℕ) (x y : Value) → i < length captured → i < length replayed → x ≡ get_or captured i x → y ≡ get_or replayed i y → drawn_pairs (drop i captured) (drop i replayed) ≡ drawn_pair x y ++ drawn_pairs (drop (suc i) captured) (drop (suc i) replayed)
 drawn_next (c ∷ cs) (r ∷ rs) zero x y within also first second = rw (first, second) refl
@@ -24,12 +23,6 @@ drawn_over [] replayed i over = ap (λ captured. drawn_pairs captured (drop i re
 drawn_over (c ∷ cs) [] i over = ap (λ replayed. drawn_pairs (drop i (c ∷ cs)) replayed) (drop_all i [] (omega arith)) ∙ no_replayed (drop i (c ∷ cs))
 drawn_over (c ∷ cs) (r ∷ rs) zero over = absurd (omega (arith, over))
 drawn_over (c ∷ cs) (r ∷ rs) (suc i) over = drawn_over cs rs i (omega (arith, over))
-
--- the pairs with those of the next place
-pub drawn_on : (before after all : List IdPair) (captured replayed : List Value) (i next : ℕ) (x y : Value) → next ≡ suc i → i < length captured → i < length replayed → x ≡ get_or captured i x → y ≡ get_or replayed i y → after ≡ all_new before (drawn_pair x y) → all_new before (drawn_pairs (drop i captured) (drop i replayed)) ≡ all → all_new after (drawn_pairs (drop next captured) (drop next replayed)) ≡ all
-drawn_on before after all captured replayed i next x y follows within also first second gains is =
-    let rest = drawn_pairs (drop (suc i) captured) (drop (suc i) replayed) in
-    rw (follows, gains) (sym (fold-append with_new before (drawn_pair x y) rest) ∙ ap (λ (pairs : List IdPair). all_new before pairs) (sym (drawn_next captured replayed i x y within also first second)) ∙ is)
 
 pub all_drawn : (before all : List IdPair) (captured replayed : List Value) (i : ℕ) → min (length captured) (length replayed) ≤ i → all_new before (drawn_pairs (drop i captured) (drop i replayed)) ≡ all → before ≡ all
 all_drawn before all captured replayed i over is = sym (ap (λ (pairs : List IdPair). all_new before pairs) (drawn_over captured replayed i over)) ∙ is

@@ -1,5 +1,6 @@
 -- What is taken of a bag of items.
-use Rattle.std.proofs.Common.{◌≡◌, Bool, true, false, cond, List, [], ◌∷◌, length, map, refl, ◌∙◌, arith}
+use Rattle.std.proofs.Common.{◌≡◌, Bool, true, false, cond, List, [], ◌∷◌, length, map, refl, ◌∙◌, sym}
+use Rattle.std.proofs.lemmas.Slice.Zip.{AllZip-long}
 use Rattle.std.specs.List.{AllZip, filter, list_any}
 use Rattle.sql_eval.specs.Moved.{Moved, none, more, swapped, along}
 use Rattle.sql_eval.proofs.Moved.{moved_any, moved_length}
@@ -47,12 +48,6 @@ module _ {A B : Type 0} (R : A → B → Type 0) where
   zipped_any p q alike [] (y ∷ ys) z = absurd z
   zipped_any p q alike (x ∷ xs) [] z = absurd z
 
-  pub zipped_length : (xs : List A) (ys : List B) → AllZip R xs ys → length xs ≡ length ys
-  zipped_length [] [] z = refl
-  zipped_length (x ∷ xs) (y ∷ ys) z = omega (arith, zipped_length xs ys z.1)
-  zipped_length [] (y ∷ ys) z = absurd z
-  zipped_length (x ∷ xs) [] z = absurd z
-
   pub zipped_map : {C D : Type 0} (S : C → D → Type 0) (f : A → C) (g : B → D) → ((x : A) (y : B) → R x y → S (f x) (g y)) → (xs : List A) (ys : List B) → AllZip R xs ys → AllZip S (map f xs) (map g ys)
   zipped_map S f g carried [] [] z = tt
   zipped_map S f g carried (x ∷ xs) (y ∷ ys) z = (carried x y z.0, zipped_map S f g carried xs ys z.1)
@@ -91,7 +86,7 @@ module _ {A B : Type 0} (R : A → B → Type 0) where
   bags_any p q alike {xs} {ys} bags = zipped_any p q alike xs bags.turned bags.related ∙ moved_any q bags.moved
 
   pub bags_length : {xs : List A} {ys : List B} → AreBags R xs ys → length xs ≡ length ys
-  bags_length {xs} {ys} bags = zipped_length xs bags.turned bags.related ∙ moved_length bags.moved
+  bags_length {xs} {ys} bags = sym (AllZip-long R xs bags.turned bags.related) ∙ moved_length bags.moved
 
   pub bags_filter : (p : A → Bool) (q : B → Bool) → ((x : A) (y : B) → R x y → p x ≡ q y) → {xs : List A} {ys : List B} → AreBags R xs ys → AreBags R (filter p xs) (filter q ys)
   bags_filter p q alike {xs} {ys} bags = record { turned = filter q bags.turned; related = zipped_filter p q alike xs bags.turned bags.related; moved = moved_filter q bags.moved }

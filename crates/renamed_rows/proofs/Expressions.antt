@@ -3,6 +3,7 @@ use Rattle.std.proofs.Common.{◌≡◌, ℕ, not, zero, suc, ◌-◌, Bool, tru
 use Rattle.std.specs.Prelude.{ℤ, neg_ℤ, ◌+ℤ◌, ◌-ℤ◌, ◌*ℤ◌, if◌then◌else◌, nat_eq}
 use Rattle.std.specs.List.{Contains}
 use Rattle.std.proofs.lemmas.List.Folds.{list_any-append}
+use Rattle.std.proofs.Math.Bool.{or-true}
 use Rattle.std.specs.Option.{option_map, unwrap_or}
 use Rattle.std.specs.Ordering.{is_lt, is_le, is_gt, is_ge}
 use Rattle.desk_values.specs.declared.value.Value.{Value}
@@ -172,11 +173,7 @@ module _ (pairs : List IdPair) (level here other : ℕ) (values others : List Va
   first_fits op a b fits e = fits (list_any-append is_rowid (leaves a) (leaves b) ∙ ap (λ t. t || names_row b) e)
 
   second_fits : (op : Op) (a b : Term ℕ) → RowsFit pairs here other (term.bin op a b) → RowsFit pairs here other b
-  second_fits op a b fits e = fits (list_any-append is_rowid (leaves a) (leaves b) ∙ ap (λ t. names_row a || t) e ∙ or_true (names_row a))
-    where
-      or_true : (c : Bool) → (c || true) ≡ true
-      or_true true = refl
-      or_true false = refl
+  second_fits op a b fits e = fits (list_any-append is_rowid (leaves a) (leaves b) ∙ ap (λ t. names_row a || t) e ∙ or-true (names_row a))
 
   pub value_twins : (e : Term ℕ) → RowsFit pairs here other e → TwinPart pairs (value_of level here values binds e) (value_of level other others sent e)
   value_twins term.null fits = part Null Null null

@@ -6,6 +6,7 @@ use Rattle.id_pairs.specs.Ids.{same_id}
 use Rattle.id_pairs.specs.Pairs.{HasNoIdTwice, IdPair}
 use Rattle.id_pairs.proofs.SameIds.{same_decides, same_equivalence}
 use Rattle.std.proofs.lemmas.Map.Views.{Contains-from_lookup, lookup-from_Contains}
+use Rattle.std.proofs.lemmas.Bool.{both_ways}
 use Rattle.renamed_rows.specs.Laws.{ImagesArePairs}
 use Rattle.desk_schema.proofs.Members.{Contains-cases, Contains-here, Contains-none, Contains-there}
 
@@ -16,15 +17,11 @@ mapped {X} {Y} f (y ∷ ys) x c = ⊎_elim
     (λ later. Contains-there (f y) (map f ys) (f x) (mapped f ys x later))
     (Contains-cases y ys x c)
 
-clash : (b : Bool) → b ≡ true → b ≡ false → ⊥
-clash true s t = absurd (cc)
-clash false s t = absurd (cc)
-
 -- an id that is apart from all is none of them
 apart : (id : Id) (ids : List Id) → AllByRecursion (λ y. same_id id y ≡ false) ids → (other : Id) → id ≡ other → Contains ids other → ⊥
 apart id [] all other e c = Contains-none other c
 apart id (first ∷ ids) all other e c = ⊎_elim
-    (λ is. clash (same_id id first) ((same_decides id first).1 (e ∙ sym is)) all.0)
+    (λ is. both_ways (same_id id first) all.0 ((same_decides id first).1 (e ∙ sym is)))
     (λ later. apart id ids all.1 other e later)
     (Contains-cases first ids other c)
 

@@ -1,5 +1,6 @@
 -- Totals over renamed rows are the same.
-use Rattle.std.proofs.Common.{◌≡◌, ℕ, List, [], ◌∷◌, Option, Result, Ok, refl, ap, ◌∙◌}
+use Rattle.std.proofs.Common.{◌≡◌, ℕ, List, [], ◌∷◌, Option, Result, Ok, refl, ap, ◌∙◌, sym}
+use Rattle.std.proofs.lemmas.Slice.Zip.{AllZip-long}
 use Rattle.std.specs.Prelude.{pos}
 use Rattle.std.specs.List.{AllZip, cons_option, filter_map}
 use Rattle.std.specs.Result.{result_ok}
@@ -17,7 +18,7 @@ use Rattle.id_pairs.specs.Pairs.{IdPair}
 use Rattle.id_pairs.specs.Renaming.{AreRenamed}
 use Rattle.renamed_rows.specs.Bags.{AreBags}
 use Rattle.renamed_rows.specs.Images.{IsRenamedImage}
-use Rattle.renamed_rows.proofs.Bags.{bags_any, zipped_any, zipped_length}
+use Rattle.renamed_rows.proofs.Bags.{bags_any, zipped_any}
 use Rattle.renamed_rows.proofs.Expressions.{Twin, int, text, TwinPart, part, part_fault, image_values, value_twins}
 
 pub number_twins : {pairs : List IdPair} {v w : Value} → Twin pairs v w → number_in v ≡ number_in w
@@ -79,7 +80,7 @@ module _ (pairs : List IdPair) (level : ℕ) (binds sent : List Value) (given : 
   whole d e = λ i. unless_told (told (d i)) (e i)
 
   zipped_total : (t : Total ℕ) (rows others : List Image) → AllZip (IsRenamedImage pairs) rows others → total_over level binds t rows ≡ total_over level sent t others
-  zipped_total total.count rows others z = ap (λ n. Ok (Int (pos n))) (zipped_length (IsRenamedImage pairs) rows others z)
+  zipped_total total.count rows others z = ap (λ n. Ok (Int (pos n))) (sym (AllZip-long (IsRenamedImage pairs) rows others z))
   zipped_total (total.total e) rows others z = whole (faults_zipped e rows others z) (sums e rows others z)
   zipped_total (total.least e) rows others z = whole (faults_zipped e rows others z) (ap Ok (extremes e _ rows others z))
   zipped_total (total.greatest e) rows others z = whole (faults_zipped e rows others z) (ap Ok (extremes e _ rows others z))

@@ -4,6 +4,7 @@ use Rattle.std.specs.Prelude.{nat_eq, is_some}
 use Rattle.std.specs.List.{AllByRecursion, Contains, find, flat_map, list_all, list_any}
 use Rattle.std.specs.Option.{option_map}
 use Rattle.std.proofs.lemmas.List.Folds.{list_any-append}
+use Rattle.std.proofs.lemmas.Bool.{or_parts}
 use Rattle.desk_values.specs.declared.value.Value.{Value}
 use Rattle.desk_values.specs.declared.value.Value.TheVariants.{Draw}
 use Rattle.desk_values.specs.declared.call.Call.{Call}
@@ -130,14 +131,6 @@ module _ (pairs : List IdPair) (like : AllLike pairs) where
 
 -- ---- a checked INSERT names no row of its own
 
-first_false : (b c : Bool) → (b || c) ≡ false → b ≡ false
-first_false true c e = absurd (cc)
-first_false false c e = refl
-
-second_false : (b c : Bool) → (b || c) ≡ false → c ≡ false
-second_false true c e = absurd (cc)
-second_false false c e = e
-
 plain_input : (by : Naming Name ℕ) (t : Term Name) → list_any is_of_row (leaves t) ≡ false → names_row (map_term by.column t) ≡ false
 plain_input by tree.null e = refl
 plain_input by (tree.int n) e = refl
@@ -148,9 +141,9 @@ plain_input by tree.rowid e = absurd (cc)
 plain_input by (tree.neg t) e = plain_input by t e
 plain_input by (tree.not t) e = plain_input by t e
 plain_input by (tree.bin op a b) e =
-    let both = sym (list_any-append is_of_row (leaves a) (leaves b)) ∙ e in
-    let f = plain_input by a (first_false _ _ both) in
-    let s = plain_input by b (second_false _ _ both) in
+    let both = or_parts _ _ (sym (list_any-append is_of_row (leaves a) (leaves b)) ∙ e) in
+    let f = plain_input by a both.0 in
+    let s = plain_input by b both.1 in
     list_any-append is_rowid (leaves (map_term by.column a)) (leaves (map_term by.column b)) ∙ (λ i. f i || s i)
 plain_input by (tree.is_null t) e = plain_input by t e
 plain_input by (tree.not_null t) e = plain_input by t e
@@ -158,7 +151,7 @@ plain_input by (tree.not_null t) e = plain_input by t e
 plain_inputs : (by : Naming Name ℕ) (entries : List (Entry Name)) → list_any is_of_row (flat_map entry_leaves entries) ≡ false → AllByRecursion IsInput (map (map_entry by) entries)
 plain_inputs by [] e = tt
 plain_inputs by (tree.drawn sequence ∷ entries) e = (tt, plain_inputs by entries e)
-plain_inputs by (tree.value t ∷ entries) e = (plain_input by t (first_false _ _ (sym (list_any-append is_of_row (leaves t) (flat_map entry_leaves entries)) ∙ e)), plain_inputs by entries (second_false _ _ (sym (list_any-append is_of_row (leaves t) (flat_map entry_leaves entries)) ∙ e)))
+plain_inputs by (tree.value t ∷ entries) e = let both = or_parts _ _ (sym (list_any-append is_of_row (leaves t) (flat_map entry_leaves entries)) ∙ e) in (plain_input by t both.0, plain_inputs by entries both.1)
 
 -- where no fault is found, the second does not apply
 second_fits : (test : Fault → Bool) (a b : Fault) (rest : List Fault) → find test (a ∷ b ∷ rest) ≡ None → test b ≡ false
@@ -172,7 +165,7 @@ second_fits test a b rest = elim (test a) as (λ p. cond p (Some a) (cond (test 
 
 pub checked_inputs : (schema : SchemaView) (binds : List Value) (parsed : Plan Name) → first_fault schema binds parsed ≡ None → HasInputs (numbered schema parsed)
 unfolding first_fault
-checked_inputs schema binds (tree.insert table named entries) e = plain_inputs (numbers (table_number schema.tables (Some table)) (column_names (columns_at schema (tree.insert table named entries))) schema.sequences) entries (first_false _ _ (first_false _ _ (second_fits (applies schema binds (tree.insert table named entries)) UnknownTable UnknownColumn (UnknownSequence ∷ BindMissing ∷ Kinds ∷ []) e)))
+checked_inputs schema binds (tree.insert table named entries) e = plain_inputs (numbers (table_number schema.tables (Some table)) (column_names (columns_at schema (tree.insert table named entries))) schema.sequences) entries (or_parts _ _ (or_parts _ _ (second_fits (applies schema binds (tree.insert table named entries)) UnknownTable UnknownColumn (UnknownSequence ∷ BindMissing ∷ Kinds ∷ []) e)).0).0
 checked_inputs schema binds (tree.select table asked condition keys held) e = tt
 checked_inputs schema binds (tree.next sequence) e = tt
 checked_inputs schema binds (tree.update table changes condition) e = tt

@@ -1,24 +1,18 @@
 -- Keys of renamed rows: which are one, whether two are, and whether others hold one.
-use Rattle.std.proofs.Common.{◌≡◌, ℕ, Bool, true, false, ◌||◌, ◌&&◌, List, [], ◌∷◌, refl, sym, ap, ◌∙◌, arith}
+use Rattle.std.proofs.Common.{◌≡◌, ℕ, false, ◌||◌, ◌&&◌, List, [], ◌∷◌, refl, ap, ◌∙◌}
 use Rattle.std.specs.Prelude.{◌==◌}
 use Rattle.std.specs.List.{AllZip, list_any}
 use Rattle.std.specs.Option.{unwrap_or}
-use Rattle.std.specs.Ordering.{is_eq, int_cmp, nat_cmp}
-use Rattle.std.specs.Cmp.{both_tied, unsigned_ties}
-use Rattle.std.proofs.lemmas.Cmp.{eq_by_cmp_equiv}
 use Rattle.desk_values.specs.declared.value.Value.{Value}
-use Rattle.desk_values.specs.declared.value.Value.TheVariants.{Null, Int, Text, Row, Draw}
 use Rattle.desk_values.specs.declared.value.Image.{Image}
-use Rattle.desk_values.specs.Comparison.{same_key, text_order}
+use Rattle.desk_values.specs.Comparison.{same_key}
 use Rattle.desk_schema.specs.Rules.{key_of}
 use Rattle.sql_eval.specs.Moved.{Moved, none, more, swapped, along}
 use Rattle.sql_eval.specs.Totals.{values_in}
 use Rattle.sql_eval.proofs.Moved.{moved_any}
 use Rattle.machine_model.specs.Rows.{row_key}
 use Rattle.machine_model.specs.Writes.{is_locked_key, repeats_key}
-use Rattle.machine_model.specs.Inside.Repeats.{order_of_keys}
-use Rattle.machine_model.proofs.Ordering.{then_equal}
-use Rattle.machine_model.proofs.Repeating.{keys_total}
+use Rattle.machine_model.proofs.Repeating.{or_swap, same_back}
 use Rattle.id_pairs.specs.Pairs.{HasNoIdTwice, IdPair}
 use Rattle.id_pairs.specs.Renaming.{AreRenamed, IsRenamed}
 use Rattle.renamed_rows.specs.Bags.{AreBags}
@@ -30,37 +24,11 @@ use Rattle.renaming_law.proofs.Sets.{sets_any}
 
 -- ---- whatever the order
 
-is_something : Value → Bool
-is_something Null = false
-is_something other = true
-
-same_key_is : (level : ℕ) (a b : Value) → same_key level a b ≡ (is_something a && is_eq (order_of_keys level a b))
-unfolding is_something
-same_key_is level (Int a) (Int b) = ap is_eq (sym (then_equal (int_cmp a b)))
-same_key_is level (Text a) (Text b) = ap is_eq (sym (then_equal (text_order level a b)))
-same_key_is level (Row a) (Row b) = unsigned_ties a b
-same_key_is level (Draw p a) (Draw q b) = both_tied (p == q) (a == b) (nat_cmp p q) (nat_cmp a b) (unsigned_ties p q) (unsigned_ties a b)
-same_key_is level a Null = refl
-same_key_is level a b = refl
-
-either_way : (level : ℕ) (a b : Value) → (is_something a && is_eq (order_of_keys level a b)) ≡ (is_something b && is_eq (order_of_keys level b a))
-unfolding is_something
-either_way level Null Null = refl
-either_way level Null b = refl
-either_way level a Null = refl
-either_way level a b = (eq_by_cmp_equiv (keys_total level)).symm a b
-
-same_back : (level : ℕ) (a b : Value) → same_key level a b ≡ same_key level b a
-same_back level a b = same_key_is level a b ∙ either_way level a b ∙ sym (same_key_is level b a)
-
-either_order : (a b c d : Bool) → ((a || b) || (c || d)) ≡ ((a || c) || (b || d))
-either_order a b c d = grind arith
-
 pub moved_repeats : (level : ℕ) {xs ys : List Value} → Moved xs ys → repeats_key level xs ≡ repeats_key level ys
 unfolding repeats_key
 moved_repeats level none = refl
 moved_repeats level (more x xs ys m) = λ i. moved_any (same_key level x) m i || moved_repeats level m i
-moved_repeats level (swapped x y xs) = ap (λ b. (b || list_any (same_key level x) xs) || (list_any (same_key level y) xs || repeats_key level xs)) (same_back level x y) ∙ either_order (same_key level y x) (list_any (same_key level x) xs) (list_any (same_key level y) xs) (repeats_key level xs)
+moved_repeats level (swapped x y xs) = ap (λ b. (b || list_any (same_key level x) xs) || (list_any (same_key level y) xs || repeats_key level xs)) (same_back level x y) ∙ or_swap (same_key level y x) (list_any (same_key level x) xs) (list_any (same_key level y) xs) (repeats_key level xs)
 moved_repeats level (along xs ys zs m n) = moved_repeats level m ∙ moved_repeats level n
 
 -- ---- renamed keys

@@ -46,7 +46,7 @@ abbrev RowsDiffer : List Image → Type 0
 RowsDiffer [] = Unit {0}
 RowsDiffer (image ∷ images) = ((other : Image) → Contains images other → other.row ≡ image.row → ⊥) × RowsDiffer images
 
-least_row : (n : ℕ) (images : List Image) → RisesFrom n images → (other : Image) → Contains images other → n ≤ other.row
+pub least_row : (n : ℕ) (images : List Image) → RisesFrom n images → (other : Image) → Contains images other → n ≤ other.row
 least_row n [] rises other c = absurd (Contains-none other c)
 least_row n (image ∷ images) rises other c = ⊎_elim
     (λ is. let P : Image → Type 0 = λ x. n ≤ x.row in subst P is rises.0)

@@ -21,12 +21,13 @@ use Rattle.replay_cli.specs.Done.{IsDone}
 use Rattle.replay_cli.specs.Inside.Steps.{Step, Stops}
 use Rattle.replay_cli.specs.Ending.{Causes, Ends, EndsSo, IsOutside, Reports, status_of, line_of}
 use Rattle.replay_cli.specs.Inside.Ending.{LeftOver, RunFaults, RunSays}
-use Rattle.replay_cli.proofs.StepLaws.{told, told_both, told_at, some_and}
+use Rattle.replay_cli.proofs.StepLaws.{told_both, told_at}
 use Rattle.replay_cli.proofs.Unique.{verdict_one}
+use Rattle.desk_files.proofs.WriteLaws.{told, some_and}
 
 -- ---- the work
 
-verdict_is : (words : List (List ℕ)) (files : FileMap) (command : Command) (task : Task) → command_of words ≡ Some command → Decides command files (Ok task) → Verdict words files (Ok task)
+pub verdict_is : (words : List (List ℕ)) (files : FileMap) (command : Command) (task : Task) → command_of words ≡ Some command → Decides command files (Ok task) → Verdict words files (Ok task)
 verdict_is words files command task is decided = subst (λ (c : Option Command). VerdictOf c files (Ok task)) (sym is) decided
 
 abbrev pub failure_of : WriteErr → Failure

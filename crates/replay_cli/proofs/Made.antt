@@ -5,6 +5,7 @@ use Rattle.desk_values.specs.Room.{Room}
 use Rattle.desk_values.specs.declared.capture.Captured.{Captured}
 use Rattle.desk_schema.specs.Start.{StartView}
 use Rattle.capture_format.specs.StartFile.{start_text}
+use Rattle.capture_recorder.specs.declared.generated.TheConstants.{GENERATED_SESSIONS}
 use Rattle.capture_recorder.specs.Generated.{generated}
 use Rattle.capture_recorder.specs.Recording.{IsRecording, Recording}
 use Rattle.capture_laws.specs.Sessions.{AreSessionsFrom, session_lists}
@@ -16,9 +17,9 @@ use Rattle.replay_cli.specs.Done.{IsDone, IsQuiet, IsTried, all_commits, made_ca
 use Rattle.replay_cli.specs.Lines.{generated_line, trial_line}
 use Rattle.replay_job.specs.Job.{HasMoments}
 use Rattle.capture_verdict.specs.Verdict.{IsLegal}
-use Rattle.replay_cli.specs.Words.{start_name}
-use Rattle.job_laws.proofs.Jobs.{at_each}
+use Rattle.replay_cli.specs.FileNames.{start_name}
 use Rattle.replay_cli.proofs.Sessions.{count_lists}
+use Rattle.capture_laws.proofs.Members.{each_get}
 
 start_is : (r : Recording) (n : ℕ) → r ≡ generated n → r.start ≡ made_start n
 unfolding made_start
@@ -38,11 +39,11 @@ calls_made (Err error) n e = e
 
 -- ---- the calls of its sessions
 
-lists_are : (lists : List (Room Captured)) (items : List Captured) (n : ℕ) → lists_of lists ≡ session_lists 4 items → items ≡ made_calls n → lists_of lists ≡ made_lists n
+lists_are : (lists : List (Room Captured)) (items : List Captured) (n : ℕ) → lists_of lists ≡ session_lists GENERATED_SESSIONS items → items ≡ made_calls n → lists_of lists ≡ made_lists n
 unfolding made_lists
-lists_are lists items n e same = e ∙ ap (session_lists 4) same
+lists_are lists items n e same = e ∙ ap (session_lists GENERATED_SESSIONS) same
 
-pub lists_made : {E : Type 0} (result : Result (List (Room Captured)) E) (items : List Captured) (n : ℕ) → IfOk result (λ lists. lists_of lists ≡ session_lists 4 items) → items ≡ made_calls n → IfOk result (λ lists. lists_of lists ≡ made_lists n)
+pub lists_made : {E : Type 0} (result : Result (List (Room Captured)) E) (items : List Captured) (n : ℕ) → IfOk result (λ lists. lists_of lists ≡ session_lists GENERATED_SESSIONS items) → items ≡ made_calls n → IfOk result (λ lists. lists_of lists ≡ made_lists n)
 lists_made (Ok lists) items n e same = lists_are lists items n e same
 lists_made (Err error) items n e same = e
 
@@ -50,16 +51,16 @@ pub files_made : {E : Type 0} (result : Result (List (Room Captured)) E) (record
 files_made (Ok lists) recording items are is same = are recording is same
 files_made (Err error) recording items are is same = are
 
-pub four_lists : {E : Type 0} (result : Result (List (Room Captured)) E) (items : List Captured) → IfOk result (λ lists. lists_of lists ≡ session_lists 4 items) → IfOk result (λ lists. length lists ≤ 64)
+pub four_lists : {E : Type 0} (result : Result (List (Room Captured)) E) (items : List Captured) → IfOk result (λ lists. lists_of lists ≡ session_lists GENERATED_SESSIONS items) → IfOk result (λ lists. length lists ≤ 64)
 four_lists (Ok lists) items e = let count = count_lists lists in let four : length (lists_of lists) ≡ 4 = ap (λ (ls : List (List Captured)). length ls) e in omega (arith, count, four)
 four_lists (Err error) items e = e
 
 -- ---- plans
 
 pub plan_made : {E : Type 0} (result : Result Plan E) (n : ℕ) (out : List ℕ) (start : StartView) (lists : List (List Captured)) → start ≡ made_start n → lists ≡ made_lists n → IfOk result (λ plan. plan.line ≡ generated_line n) → IfOk result IsQuiet
-    → IfOk result (λ plan. plan.writes ≡ session_files out 0 lists ++ record { name = start_name out; bytes = start_text start 4 } ∷ []) → IfOk result (λ plan. IsDone (ToMake n out) plan)
+    → IfOk result (λ plan. plan.writes ≡ session_files out 0 lists ++ record { name = start_name out; bytes = start_text start GENERATED_SESSIONS } ∷ []) → IfOk result (λ plan. IsDone (ToMake n out) plan)
 plan_made (Ok plan) n out start lists start_is lists_is line quiet writes =
-    (line, quiet, writes ∙ ap (λ (ls : List (List Captured)). session_files out 0 ls ++ record { name = start_name out; bytes = start_text start 4 } ∷ []) lists_is ∙ ap (λ (s : StartView). session_files out 0 (made_lists n) ++ record { name = start_name out; bytes = start_text s 4 } ∷ []) start_is)
+    (line, quiet, writes ∙ ap (λ (ls : List (List Captured)). session_files out 0 ls ++ record { name = start_name out; bytes = start_text start GENERATED_SESSIONS } ∷ []) lists_is ∙ ap (λ (s : StartView). session_files out 0 (made_lists n) ++ record { name = start_name out; bytes = start_text s GENERATED_SESSIONS } ∷ []) start_is)
 plan_made (Err error) n out start lists start_is lists_is line quiet writes = line
 
 pub legal_made : (recording : Recording) (start : StartView) (calls : List Captured) → IsRecording recording → start ≡ recording.start → calls ≡ recording.calls → IsLegal start calls
@@ -67,7 +68,7 @@ legal_made recording start calls is start_is calls_is =
     subst (λ (s : StartView). IsLegal s calls) (sym start_is) (subst (λ (cs : List Captured). IsLegal recording.start cs) (sym calls_is) is.legal)
 
 pub moments_made : (recording : Recording) (calls : List Captured) → IsRecording recording → calls ≡ recording.calls → HasMoments calls
-moments_made recording calls is calls_is k call at = (at_each HasText recording.calls k call is.texts (subst (λ (cs : List Captured). slice_get cs k ≡ Some call) calls_is at)).began
+moments_made recording calls is calls_is k call at = (each_get HasText recording.calls k call is.texts (subst (λ (cs : List Captured). slice_get cs k ≡ Some call) calls_is at)).began
 
 pub plan_tried : {E : Type 0} (result : Result Plan E) (n : ℕ) (start : StartView) (calls : List Captured) → start ≡ made_start n → calls ≡ made_calls n → IfOk result (λ plan. plan.line ≡ trial_line n (length calls) (all_commits calls))
     → IfOk result (λ plan. IsTried start calls) → IfOk result IsQuiet → IfOk result (λ plan. plan.writes ≡ []) → IfOk result (λ plan. IsDone (ToTry n) plan)

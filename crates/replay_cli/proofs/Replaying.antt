@@ -1,17 +1,17 @@
 -- A desk on which one call after the other is started and answered.
-use Rattle.std.proofs.Common.{◌≡◌, ℕ, ◌+◌, ◌<◌, ◌≤◌, ◌⊎◌, inl, inr, false, List, [], ◌∷◌, ◌++◌, length, refl, sym, ap, subst, ◌∙◌, arith}
+use Rattle.std.proofs.Common.{◌≡◌, ℕ, ◌+◌, ◌<◌, ◌≤◌, ◌⊎◌, inl, inr, false, List, [], ◌∷◌, ◌++◌, length, sym, ap, subst, ◌∙◌, arith}
 use Rattle.std.proofs.lemmas.Bool.{cases_Bool, ltb-false, ltb-true}
 use Rattle.std.proofs.Math.Dec.{ltb}
 use Rattle.desk_values.specs.declared.call.Reply.{Reply}
 use Rattle.desk_values.specs.declared.capture.Event.{Event}
 use Rattle.desk_values.specs.declared.capture.Event.TheVariants.{Start, Answer}
 use Rattle.replay_history.specs.History.{AnswersAll, IsAnswered, IsStarted, IsWaiting}
-use Rattle.history_laws.proofs.Extended.{answered_kept, none_started, start_is, started_in}
+use Rattle.history_laws.proofs.Extended.{answered_kept, start_is, started_in}
 use Rattle.history_laws.proofs.Items.{last_at}
 use Rattle.replay_job.specs.Job.{JobView}
 use Rattle.replay_job.specs.Replays.{IsSoundJob, IsToldReplay}
 use Rattle.replay_job.specs.Runs.{IsFirstOpen, MayStart}
-use Rattle.replay_core.specs.Desk.{DeskView, IsAnswer, IsKept, new_desk, with_start}
+use Rattle.replay_core.specs.Desk.{DeskView, IsAnswer, IsKept, with_start}
 
 -- after so many turns so many calls are answered, and every call that is started is
 pub record IsBehind (job : JobView) (desk : DeskView) (turn : ℕ) : Type 0 where
@@ -19,9 +19,6 @@ pub record IsBehind (job : JobView) (desk : DeskView) (turn : ℕ) : Type 0 wher
   pub going : desk.stopped ≡ false
   pub settled : (k : ℕ) → IsStarted desk.history k → IsAnswered desk.history k
   pub front : (j : ℕ) → j < turn → IsAnswered desk.history j
-
-pub behind_new : (job : JobView) → IsBehind job (new_desk job) 0
-behind_new job = record { job_is = refl; going = refl; settled = λ k started. absurd (none_started k started); front = λ j below. absurd (omega (arith, below)) }
 
 module _ (job : JobView) (desk : DeskView) (turn : ℕ) (behind : IsBehind job desk turn) where
   pub may_start : (k : ℕ) → IsWaiting desk.history k ⊎ MayStart desk.job desk.history k → MayStart desk.job desk.history k

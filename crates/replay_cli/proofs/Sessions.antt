@@ -20,7 +20,7 @@ use Rattle.replay_cli.specs.declared.failure.Failure.TheVariants.{BadCommand, Re
 use Rattle.replay_cli.specs.Decision.{SessionOf}
 use Rattle.replay_cli.specs.Done.{session_files}
 use Rattle.replay_cli.specs.Inside.Steps.{FaultFree}
-use Rattle.replay_cli.specs.Words.{in_three_digits, session_name, session_names}
+use Rattle.replay_cli.specs.FileNames.{in_three_digits, session_name, session_names}
 
 -- the first bad line of a session's file
 pub bad_session : (session : ℕ) (name copy bytes : List ℕ) (line : ℕ) → ReadsFile {X = Room Captured} (Err (Bad line)) (λ calls. IsSessionFile session bytes calls.items) (IsBadSession session bytes) → copy ≡ name → SessionOf session name bytes (Err (BadLine copy line))

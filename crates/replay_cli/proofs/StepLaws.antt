@@ -1,20 +1,15 @@
 -- How steps follow one another.
-use Rattle.std.proofs.Common.{◌≡◌, ℕ, suc, ◌+◌, ◌-◌, ◌<◌, ◌≤◌, List, [], ◌∷◌, ◌++◌, length, drop, get_or, Option, None, Some, Result, Ok, Err, refl, inl, inr, sym, ap, subst, ◌∙◌, arith, append_assoc, append-nil}
-use Rattle.std.specs.Prelude.{IsSomeAnd}
+use Rattle.std.proofs.Common.{◌≡◌, ℕ, suc, ◌+◌, ◌-◌, ◌<◌, List, [], ◌∷◌, ◌++◌, length, drop, get_or, Option, None, Some, Result, Ok, Err, refl, inl, inr, sym, ap, subst, ◌∙◌, arith, append_assoc}
 use Rattle.std.proofs.Math.Seq.{drop-cons}
-use Rattle.std.proofs.lemmas.List.{drop_all}
 use Rattle.desk_files.specs.Outside.{FileMap, Told}
 use Rattle.replay_cli.specs.declared.failure.Refusal.{Refusal}
 use Rattle.replay_cli.specs.declared.failure.Failure.{Failure}
 use Rattle.replay_cli.specs.declared.failure.Failure.TheVariants.{BadCommand, Refused, DeviceFault, OutOfMemory}
 use Rattle.replay_cli.specs.Steps.{Is, Reading, Then, file_in}
 use Rattle.replay_cli.specs.Inside.Steps.{Answered, Faults, FailedAt, FaultFree, Step, Stops}
+use Rattle.desk_files.proofs.WriteLaws.{told}
 
 -- ---- what is told
-
-pub told : {T : Type 0} {P Q : T → Type 0} (content : Option T) → ((x : T) → P x → Q x) → Told content P → Told content Q
-told None f h = tt
-told (Some x) f h = f x h
 
 pub told_both : {T : Type 0} {P Q R : T → Type 0} (content : Option T) → ((x : T) → P x → Q x → R x) → Told content P → Told content Q → Told content R
 told_both None f h k = tt
@@ -22,10 +17,6 @@ told_both (Some x) f h k = f x h k
 
 pub told_at : {T : Type 0} (P : T → Type 0) (before after : Option T) → after ≡ before → Told after P → Told before P
 told_at {T = T} P before after same h = let Q : Option T → Type 0 = λ c. Told c P in subst Q same h
-
-pub some_and : {T : Type 0} {P Q : T → Type 0} (content : Option T) → ((x : T) → P x → Q x) → IsSomeAnd content P → IsSomeAnd content Q
-some_and None f h = h
-some_and (Some x) f h = f x h
 
 -- ---- a step that refuses, and one that does not
 
@@ -109,9 +100,6 @@ module _ {X : Type 0} (parsed : ℕ → List ℕ → List ℕ → Result X Refus
   abbrev after_bytes : List ℕ → Result (List X) Refusal → Type 0
   after_bytes bytes = Then (parsed place name bytes) (after_item bytes)
 
-  pub file_stops : (failure : Failure) → Stops (Is (file_in files room name)) failure → Stops whole failure
-  file_stops failure stops = stop_at failure (stops_here (Is (file_in files room name)) after_bytes failure stops)
-
   pub parse_stops : (bytes : List ℕ) (failure : Failure) → file_in files room name ≡ Ok bytes → Stops (parsed place name bytes) failure → Stops whole failure
   parse_stops bytes failure held stops = stop_at failure (stops_then (Is (file_in files room name)) after_bytes bytes failure held (stops_here (parsed place name bytes) (after_item bytes) failure stops))
 
@@ -122,13 +110,6 @@ pub record ReadSoFar {X : Type 0} (parsed : ℕ → List ℕ → List ℕ → Re
   pub faults : f1 ≡ f0
 
 module _ {X : Type 0} (parsed : ℕ → List ℕ → List ℕ → Result X Refusal → Type 0) (names : List (List ℕ)) (room left i : ℕ) (items : List X) (c0 c1 c2 : Option FileMap) (f0 f1 f2 : ℕ) (name : List ℕ) (within : i < length names) (is : name ≡ get_or names i name) (so_far : ReadSoFar parsed names room left i items c0 c1 f0 f1) where
-  pub read_stop : (failure : Failure) → Step (λ files. Is (file_in files left name)) c1 c2 f1 f2 (Err failure) → Step (λ files. Reading parsed files room 0 names) c0 c2 f0 f2 (Err failure)
-  read_stop failure step = record {
-    says = told_both c0 (λ files h k. file_stops parsed files left i i names items _ name within is h failure k) so_far.so_far (told_at _ c0 c1 so_far.content step.says);
-    content = step.content ∙ so_far.content;
-    faults = subst (λ (f : ℕ). FailedAt failure f f2) so_far.faults step.faults;
-  }
-
   pub parse_stop : (bytes : List ℕ) (failure : Failure) → Step (λ files. Is (file_in files left name)) c1 c2 f1 f2 (Ok bytes) → Stops (parsed i name bytes) failure → FaultFree {X = X} (Err failure) → Step (λ files. Reading parsed files room 0 names) c0 c2 f0 f2 (Err failure)
   parse_stop bytes failure step stops free = record {
     says = told_both c0 (λ files h k. parse_stops parsed files left i i names items _ name within is h bytes failure k stops) so_far.so_far (told_at _ c0 c1 so_far.content step.says);
@@ -147,11 +128,3 @@ module _ {X : Type 0} (parsed : ℕ → List ℕ → List ℕ → Result X Refus
     content = step.content ∙ so_far.content;
     faults = step.faults ∙ so_far.faults;
   }
-
-pub read_done : {X : Type 0} (parsed : ℕ → List ℕ → List ℕ → Result X Refusal → Type 0) (names : List (List ℕ)) (room left i : ℕ) (items : List X) (c0 c1 : Option FileMap) (f0 f1 : ℕ) → length names ≤ i → ReadSoFar parsed names room left i items c0 c1 f0 f1
-    → Step (λ files. Reading parsed files room 0 names) c0 c1 f0 f1 (Ok items)
-read_done parsed names room left i items c0 c1 f0 f1 all so_far = record {
-  says = told c0 (λ files h. h (Ok items) ([], subst (λ (rest : List (List ℕ)). Reading parsed files left i rest (Ok [])) (sym (drop_all i names all)) refl, ap (λ xs. Ok xs) (append-nil items))) so_far.so_far;
-  content = so_far.content;
-  faults = so_far.faults;
-}

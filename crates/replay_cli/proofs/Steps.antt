@@ -1,11 +1,12 @@
 -- The steps of a run and of a preparation.
 use Rattle.std.proofs.Common.{ℕ, List, Option, Result, Ok, Err}
 use Rattle.desk_files.specs.Outside.{FileMap}
+use Rattle.capture_verdict.specs.Verdict.{verdict}
 use Rattle.remap_ids.specs.Services.{ServicePair}
 use Rattle.replay_cli.specs.declared.failure.Failure.{Failure}
 use Rattle.replay_cli.specs.declared.failure.Refusal.{Refusal}
 use Rattle.replay_cli.specs.declared.options.Ways.{Ways}
-use Rattle.replay_cli.specs.Decision.{LegalOf, PrepareIn, Read, ReadIn, RemapIn, RunIn, Task, ToReplay, ToTell, job_of}
+use Rattle.replay_cli.specs.Decision.{PrepareIn, Read, ReadIn, RemapIn, RunIn, Task, ToReplay, ToTell, legal_from, run_job}
 use Rattle.replay_cli.specs.Steps.{Is, Then}
 use Rattle.replay_cli.specs.Inside.Steps.{Answered, FaultFree, Step}
 use Rattle.replay_cli.proofs.StepLaws.{step_pure, step_stops, step_then}
@@ -13,7 +14,7 @@ use Rattle.replay_cli.proofs.StepLaws.{step_pure, step_stops, step_then}
 module _ (capture out : List ℕ) (read : Read) (c0 c1 : Option FileMap) (f0 f1 : ℕ) (reads : Step (λ files. ReadIn files capture) c0 c1 f0 f1 (Ok read)) where
   -- what was read is tested and told
   abbrev Told : Read → Result Task Refusal → Type 0
-  Told r = Then (LegalOf r.start r.sessions) (λ legal. Is (Ok (ToTell out legal.facts)))
+  Told r = Then (Is (legal_from r.start (verdict r.start r.sessions))) (λ legal. Is (Ok (ToTell out legal.facts)))
 
   pub told_tested : (answer : Result Task Failure) → Answered (Told read) answer → FaultFree answer → Step (λ files. PrepareIn files capture out) c0 c1 f0 f1 answer
   told_tested answer says free = step_then (λ files. Told) _ _ _ _ _ _ read answer reads (step_pure (λ files. Told read) _ _ answer (λ files. says) free)
@@ -21,7 +22,7 @@ module _ (capture out : List ℕ) (read : Read) (c0 c1 : Option FileMap) (f0 f1 
   module _ (ways : Ways) where
     -- what was read is tested and replayed so
     abbrev Tested : Read → List ServicePair → Result Task Refusal → Type 0
-    Tested r remap = Then (LegalOf r.start r.sessions) (λ legal. Is (Ok (ToReplay out (job_of legal remap ways))))
+    Tested r remap = Then (Is (legal_from r.start (verdict r.start r.sessions))) (λ legal. Is (Ok (ToReplay out (run_job legal remap ways))))
 
     abbrev Remapped : FileMap → Read → Result Task Refusal → Type 0
     Remapped files r = Then (RemapIn files ways.remap) (Tested r)

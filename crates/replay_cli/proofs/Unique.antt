@@ -8,22 +8,21 @@ use Rattle.capture_format.specs.StartFile.{IsBadStart, IsStartFile}
 use Rattle.capture_format.specs.SessionFile.{IsBadSession, IsSessionFile}
 use Rattle.capture_format.proofs.StartFiles as start
 use Rattle.capture_format.proofs.SessionFiles as session
-use Rattle.capture_verdict.specs.declared.refusal.Refusal.{Refusal as Illegal}
-use Rattle.capture_verdict.specs.Verdict as plan
+use Rattle.capture_verdict.specs.Verdict.{verdict}
 use Rattle.replay_cli.specs.declared.capture.Opened.{Opened}
 use Rattle.replay_cli.specs.declared.capture.TheConstants.{ROOM}
 use Rattle.replay_cli.specs.declared.failure.Refusal.{Refusal}
-use Rattle.replay_cli.specs.declared.failure.Refusal.TheVariants.{BadLine, NotLegal}
+use Rattle.replay_cli.specs.declared.failure.Refusal.TheVariants.{BadLine}
 use Rattle.replay_cli.specs.declared.failure.Failure.{Failure}
 use Rattle.replay_cli.specs.declared.failure.Failure.TheVariants.{BadCommand, Refused, DeviceFault, OutOfMemory}
 use Rattle.replay_cli.specs.declared.words.Command.{Command}
 use Rattle.replay_cli.specs.declared.words.Command.TheVariants.{Run, Prepare, Generate, Trial}
 use Rattle.replay_cli.specs.Command.{command_of}
-use Rattle.replay_cli.specs.Words.{session_names, start_name}
+use Rattle.replay_cli.specs.FileNames.{session_names, start_name}
 use Rattle.desk_files.specs.declared.files.TheConstants.{FILE_LIMIT}
 use Rattle.remap_ids.specs.Services.{ServicePair, services_of}
 use Rattle.replay_cli.specs.declared.options.Ways.{Ways}
-use Rattle.replay_cli.specs.Decision.{Decides, Failing, Legal, LegalOf, OpenedIn, PrepareIn, Read, ReadIn, Reads, RemapIn, RunIn, SessionOf, StartOf, Task, ToMake, ToReplay, ToTell, ToTry, Verdict, VerdictOf, job_of, remap_of}
+use Rattle.replay_cli.specs.Decision.{Decides, Failing, Legal, OpenedIn, PrepareIn, Read, ReadIn, Reads, RemapIn, RunIn, SessionOf, StartOf, Task, ToMake, ToReplay, ToTell, ToTry, Verdict, VerdictOf, legal_from, remap_of, run_job}
 use Rattle.replay_cli.specs.Steps.{Is, Reading, Then, file_in}
 
 abbrev pub IsOne : {X : Type 0} → (Result X Refusal → Type 0) → Type 0
@@ -91,28 +90,8 @@ opened_one files capture =
     then_one (Is (file_in files ROOM (start_name capture))) (start_in capture) (is_one (file_in files ROOM (start_name capture))) (λ bytes held.
     then_one (StartOf (start_name capture) bytes) (opened_of bytes) (start_one (start_name capture) bytes) (λ file read. is_one (Ok (record { file = file; left = ROOM - length bytes }))))
 
-abbrev ok_plan : plan.Plan → Result plan.Plan Illegal
-ok_plan p = Ok p
-
-abbrev err_plan : Illegal → Result plan.Plan Illegal
-err_plan cause = Err cause
-
-plans_same : (a b : plan.Plan) → ok_plan a ≡ ok_plan b → a ≡ b
-plans_same a b e = cc
-
-causes_same : (a b : Illegal) → err_plan a ≡ err_plan b → a ≡ b
-causes_same a b e = cc
-
-not_both : {P : Type 0} (a : plan.Plan) (b : Illegal) → ok_plan a ≡ err_plan b → P
-not_both a b e = absurd (cc e)
-
-legal_one : (start : StartView) (sessions : List (List Captured)) → IsOne (LegalOf start sessions)
-legal_one start sessions (Ok a) (Ok b) h k =
-    let same : record { calls = a.calls; facts = a.facts } ≡ record { calls = b.calls; facts = b.facts } = plans_same _ _ (sym h.1 ∙ k.1) in
-    ap (λ (s : StartView). Ok (record { start = s; calls = a.calls; facts = a.facts })) (h.0 ∙ sym k.0) ∙ ap (λ (p : plan.Plan). Ok (record { start = b.start; calls = p.calls; facts = p.facts })) same
-legal_one start sessions (Ok a) (Err s) h k = not_both (record { calls = a.calls; facts = a.facts }) k.0 (sym h.1 ∙ k.1)
-legal_one start sessions (Err r) (Ok b) h k = not_both (record { calls = b.calls; facts = b.facts }) h.0 (sym k.1 ∙ h.1)
-legal_one start sessions (Err r) (Err s) h k = ap (λ e. Err e) (h.2 ∙ ap (λ (c : Illegal). NotLegal c) (causes_same h.0 k.0 (sym h.1 ∙ k.1)) ∙ sym k.2)
+legal_one : (start : StartView) (sessions : List (List Captured)) → IsOne (Is (legal_from start (verdict start sessions)))
+legal_one start sessions = is_one (legal_from start (verdict start sessions))
 
 abbrev all_read : Opened → List (List Captured) → Result Read Refusal → Type 0
 all_read opened sessions = Is (Ok (record { start = opened.file.start; sessions = sessions }))
@@ -134,10 +113,10 @@ remap_one files (Some name) =
 module _ (files : FileMap) (capture out : List ℕ) where
   module _ (ways : Ways) where
     abbrev replayed_of : List ServicePair → Legal → Result Task Refusal → Type 0
-    replayed_of remap legal = Is (Ok (ToReplay out (job_of legal remap ways)))
+    replayed_of remap legal = Is (Ok (ToReplay out (run_job legal remap ways)))
 
     abbrev remapped_of : Read → List ServicePair → Result Task Refusal → Type 0
-    remapped_of read remap = Then (LegalOf read.start read.sessions) (replayed_of remap)
+    remapped_of read remap = Then (Is (legal_from read.start (verdict read.start read.sessions))) (replayed_of remap)
 
     abbrev run_of : Read → Result Task Refusal → Type 0
     run_of read = Then (RemapIn files ways.remap) (remapped_of read)
@@ -145,14 +124,14 @@ module _ (files : FileMap) (capture out : List ℕ) where
     run_one : IsOne (RunIn files capture out ways)
     run_one = then_one (ReadIn files capture) run_of (read_one files capture) (λ read is.
         then_one (RemapIn files ways.remap) (remapped_of read) (remap_one files ways.remap) (λ remap named.
-        then_one (LegalOf read.start read.sessions) (replayed_of remap) (legal_one read.start read.sessions) (λ legal tested. is_one (Ok (ToReplay out (job_of legal remap ways))))))
+        then_one (Is (legal_from read.start (verdict read.start read.sessions))) (replayed_of remap) (legal_one read.start read.sessions) (λ legal tested. is_one (Ok (ToReplay out (run_job legal remap ways))))))
 
   abbrev told_of : Legal → Result Task Refusal → Type 0
   told_of legal = Is (Ok (ToTell out legal.facts))
 
   prepare_one : IsOne (PrepareIn files capture out)
-  prepare_one = then_one (ReadIn files capture) (λ read. Then (LegalOf read.start read.sessions) told_of) (read_one files capture) (λ read is.
-      then_one (LegalOf read.start read.sessions) told_of (legal_one read.start read.sessions) (λ legal tested. is_one (Ok (ToTell out legal.facts))))
+  prepare_one = then_one (ReadIn files capture) (λ read. Then (Is (legal_from read.start (verdict read.start read.sessions))) told_of) (read_one files capture) (λ read is.
+      then_one (Is (legal_from read.start (verdict read.start read.sessions))) told_of (legal_one read.start read.sessions) (λ legal tested. is_one (Ok (ToTell out legal.facts))))
 
 decides_one : (command : Command) (files : FileMap) → IsOne (Decides command files)
 decides_one (Run capture out ways) files = run_one files capture out ways

@@ -24,9 +24,10 @@ use Rattle.remap_ids.specs.Services.{ServicePair, services_of}
 use Rattle.remap_ids.specs.declared.remap.RemapErr.{RemapErr}
 use Rattle.remap_ids.specs.declared.remap.RemapErr.TheVariants.{BadRow, TwiceFrom, Memory}
 use Rattle.replay_job.specs.Job.{JobView}
+use Rattle.job_laws.specs.Jobs.{job_of}
 use Rattle.replay_cli.specs.declared.options.Ways.{Ways}
 use Rattle.replay_cli.specs.Command.{command_of}
-use Rattle.replay_cli.specs.Words.{session_names, start_name}
+use Rattle.replay_cli.specs.FileNames.{session_names, start_name}
 use Rattle.replay_cli.specs.Steps.{Is, Reading, Then, file_in}
 
 -- ---- a capture
@@ -55,10 +56,10 @@ pub record Legal : Type 0 where
   pub calls : List Captured
   pub facts : List Fact
 
--- the start and the calls of the sessions, as preparing them answers
-abbrev pub LegalOf : StartView → List (List Captured) → Result Legal Refusal → Type 0
-LegalOf start sessions (Ok legal) = (legal.start ≡ start) × (plan.verdict start sessions ≡ Ok (record { calls = legal.calls; facts = legal.facts }))
-LegalOf start sessions (Err refusal) = (cause : Illegal) × (plan.verdict start sessions ≡ Err cause) × (refusal ≡ NotLegal cause)
+-- the start and the plan of its calls, or the cause why there is none
+abbrev pub legal_from : StartView → Result plan.Plan Illegal → Result Legal Refusal
+legal_from start (Ok p) = Ok (record { start = start; calls = p.calls; facts = p.facts })
+legal_from start (Err cause) = Err (NotLegal cause)
 
 -- what the files of a capture say
 pub record Read : Type 0 where
@@ -99,21 +100,21 @@ pub data Task : Type 0 where
   ToTry : ℕ → Task
 
 -- a legal capture that is replayed so, on its own start
-abbrev pub job_of : Legal → List ServicePair → Ways → JobView
-job_of legal remap ways = record { start = legal.start; target = legal.start; calls = legal.calls; facts = legal.facts; remap = remap; mode = ways.mode; think = ways.think; connect = ways.connect }
+abbrev pub run_job : Legal → List ServicePair → Ways → JobView
+run_job legal remap ways = job_of legal.start legal.start (record { calls = legal.calls; facts = legal.facts }) remap ways.mode ways.think ways.connect
 
 -- the steps of a run: the files of the capture, the remap file, the test of the capture
 abbrev pub RunIn : FileMap → List ℕ → List ℕ → Ways → Result Task Refusal → Type 0
 RunIn files capture out ways =
     Then (ReadIn files capture) (λ read.
     Then (RemapIn files ways.remap) (λ remap.
-    Then (LegalOf read.start read.sessions) (λ legal.
-    Is (Ok (ToReplay out (job_of legal remap ways))))))
+    Then (Is (legal_from read.start (plan.verdict read.start read.sessions))) (λ legal.
+    Is (Ok (ToReplay out (run_job legal remap ways))))))
 
 abbrev pub PrepareIn : FileMap → List ℕ → List ℕ → Result Task Refusal → Type 0
 PrepareIn files capture out =
     Then (ReadIn files capture) (λ read.
-    Then (LegalOf read.start read.sessions) (λ legal.
+    Then (Is (legal_from read.start (plan.verdict read.start read.sessions))) (λ legal.
     Is (Ok (ToTell out legal.facts))))
 
 abbrev pub Decides : Command → FileMap → Result Task Refusal → Type 0

@@ -15,6 +15,7 @@ use Rattle.replay_job.specs.Runs.{Stage, end_tables, learnt_in}
 use Rattle.replay_job.specs.Replays.{IsToldReplay}
 use Rattle.replay_report.specs.Report.{report_in}
 use Rattle.replay_report.specs.Differences.{csv_text}
+use Rattle.capture_recorder.specs.declared.generated.TheConstants.{GENERATED_SESSIONS}
 use Rattle.capture_recorder.specs.Generated.{generated}
 use Rattle.capture_laws.specs.Sessions.{session_lists}
 use Rattle.replay_cli.specs.declared.plan.Plan.{Plan}
@@ -23,7 +24,7 @@ use Rattle.replay_cli.specs.declared.words.Command.TheVariants.{Run, Prepare, Ge
 use Rattle.replay_cli.specs.Decision.{Task, ToReplay, ToTell, ToMake, ToTry}
 use Rattle.replay_cli.specs.Lines.{generated_line, prepared_line, replayed_line, trial_line}
 use Rattle.job_laws.specs.Jobs.{IsTrial}
-use Rattle.replay_cli.specs.Words.{journal_name, maps_name, report_name, requires_name, session_name, start_name, table_of_report_name, tables_name}
+use Rattle.replay_cli.specs.FileNames.{journal_name, maps_name, report_name, requires_name, session_name, start_name, table_of_report_name, tables_name}
 
 abbrev pub all_commits : List Captured → ℕ
 all_commits calls = commits_before calls (length calls)
@@ -43,7 +44,7 @@ abbrev pub session_files : List ℕ → ℕ → List (List Captured) → List Wr
 session_files out session [] = []
 session_files out session (calls ∷ lists) = record { name = session_name out session; bytes = session_text session calls } ∷ session_files out (session + 1) lists
 
--- the generated capture of n calls: its start, its calls by stamp, and those of each of its four sessions
+-- the generated capture of n calls: its start, its calls by stamp, and those of each of its sessions
 unfoldable pub made_start : ℕ → StartView
 made_start n = (generated n).start
 
@@ -51,10 +52,10 @@ unfoldable pub made_calls : ℕ → List Captured
 made_calls n = (generated n).calls
 
 unfoldable pub made_lists : ℕ → List (List Captured)
-made_lists n = session_lists 4 (made_calls n)
+made_lists n = session_lists GENERATED_SESSIONS (made_calls n)
 
 abbrev pub made_files : List ℕ → ℕ → List Write
-made_files out n = session_files out 0 (made_lists n) ++ record { name = start_name out; bytes = start_text (made_start n) 4 } ∷ []
+made_files out n = session_files out 0 (made_lists n) ++ record { name = start_name out; bytes = start_text (made_start n) GENERATED_SESSIONS } ∷ []
 
 -- ---- each task
 

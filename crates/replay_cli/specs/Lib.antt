@@ -1,6 +1,6 @@
 pub mod Path
 pub mod Options
-pub mod Words
+pub mod FileNames
 pub mod Command
 pub mod Steps
 pub mod Lines

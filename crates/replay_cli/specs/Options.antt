@@ -3,10 +3,9 @@ use Rattle.std.specs.Prelude.{ℕ, nat_le, if◌then◌else◌, List, [], ◌∷
 use Rattle.std.specs.Option.{option_map, option_and_then, unwrap_or}
 use Rattle.std.specs.Str.{bytes_eq}
 use Rattle.desk_values.specs.Reading.{number_of}
-use Rattle.desk_values.specs.Word.{member_with_word}
 use Rattle.replay_history.specs.declared.mode.Mode.{Mode}
 use Rattle.replay_history.specs.declared.mode.Mode.TheVariants.{Order}
-use Rattle.replay_history.specs.Mode.{all_modes, mode_word}
+use Rattle.replay_history.specs.Mode.{mode_of}
 use Rattle.replay_cli.specs.declared.options.Ways.{Ways}
 use Rattle.replay_cli.specs.declared.options.Options.{Options}
 use Rattle.replay_cli.specs.Path.{is_path}
@@ -24,9 +23,6 @@ within_percents (Some n) = if nat_le n PERCENT_LIMIT then Some n else None
 -- a percentage: 0 to 1,000 in digits, without a leading zero
 abbrev pub percent_of : List ℕ → Option ℕ
 percent_of word = within_percents (number_of word)
-
-abbrev pub mode_of : List ℕ → Option Mode
-mode_of word = member_with_word mode_word all_modes word
 
 abbrev pub path_of : List ℕ → Option (List ℕ)
 path_of word = if is_path word then Some word else None

@@ -1,7 +1,8 @@
 //! The words that a program is called with.
 
 ghost use Rattle.std.specs.Prelude.{◌≡◌, [], IfOk};
-ghost use Rattle.desk_values.specs.Good.{IsTxt};
+ghost use Rattle.std.specs.Option.{unwrap_or};
+ghost use Rattle.desk_values.specs.Reading.{txt_in};
 
 use desk_values::{List, Memory, TEXT_LIMIT, Txt, TxtErr};
 use std::alloc::Global;
@@ -38,13 +39,13 @@ fn argument_at<E: Env>(
 
 /// The word that the bytes are: their text, or the empty text where they are over 1,000 or are not UTF-8.
 pub fn word_of(alloc: Global, bytes: &[u8]) -> Result<Txt, Memory>
-    ensures text { IfOk result (λ word. IsTxt bytes.now → word ≡ bytes.now) }
-    ensures other { IfOk result (λ word. ¬ IsTxt bytes.now → word ≡ []) }
+    ensures { IfOk result (λ word. word ≡ unwrap_or (txt_in bytes.now) []) }
 {
     match Txt::from_bytes(alloc, bytes) {
         Ok(word) => Ok(word),
         Err(TxtErr::Memory) => Err(Memory),
-        Err(TxtErr::TooLong | TxtErr::NotUtf8) => empty_word(alloc),
+        Err(TxtErr::TooLong) => empty_word(alloc),
+        Err(TxtErr::NotUtf8) => empty_word(alloc),
     }
 }
 

@@ -3,12 +3,12 @@
 ghost use Rattle.std.specs.Prelude.{◌≡◌, ◌≤◌, length, IfErr, IfOk};
 ghost use Rattle.desk_files.specs.Outside.{Told};
 ghost use Rattle.replay_job.specs.Job.{AreKnownOf, HasMoments};
-ghost use Rattle.replay_cli.specs.Decision.{LegalOf, OpenedIn, ReadIn, SessionOf};
+ghost use Rattle.replay_cli.specs.Decision.{OpenedIn, ReadIn, SessionOf, legal_from};
 ghost use Rattle.replay_cli.specs.Inside.Steps.{Answered, FaultFree, IsOfCapture, Step, seen_as};
 ghost use Rattle.replay_cli.specs.Inside.Work.{legal_of, read_of};
-ghost use Rattle.capture_verdict.specs.Verdict.{IsLegal};
-ghost use Rattle.replay_cli.specs.Steps.{Reading};
-ghost use Rattle.replay_cli.specs.Words.{session_names};
+ghost use Rattle.capture_verdict.specs.Verdict.{IsLegal, verdict};
+ghost use Rattle.replay_cli.specs.Steps.{Is, Reading};
+ghost use Rattle.replay_cli.specs.FileNames.{session_names};
 ghost use Rattle.capture_laws.specs.Sessions.{AreSessionsFrom};
 ghost use Rattle.prepare_plan.specs.Lists.{lists_of};
 ghost use Rattle.desk_values.specs.declared.limits.TheConstants.{SESSION_LIMIT};
@@ -108,7 +108,7 @@ fn load_sessions<F: Files>(
 pub fn test(alloc: Global, read: Read) -> Result<Legal, Failure>
     requires count { length read.sessions ≤ 64 }
     requires lists { AreSessionsFrom 0 (lists_of read.sessions) }
-    ensures says { Answered (LegalOf read.start (lists_of read.sessions)) (seen_as legal_of result) }
+    ensures says { Answered (Is (legal_from read.start (verdict read.start (lists_of read.sessions)))) (seen_as legal_of result) }
     ensures free { FaultFree result }
     ensures legal { IfOk result (λ legal. IsLegal legal.start legal.calls.items) }
     ensures known { IfOk result (λ legal. AreKnownOf legal.calls.items legal.facts) }

@@ -4,7 +4,6 @@ ghost use Rattle.std.specs.Prelude.{◌≡◌, ◌++◌, ◌∷◌, [], ◌≤�
 ghost use Rattle.desk_values.specs.declared.value.Image.{Image};
 ghost use Rattle.desk_values.specs.declared.capture.Event.{Event};
 ghost use Rattle.capture_format.specs.StartFile.{start_text};
-ghost use Rattle.replay_history.specs.Capture.{commits};
 ghost use Rattle.capture_laws.specs.Sessions.{AreSessionsFrom};
 ghost use Rattle.prepare_plan.specs.Lists.{lists_of};
 ghost use Rattle.replay_cli.specs.Inside.Limits.{IsCallCount};
@@ -16,20 +15,20 @@ ghost use Rattle.replay_job.specs.Job.{HasMoments, seen};
 ghost use Rattle.replay_job.specs.Replays.{IsSoundJob, IsToldReplay};
 ghost use Rattle.replay_report.specs.Report.{report_in};
 ghost use Rattle.capture_verdict.specs.Verdict.{IsLegal};
-ghost use Rattle.replay_cli.specs.Words.{start_name};
+ghost use Rattle.replay_cli.specs.FileNames.{start_name};
 
 use crate::replay::{replay, trial_of};
 use crate::words::{name_in, session_name};
 use crate::work::Work;
 use capture_format::{write_session, write_start};
-use capture_recorder::{Recorder, generate, sessions_of};
+use capture_recorder::{GENERATED_SESSIONS, Recorder, generate, sessions_of};
 use desk_files::Write;
 use desk_schema::Start;
 use desk_values::fields::append_u64;
-use desk_values::{Bytes, CallList, Captured, List, Memory, Outcome, SessionLists, Txt};
+use desk_values::{Bytes, CallList, Captured, List, Memory, SessionLists, Txt};
 use object_depends::{FactList, requires_csv};
 use replay_core::Desk;
-use replay_history::Report;
+use replay_history::{Report, commits};
 use replay_job::Job;
 use replay_report::{journal_text, report_csv, report_of, report_text, tables_text};
 use std::alloc::Global;
@@ -53,9 +52,6 @@ impl Plan {
         if self.differs { 1 } else { 0 }
     }
 }
-
-/// How many sessions the generated capture has.
-const GENERATED_SESSIONS: u32 = 4;
 
 /// What the work comes to.
 pub fn plan_of(alloc: Global, work: Work) -> Result<Plan, Memory>
@@ -189,7 +185,7 @@ fn written(
     requires lists { AreSessionsFrom 0 (lists_of lists.now) }
     ensures line { IfOk result (λ plan. plan.line ≡ generated_line n) }
     ensures quiet { IfOk result IsQuiet }
-    ensures writes { IfOk result (λ plan. plan.writes ≡ session_files out.now 0 (lists_of lists.now) ++ record { name = start_name out.now; bytes = start_text start.now 4 } ∷ []) }
+    ensures writes { IfOk result (λ plan. plan.writes ≡ session_files out.now 0 (lists_of lists.now) ++ record { name = start_name out.now; bytes = start_text start.now GENERATED_SESSIONS } ∷ []) }
 {
     let mut writes = session_writes(alloc, out, lists)?;
     let start = write_start(alloc, start, GENERATED_SESSIONS)?;
@@ -276,16 +272,6 @@ fn commits_of(calls: &[Captured]) -> u64
         }
     }
     count
-}
-
-/// Whether the outcome is that of a numbered commit.
-fn commits(outcome: &Outcome) -> bool
-    ensures { result ≡ commits outcome.now }
-{
-    match outcome {
-        Outcome::Committed(images) => !images.is_empty(),
-        _ => false,
-    }
 }
 
 /// How many calls were replayed, and how many of them differ.

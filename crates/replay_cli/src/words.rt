@@ -7,7 +7,7 @@ ghost use Rattle.replay_cli.specs.Command as command;
 ghost use Rattle.replay_cli.specs.Inside.Limits.{IsCallCount, IsWithinLimits};
 ghost use Rattle.replay_cli.specs.Options.{ways_of};
 ghost use Rattle.replay_cli.specs.Path.{is_path};
-ghost use Rattle.replay_cli.specs.Words as name;
+ghost use Rattle.replay_cli.specs.FileNames as name;
 
 use crate::options::{Ways, ways_of};
 use desk_values::fields::read_u64;

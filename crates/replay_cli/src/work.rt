@@ -6,7 +6,7 @@ ghost use Rattle.replay_job.specs.Job.{AreKnownOf, HasMoments, seen};
 ghost use Rattle.replay_job.specs.Replays.{IsSoundJob};
 ghost use Rattle.replay_cli.specs.declared.words.Command.TheVariants.{Run as TheRun, Prepare as ThePrepare};
 ghost use Rattle.replay_cli.specs.Inside.Limits.{HasWays, IsWithinLimits};
-ghost use Rattle.replay_cli.specs.Decision.{Decides, MayRefuse, PrepareIn, RunIn, job_of};
+ghost use Rattle.replay_cli.specs.Decision.{Decides, MayRefuse, PrepareIn, RunIn, run_job};
 ghost use Rattle.replay_cli.specs.Inside.Work.{IsTaskOf, IsWork, legal_of, task_of};
 ghost use Rattle.capture_verdict.specs.Verdict.{IsLegal};
 ghost use Rattle.replay_cli.specs.Inside.Steps.{Step, seen_as};
@@ -80,7 +80,7 @@ fn job_of(legal: Legal, remap: Remap, ways: &Ways) -> Result<Job, Memory>
     requires known { AreKnownOf legal.calls.items legal.facts }
     requires moments { HasMoments legal.calls.items }
     requires ways { HasWays ways.now }
-    ensures job { IfOk result (λ job. seen job ≡ job_of (legal_of legal) remap ways.now) }
+    ensures job { IfOk result (λ job. seen job ≡ run_job (legal_of legal) remap ways.now) }
     ensures sound { IfOk result (λ job. IsSoundJob (seen job)) }
 {
     let _ = legal.start.schema();

@@ -3,7 +3,7 @@ ghost use Rattle.desk_values.specs.declared.limits.TheConstants.{LAST_MOMENT};
 ghost use Rattle.replay_history.specs.declared.limits.TheConstants.{PERCENT_LIMIT};
 ghost use Rattle.replay_history.specs.Gap.{pause_of};
 ghost use Rattle.history_laws.specs.Places.{AreInPlace};
-ghost use Rattle.replay_clock.specs.Gaps.{AreGaps};
+ghost use Rattle.replay_clock.specs.Gaps.{gaps_in};
 ghost use Rattle.replay_clock.specs.Inside.{gap_after};
 
 use desk_values::{CallList, Captured, Copied, List, Memory, SESSION_LIMIT};
@@ -39,7 +39,7 @@ pub fn pause(micros: u64, percent: u32) -> u64
 /// The times before the calls of a legal capture, by stamp.
 pub fn gaps_of(alloc: Global, calls: &CallList) -> Result<Gaps, Memory>
     requires { AreInPlace calls.now.items }
-    ensures { IfOk result (AreGaps calls.now.items) }
+    ensures { IfOk result (λ gaps. gaps ≡ gaps_in calls.now.items) }
 {
     let mut ended = [0; SESSION_LIMIT];
     let mut gaps = List::new(alloc);

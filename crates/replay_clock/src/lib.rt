@@ -5,6 +5,5 @@
 #![tactic(auto)]
 
 mod gap;
-pub mod laws;
 
 pub use gap::{Gap, Gaps, gaps_of, pause};

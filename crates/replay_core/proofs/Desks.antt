@@ -1,19 +1,20 @@
 -- What the fields of a desk tell of its calls.
-use Rattle.std.proofs.Common.{◌≡◌, ℕ, ◌<◌, ◌≤◌, ◌⊎◌, false, List, [], ◌∷◌, ◌++◌, length, get_or, refl, sym, ap, subst, ◌∙◌, arith}
-use Rattle.std.specs.Prelude.{◌↔◌, Some}
-use Rattle.std.proofs.lemmas.Option.{slice_get_within, slice_get-get_or}
+use Rattle.std.proofs.Common.{◌≡◌, ℕ, ◌<◌, ◌≤◌, ◌⊎◌, false, List, [], ◌∷◌, ◌++◌, length, get_or, refl, ap, subst, ◌∙◌, arith}
+use Rattle.std.specs.Prelude.{◌↔◌}
+use Rattle.std.proofs.lemmas.List.{get_or-map}
+use Rattle.std.proofs.lemmas.Option.{get_or_from_slice_get, slice_get_within}
 use Rattle.desk_values.specs.declared.call.Call.{Call}
 use Rattle.desk_values.specs.declared.call.Reply.{Reply}
 use Rattle.desk_values.specs.declared.capture.Captured.{Captured}
 use Rattle.desk_values.specs.declared.capture.Event.TheVariants.{Answer}
 use Rattle.machine_model.specs.State.{State}
 use Rattle.machine_model.specs.Step.{Gives}
-use Rattle.replay_history.specs.Gap.{IsCallAt}
+use Rattle.replay_history.specs.Gap.{IsCallAt, gap_of}
 use Rattle.id_pairs.specs.Pairs.{IdPair, learnt}
 use Rattle.remap_ids.specs.Sent.{sent}
 use Rattle.remap_ids.specs.Services.{ServicePair}
 use Rattle.replay_clock.specs.declared.gap.Gap.{Gap}
-use Rattle.replay_clock.specs.Gaps.{AreGaps, IsGapOf}
+use Rattle.replay_clock.specs.Gaps.{gap_before, gaps_in}
 use Rattle.replay_job.specs.Job.{JobView, IsReplayable, seen}
 use Rattle.replay_job.specs.Runs.{Executes, MayStart, Stage, first_stage}
 use Rattle.replay_history.specs.History.{IsWaiting}
@@ -45,15 +46,16 @@ sent_gives old next session captured call pairs reserved services reply is same 
 abbrev pub no_gap : Gap
 no_gap = record { micros = 0; first = false }
 
-pub gap_at : {calls : List Captured} {gaps items : List Gap} → AreGaps calls gaps → items ≡ gaps → (k : ℕ) (call : Captured) → IsCallAt calls k call → IsGapOf calls call (get_or items k no_gap)
-gap_at {calls} {gaps} {items} are e k call at =
-    let within = slice_get_within calls k call at in
-    are.each k call (get_or items k no_gap) at (slice_get-get_or gaps k no_gap (omega (arith, within, are.count)) ∙ ap (λ (all : List Gap). Some (get_or all k no_gap)) (sym e))
+pub gap_at : (calls : List Captured) {gaps items : List Gap} → gaps ≡ gaps_in calls → items ≡ gaps → (k : ℕ) (call : Captured) → IsCallAt calls k call → get_or items k no_gap ≡ gap_before calls call
+gap_at calls {gaps} {items} are e k call at =
+    ap (λ (all : List Gap). get_or all k no_gap) (e ∙ are)
+    ∙ get_or-map (gap_before calls) calls k call no_gap (slice_get_within calls k call at)
+    ∙ ap (gap_before calls) (get_or_from_slice_get calls k call call at)
 
-pub gap_small : (job : JobView) (k : ℕ) (call : Captured) (gap : Gap) → IsReplayable job → IsCallAt job.calls k call → IsGapOf job.calls call gap → gap.micros ≤ 1000000000000
+pub gap_small : (job : JobView) (k : ℕ) (call : Captured) (gap : Gap) → IsReplayable job → IsCallAt job.calls k call → gap ≡ gap_before job.calls call → gap.micros ≤ 1000000000000
 gap_small job k call gap replayable at is =
-    let one = one_gap job.calls (in_place job replayable) k call at in
-    omega (arith, one.1.1, one.1.2 gap.micros is.micros, replayable.moments k call at)
+    let micros : gap.micros ≡ gap_of job.calls call = ap (λ (g : Gap). g.micros) is in
+    omega (arith, micros, (one_gap job.calls (in_place job replayable) k call at).1, replayable.moments k call at)
 
 module _ (a : Inside) (is : IsDesk a) (k : ℕ) where
   -- there is room for an open call

@@ -13,7 +13,7 @@ use Rattle.commit_gate.specs.Gates.{new_gate}
 use Rattle.id_pairs.specs.Pairs.{HasNoIdTwice, learnt}
 use Rattle.remap_ids.specs.IdMap.{start_pairs}
 use Rattle.remap_ids.specs.Sent.{HasLowIds, sent}
-use Rattle.replay_clock.specs.Gaps.{AreGaps}
+use Rattle.replay_clock.specs.Gaps.{gaps_in}
 use Rattle.replay_job.specs.Events.{IsEvent}
 use Rattle.replay_job.specs.Job.{JobView, seen}
 use Rattle.replay_job.specs.declared.job.Job.{Job}
@@ -29,7 +29,7 @@ pub record IsDesk (a : Inside) : Type 0 where
   pub truthful : IsTruthfulFor (seen a.job) a.history.items (stage_of a)
   pub texts : AllByRecursion IsEvent a.history.items
   pub own : a.map.own ≡ length (start_pairs a.job.start)
-  pub gaps : AreGaps a.job.calls.items a.gaps
+  pub gaps : a.gaps ≡ gaps_in a.job.calls.items
   pub gate : IsGateOf (seen a.job) a.history.items a.gate a.waiting.items
   -- for a start and an answer of each call
   pub room : length a.job.calls.items + length a.job.calls.items ≤ a.history.spare + length a.history.items
@@ -50,7 +50,7 @@ pub record HasOpened (start : StartView) (engine : Running) : Type 0 where
 
 -- what a desk begins with beside its job
 pub record AreParts (job : Job) (parts : Parts) : Type 0 where
-  pub gaps_are : AreGaps job.calls.items parts.gaps
+  pub gaps_are : parts.gaps ≡ gaps_in job.calls.items
   pub gate_is : parts.gate ≡ new_gate job.facts job.mode
   pub opened : HasOpened job.target parts.engine
   pub pairs_are : parts.map.pairs ≡ start_pairs job.start

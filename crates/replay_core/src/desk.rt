@@ -7,7 +7,7 @@ ghost use Rattle.commit_gate.specs.Gates.{new_gate};
 ghost use Rattle.replay_history.specs.Gap.{IsCallAt};
 ghost use Rattle.replay_history.specs.History.{AnswersAll, IsWaiting};
 ghost use Rattle.remap_ids.specs.IdMap.{start_pairs};
-ghost use Rattle.replay_clock.specs.Gaps.{AreGaps};
+ghost use Rattle.replay_clock.specs.Gaps.{gaps_in};
 ghost use Rattle.replay_job.specs.Job.{IsReplayable, seen};
 ghost use Rattle.replay_job.specs.Runs.{Executes, IsDone, IsFirstOpen, IsPauseIn, IsPick, MayStart, NoneMayStart};
 ghost use Rattle.replay_core.specs.Desk.{IsAnswer, IsKept, new_desk, with_start};
@@ -87,7 +87,7 @@ impl Parts {
 // The times before the calls, and the gate where none is started.
 fn gate_of(alloc: Global, job: &Job) -> Result<(Gaps, Gate), Memory>
     requires { IsReplayable (seen job.now) }
-    ensures gaps { IfOk result (λ made. AreGaps job.now.calls.items made.0) }
+    ensures gaps { IfOk result (λ made. made.0 ≡ gaps_in job.now.calls.items) }
     ensures gate { IfOk result (λ made. made.1 ≡ new_gate job.now.facts job.now.mode) }
 {
     let gaps = gaps_of(alloc, &job.calls)?;

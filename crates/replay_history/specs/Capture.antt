@@ -31,13 +31,25 @@ commits (Refused fault) = false
 abbrev pub session_calls_before : List Captured → ℕ → ℕ → ℕ
 session_calls_before calls session k = count_by (λ (call : Captured). nat_eq call.session session) (take k calls)
 
--- how many numbered commits stand before a stamp
-abbrev pub commits_before : List Captured → ℕ → ℕ
-commits_before calls k = count_by (λ (call : Captured). commits call.reply.outcome) (take k calls)
+-- the call stands behind as many of its session as its place says
+abbrev pub HasPlace : List Captured → ℕ → Captured → Type 0
+HasPlace calls k call = call.place ≡ session_calls_before calls call.session k
 
--- the number of a call: the next one where it is a numbered commit, else 0
+-- how many numbered commits are among the calls
+abbrev pub commits_in : List Captured → ℕ
+commits_in calls = count_by (λ (call : Captured). commits call.reply.outcome) calls
+
+-- and before a stamp
+abbrev pub commits_before : List Captured → ℕ → ℕ
+commits_before calls k = commits_in (take k calls)
+
+-- the number of a call with this outcome behind these calls: the next one where it is a numbered commit, else 0
+abbrev pub number_behind : List Captured → Outcome → ℕ
+number_behind before outcome = if commits outcome then commits_in before + 1 else 0
+
+-- the number of a call with this stamp
 abbrev pub number_of : List Captured → ℕ → Captured → ℕ
-number_of calls k call = if commits call.reply.outcome then commits_before calls k + 1 else 0
+number_of calls k call = number_behind (take k calls) call.reply.outcome
 
 -- the values of a call's binds
 abbrev pub binds_of : Call → List Value
@@ -69,7 +81,7 @@ IsRun {S} gives first (call ∷ calls) last = (next : S) × gives first call.ses
 pub record FitsIn (rows : List Image) (calls : List Captured) (k : ℕ) (call : Captured) : Type 0 where
   pub stamp : call.stamp ≡ k
   pub session : call.session < SESSION_LIMIT
-  pub place : call.place ≡ session_calls_before calls call.session k
+  pub place : HasPlace calls k call
   pub number : call.number ≡ number_of calls k call
   pub seen : call.seen ≡ commits_before calls k
   pub ends : call.began ≤ call.ended

@@ -1,5 +1,6 @@
 -- Which histories a replay of a job may have.
 use Rattle.std.specs.Prelude.{◌≡◌, ℕ, ◌<◌, true, List, [], ◌∷◌, ◌++◌, length, slice_index, slice_get, Option, None, Some}
+use Rattle.std.specs.List.{flat_map}
 use Rattle.desk_values.specs.declared.capture.Captured.{Captured}
 use Rattle.desk_values.specs.declared.capture.Event.{Event}
 use Rattle.desk_values.specs.declared.capture.Event.TheVariants.{Start, Answer}
@@ -7,7 +8,7 @@ use Rattle.desk_values.specs.declared.call.Reply.{Reply}
 use Rattle.desk_values.specs.declared.value.Image.{Image}
 use Rattle.machine_model.specs.State.{State, opening, tables}
 use Rattle.machine_model.specs.Step.{Gives}
-use Rattle.replay_history.specs.Gap.{IsCallAt, IsPause}
+use Rattle.replay_history.specs.Gap.{IsCallAt, pause_before}
 use Rattle.replay_history.specs.History.{IsAnswered, IsCompleteRun, IsLegalHistory, IsTruthfulHistory}
 use Rattle.object_depends.specs.Required.{is_required}
 use Rattle.id_pairs.specs.Pairs.{IdPair, learnt}
@@ -23,7 +24,7 @@ Requires job k j = is_required job.mode job.facts k j ≡ true
 
 -- the pause before a call
 abbrev pub IsPauseIn : JobView → Captured → ℕ → Type 0
-IsPauseIn job call pause = IsPause job.calls job.connect job.think call pause
+IsPauseIn job call pause = pause ≡ pause_before job.calls job.connect job.think call
 
 -- the events start and answer calls of the job, each once, in their sessions' order, with their pauses, and after what they wait for
 abbrev pub IsLegalFor : JobView → List Event → Type 0
@@ -79,15 +80,19 @@ Executes job old k reply new = (call : Captured) × IsCallAt job.calls k call
     × Gives old.state call.session (sent old.pairs job.remap call.call) reply new.state
     × (new.pairs ≡ old.pairs ++ learnt call.reply reply)
 
--- the pairs that the answers of a history bring
+-- the pairs that an answer to a call brings
 abbrev pub learnt_from : Option Captured → Reply → List IdPair
 learnt_from None reply = []
 learnt_from (Some call) reply = learnt call.reply reply
 
+-- those that an event brings, where these are the calls by stamp
+abbrev pub gained : List Captured → Event → List IdPair
+gained calls (Start k pause) = []
+gained calls (Answer k reply) = learnt_from (slice_get calls k) reply
+
+-- those that a history brings
 abbrev pub learnt_in : List Captured → List Event → List IdPair
-learnt_in calls [] = []
-learnt_in calls (Start k pause ∷ events) = learnt_in calls events
-learnt_in calls (Answer k reply ∷ events) = learnt_from (slice_get calls k) reply ++ learnt_in calls events
+learnt_in calls events = flat_map (gained calls) events
 
 -- each answer is what one server answers there, and that server and the pairs come to the last stage
 abbrev pub IsTruthfulFor : JobView → List Event → Stage → Type 0

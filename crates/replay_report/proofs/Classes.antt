@@ -16,22 +16,18 @@ use Rattle.remap_ids.specs.IdMap.{start_pairs}
 use Rattle.replay_history.specs.declared.report.Class.{Class}
 use Rattle.replay_history.specs.declared.report.Line.{Line}
 use Rattle.replay_job.specs.Job.{JobView}
-use Rattle.replay_job.specs.Runs.{learnt_in}
+use Rattle.replay_job.specs.Runs.{gained, learnt_in}
 use Rattle.divergence.specs.Class.{class_between}
 use Rattle.replay_report.specs.Last.{last_of}
-use Rattle.replay_report.specs.Report.{class_at, class_by, class_of, counts_of, difference, gained, marked, report_in}
+use Rattle.replay_report.specs.Report.{class_at, class_by, class_of, counts_of, difference, marked, report_in}
 use Rattle.replay_history.specs.Gap.{IsStamped}
 use Rattle.replay_report.specs.Inside.Written.{differences, noted, noted_on, walked}
 use Rattle.replay_report.proofs.Lasts.{map_same, map_set, or_assoc, or_none}
 
 -- ---- the pairs
 
-first_gained : (calls : List Captured) (first : Event) (xs : List Event) → gained calls first ++ learnt_in calls xs ≡ learnt_in calls (first ∷ xs)
-first_gained calls (Start k pause) xs = refl
-first_gained calls (Answer k reply) xs = refl
-
 pub known_more : (calls : List Captured) (pairs : List IdPair) (first : Event) (xs : List Event) → (pairs ++ gained calls first) ++ learnt_in calls xs ≡ pairs ++ learnt_in calls (first ∷ xs)
-known_more calls pairs first xs = append_assoc pairs (gained calls first) (learnt_in calls xs) ∙ ap (λ (ps : List IdPair). pairs ++ ps) (first_gained calls first xs)
+known_more calls pairs first xs = append_assoc pairs (gained calls first) (learnt_in calls xs)
 
 -- an answer to no call gives none
 pub none_gained : (calls : List Captured) (pairs : List IdPair) (event : Event) (k : ℕ) (reply : Reply) → event ≡ Answer k reply → length calls ≤ k → pairs ≡ pairs ++ gained calls event

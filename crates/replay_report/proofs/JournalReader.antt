@@ -8,20 +8,17 @@ use Rattle.desk_values.specs.Reading.{number_below}
 use Rattle.desk_values.proofs.Readers.{IsReader}
 use Rattle.desk_values.proofs.Numbers.{numbers, numbers_below}
 use Rattle.desk_values.proofs.Words.{member_with_word_law}
-use Rattle.capture_format.proofs.SessionReader.{no_space}
 use Rattle.capture_format.proofs.Fields.{two_reader, by_word, one_text, no_word, worded}
 use Rattle.capture_format.proofs.ReplyTexts.{reply_reader}
-use Rattle.replay_history.specs.Mode.{mode_word, all_modes, modes_have_own_words}
+use Rattle.capture_format.proofs.StartReader.{small_space}
+use Rattle.replay_history.specs.Mode.{mode_of, mode_word, all_modes, modes_have_own_words}
 use Rattle.replay_report.specs.declared.journal_line.JournalLine.{JournalLine}
 use Rattle.replay_report.specs.declared.journal_line.JournalLine.TheVariants.{Head, Event, End}
 use Rattle.replay_report.specs.JournalFile.{IsJournalLine, journal_line_text}
-use Rattle.replay_report.specs.Inside.JournalReading.{version_of, mode_of, line_behind, worded_of, journal_line_of}
+use Rattle.replay_report.specs.Inside.JournalReading.{version_of, line_behind, worded_of, journal_line_of}
 
 stamps : IsReader (number_below (2 ^ 32)) (λ n. n < 2 ^ 32) decimal
 stamps = numbers_below (2 ^ 32) (lit≤ tt)
-
-stamp_space : (n : ℕ) → n < 2 ^ 32 → Lacks 32 (decimal n)
-stamp_space n small = no_space n (omega (arith, small))
 
 modes : IsReader mode_of (λ m. Unit {0}) mode_word
 modes = record {
@@ -46,8 +43,8 @@ line_taken : (word rest : List ℕ) (l : JournalLine) → line_behind word rest 
 unfolding line_behind
 line_taken word rest l =
     by_word IsJournalLine journal_line_text (codes "journal") (λ p. Head p.1) (two_reader 32 versions modes version_space) (λ p fits. (tt, refl)) word rest l _
-    (by_word IsJournalLine journal_line_text (codes "s") (λ p. Event (Start p.0 p.1)) (two_reader 32 stamps numbers stamp_space) (λ p fits. (fits, refl)) word rest l _
-    (by_word IsJournalLine journal_line_text (codes "a") (λ p. Event (Answer p.0 p.1)) (two_reader 32 stamps reply_reader stamp_space) (λ p fits. (fits, refl)) word rest l None (no_word _ l)))
+    (by_word IsJournalLine journal_line_text (codes "s") (λ p. Event (Start p.0 p.1)) (two_reader 32 stamps numbers small_space) (λ p fits. (fits, refl)) word rest l _
+    (by_word IsJournalLine journal_line_text (codes "a") (λ p. Event (Answer p.0 p.1)) (two_reader 32 stamps reply_reader small_space) (λ p fits. (fits, refl)) word rest l None (no_word _ l)))
 
 takes : (bytes : List ℕ) (l : JournalLine) → journal_line_of bytes ≡ Some l → IsJournalLine l × (bytes ≡ journal_line_text l)
 unfolding journal_line_of worded_of
@@ -56,8 +53,8 @@ takes bytes l = one_text bytes (codes "end") End _ (λ x. IsJournalLine x × (by
 again : (l : JournalLine) → IsJournalLine l → journal_line_of (journal_line_text l) ≡ Some l
 unfolding journal_line_of worded_of line_behind
 again (Head mode) fits = rw ((two_reader 32 versions modes version_space).again (tt, mode) (tt, tt)) refl
-again (Event (Start k pause)) fits = rw ((two_reader 32 stamps numbers stamp_space).again (k, pause) fits) refl
-again (Event (Answer k reply)) fits = rw ((two_reader 32 stamps reply_reader stamp_space).again (k, reply) fits) refl
+again (Event (Start k pause)) fits = rw ((two_reader 32 stamps numbers small_space).again (k, pause) fits) refl
+again (Event (Answer k reply)) fits = rw ((two_reader 32 stamps reply_reader small_space).again (k, reply) fits) refl
 again End fits = refl
 
 pub journal_lines : IsReader journal_line_of IsJournalLine journal_line_text

@@ -22,11 +22,11 @@ use Rattle.replay_history.specs.Class.{class_number}
 use Rattle.replay_history.specs.Gap.{IsCallAt, IsStamped}
 use Rattle.replay_history.specs.History.{AnswersAll, AnswersAt}
 use Rattle.replay_job.specs.Job.{JobView}
-use Rattle.replay_job.specs.Runs.{IsLegalFor, learnt_in}
+use Rattle.replay_job.specs.Runs.{IsLegalFor, gained, learnt_in}
 use Rattle.divergence.specs.Class.{class_between}
 use Rattle.replay_report.specs.Last.{last_of}
 use Rattle.replay_report.specs.Laws.{IsLineOf, StampsRise}
-use Rattle.replay_report.specs.Report.{class_at, class_by, class_of, counts_of, difference, gained, is_class, marked, pairs_after, report_in}
+use Rattle.replay_report.specs.Report.{class_at, class_by, class_of, counts_of, difference, is_class, marked, pairs_after, report_in}
 use Rattle.replay_report.proofs.Classes.{known_more}
 
 -- ---- the class by the own answer

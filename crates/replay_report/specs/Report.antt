@@ -1,5 +1,5 @@
 -- The report on a history: the class of each call, how many calls there are of each class, and a line for each call that differs.
-use Rattle.std.specs.Prelude.{ℕ, ◌==◌, if◌then◌else◌, Bool, false, List, [], ◌∷◌, ◌++◌, length, map, slice_get, count_by, Option, None, Some}
+use Rattle.std.specs.Prelude.{ℕ, ◌==◌, if◌then◌else◌, Bool, false, List, [], ◌∷◌, ◌++◌, length, map, count_by, Option, None, Some}
 use Rattle.std.specs.List.{flat_map}
 use Rattle.desk_values.specs.declared.capture.Captured.{Captured}
 use Rattle.desk_values.specs.declared.capture.Event.{Event}
@@ -12,16 +12,11 @@ use Rattle.replay_history.specs.declared.report.Line.{Line}
 use Rattle.replay_history.specs.declared.report.Report.{Report}
 use Rattle.replay_history.specs.Class.{all_classes, class_number}
 use Rattle.replay_job.specs.Job.{JobView}
-use Rattle.replay_job.specs.Runs.{learnt_from, learnt_in}
+use Rattle.replay_job.specs.Runs.{gained, learnt_in}
 use Rattle.divergence.specs.Class.{class_between}
 use Rattle.replay_report.specs.Last.{last_of}
 
 -- ---- the pairs of ids
-
--- the pairs that an event gives, where these are the calls by stamp
-abbrev pub gained : List Captured → Event → List IdPair
-gained calls (Start k pause) = []
-gained calls (Answer k reply) = learnt_from (slice_get calls k) reply
 
 -- the pairs behind these events
 abbrev pub pairs_after : JobView → List Event → List IdPair

@@ -6,7 +6,8 @@ ghost use Rattle.desk_values.specs.declared.capture.Event.TheVariants.{Start, An
 ghost use Rattle.desk_values.specs.Reading.{Reads, number_of, number_below};
 ghost use Rattle.capture_format.specs.Inside.Fields.{two_of};
 ghost use Rattle.capture_format.specs.ReplyReading.{reply_of};
-ghost use Rattle.replay_report.specs.Inside.JournalReading.{version_of, mode_of, line_behind, worded_of, journal_line_of};
+ghost use Rattle.replay_history.specs.Mode.{mode_of};
+ghost use Rattle.replay_report.specs.Inside.JournalReading.{version_of, line_behind, worded_of, journal_line_of};
 
 use capture_format::read_reply;
 use desk_values::fields::{cut, read_u32, read_u64};

@@ -4,9 +4,9 @@ ghost use Rattle.std.specs.Prelude.{◌≡◌, ◌++◌, ◌<◌, None, Some, If
 ghost use Rattle.id_pairs.specs.Pairs.{HasNoIdTwice, learnt};
 ghost use Rattle.remap_ids.specs.IdMap.{start_pairs};
 ghost use Rattle.replay_job.specs.Job.{IsReplayable, seen};
-ghost use Rattle.replay_job.specs.Runs.{IsCompleteFor, Stage, learnt_in};
+ghost use Rattle.replay_job.specs.Runs.{IsCompleteFor, Stage, gained, learnt_in};
 ghost use Rattle.divergence.specs.Class.{class_between};
-ghost use Rattle.replay_report.specs.Report.{counts_of, difference, gained, is_class, report_in};
+ghost use Rattle.replay_report.specs.Report.{counts_of, difference, is_class, report_in};
 ghost use Rattle.replay_report.specs.Inside.Written.{differences, noted, walked};
 
 use desk_schema::Start;

@@ -7,7 +7,7 @@ use crate::server::{Server, sent};
 use anyhow::anyhow;
 use capture_format::append_reply;
 use desk_values::{Bytes, Captured, Event, Image, List, Memory, Outcome, Reply, Same};
-use replay_history::{Class, Line};
+use replay_history::{Class, Line, commits};
 use std::alloc::Global;
 use std::marker::Model;
 
@@ -154,8 +154,8 @@ fn answer_of(
         as_served,
         as_captured: captured.same(reply),
         numbered: call.number > 0,
-        writes: writes(&reply.outcome),
-        commits: commits(&captured.outcome) || commits(&reply.outcome),
+        writes: commits(&reply.outcome),
+        commits: is_commit(&captured.outcome) || is_commit(&reply.outcome),
     })
 }
 
@@ -174,14 +174,7 @@ fn text(alloc: Global, reply: &Reply) -> Result<Bytes, Memory> {
     Ok(text)
 }
 
-fn writes(outcome: &Outcome) -> bool {
-    match outcome {
-        Outcome::Committed(images) => !images.is_empty(),
-        _ => false,
-    }
-}
-
-fn commits(outcome: &Outcome) -> bool {
+fn is_commit(outcome: &Outcome) -> bool {
     matches!(outcome, Outcome::Committed(_))
 }
 

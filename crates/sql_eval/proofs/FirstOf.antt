@@ -1,36 +1,21 @@
 -- What stands first by a total order.
-use Rattle.std.proofs.Common.{◌≡◌, ℕ, zero, suc, ◌<◌, List, [], ◌∷◌, length, get_or, refl, ap, sym, subst, arith, ◌⊎◌, inl, inr, Contains}
+use Rattle.std.proofs.Common.{◌≡◌, List, [], ◌∷◌, refl, ap, sym, subst, ◌⊎◌, inl, inr, Contains}
 use Rattle.std.specs.Prelude.{Bool, true, false, Some, if◌then◌else◌}
 use Rattle.std.specs.List.{fold, reduce}
 use Rattle.std.specs.Ordering.{is_gt, ordering_reverse}
 use Rattle.std.specs.Cmp.{IsTotalOrder}
 use Rattle.std.proofs.lemmas.Cmp.{upto, tied_itself}
-use Rattle.std.proofs.lemmas.List.Elements.{Contains-append_right}
+use Rattle.std.proofs.lemmas.Option.{same_Some}
 use Rattle.std.specs.declared.cmp.Ordering.{Ordering}
 use Rattle.std.specs.declared.cmp.Ordering.TheVariants.{Less, Equal, Greater}
 use Rattle.sql_eval.specs.Totals.{first_of}
 use Rattle.sql_eval.proofs.Moved.{Exchanges}
+use Rattle.desk_schema.proofs.Members.{Contains-none, Contains-here, Contains-there, Contains-cases}
 
 -- a total order in which only equal items tie
 pub record IsExact {A : Type 0} (order : A → A → Ordering) : Type 0 where
   pub total : IsTotalOrder order
   pub exact : (a b : A) → order a b ≡ Equal → a ≡ b
-
-pub head_in : {A : Type 0} (x : A) (xs : List A) → Contains (x ∷ xs) x
-head_in x xs = (0, omega arith, refl)
-
-pub tail_in : {A : Type 0} (x y : A) (xs : List A) → Contains xs y → Contains (x ∷ xs) y
-tail_in x y xs c = Contains-append_right (x ∷ []) xs y c
-
-pub in_cases : {A : Type 0} (x y : A) (xs : List A) → Contains (x ∷ xs) y → (x ≡ y) ⊎ Contains xs y
-in_cases x y xs c = at_place c.0 c.1 c.2
-  where
-    at_place : (k : ℕ) → k < length (x ∷ xs) → get_or (x ∷ xs) k y ≡ y → (x ≡ y) ⊎ Contains xs y
-    at_place zero l e = inl e
-    at_place (suc k) l e = inr (k, omega arith, e)
-
-pub not_in_none : {A : Type 0} (y : A) → Contains [] y → ⊥
-not_in_none y c = omega (arith, c.1)
 
 module _ {A : Type 0} {order : A → A → Ordering} (laws : IsExact order) where
   -- the first stands not behind the second
@@ -101,38 +86,35 @@ module _ {A : Type 0} {order : A → A → Ordering} (laws : IsExact order) wher
 
   folded : (a : A) (xs : List A) → StandsFirst (a ∷ xs) (fold (first_of order) a xs)
   folded a [] = record {
-    among = head_in a [];
-    before = λ other c. elim (in_cases a other [] c) [
+    among = Contains-here a [];
+    before = λ other c. elim (Contains-cases a [] other c) [
       | inl e ↦ let P : A → Type 0 = λ b. is_gt (order a b) ≡ false in subst P e ((itself a).holds)
-      | inr d ↦ absurd (not_in_none other d)
+      | inr d ↦ absurd (Contains-none other d)
     ];
   }
   folded a (x ∷ xs) =
       let rest = folded (first_of order a x) xs in
       let result = fold (first_of order) (first_of order a x) xs in
-      let over : IsUpTo result (first_of order a x) = record { holds = rest.before (first_of order a x) (head_in (first_of order a x) xs) } in
+      let over : IsUpTo result (first_of order a x) = record { holds = rest.before (first_of order a x) (Contains-here (first_of order a x) xs) } in
       let P : A → Type 0 = λ b. Contains (a ∷ x ∷ xs) b in
       let Q : A → Type 0 = λ b. is_gt (order result b) ≡ false in
       record {
-        among = elim (in_cases (first_of order a x) result xs rest.among) [
+        among = elim (Contains-cases (first_of order a x) xs result rest.among) [
           | inl e ↦ subst P e (elim (one_of a x) [
-            | inl f ↦ subst P (sym f) (head_in a (x ∷ xs))
-            | inr f ↦ subst P (sym f) (tail_in a x (x ∷ xs) (head_in x xs))
+            | inl f ↦ subst P (sym f) (Contains-here a (x ∷ xs))
+            | inr f ↦ subst P (sym f) (Contains-there a (x ∷ xs) x (Contains-here x xs))
           ])
-          | inr d ↦ tail_in a result (x ∷ xs) (tail_in x result xs d)
+          | inr d ↦ Contains-there a (x ∷ xs) result (Contains-there x xs result d)
         ];
-        before = λ other c. elim (in_cases a other (x ∷ xs) c) [
+        before = λ other c. elim (Contains-cases a (x ∷ xs) other c) [
           | inl e ↦ subst Q e ((then_up over (up_left a x)).holds)
-          | inr d ↦ elim (in_cases x other xs d) [
+          | inr d ↦ elim (Contains-cases x xs other d) [
             | inl e ↦ subst Q e ((then_up over (up_right a x)).holds)
-            | inr f ↦ rest.before other (tail_in (first_of order a x) other xs f)
+            | inr f ↦ rest.before other (Contains-there (first_of order a x) xs other f)
           ]
         ];
       }
 
   pub reduced_first : (xs : List A) (first : A) → reduce (first_of order) xs ≡ Some first → StandsFirst xs first
   reduced_first [] first e = absurd (cc)
-  reduced_first (x ∷ xs) first e = let P : A → Type 0 = λ b. StandsFirst (x ∷ xs) b in subst P (same_some (fold (first_of order) x xs) first e) (folded x xs)
-    where
-      same_some : (a b : A) → Some a ≡ Some b → a ≡ b
-      same_some a b e = cc
+  reduced_first (x ∷ xs) first e = let P : A → Type 0 = λ b. StandsFirst (x ∷ xs) b in subst P (same_Some (fold (first_of order) x xs) first e) (folded x xs)

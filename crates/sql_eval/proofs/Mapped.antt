@@ -1,6 +1,7 @@
 -- Tests of mapped lists.
 use Rattle.std.proofs.Common.{◌≡◌, ◌<◌, ℕ, List, [], ◌∷◌, length, drop, get_or, refl, sym, ap, ◌∙◌, arith}
-use Rattle.std.specs.Prelude.{Bool, true, false, ◌||◌, ◌&&◌, map, nat_eq, Option, None, Some}
+use Rattle.std.proofs.Math.Bool.{or-false}
+use Rattle.std.specs.Prelude.{Bool, ◌||◌, ◌&&◌, map, nat_eq, Option, None, Some}
 use Rattle.std.specs.List.{cons_option, filter_map, list_any, list_all}
 use Rattle.sql_tree.specs.Naming.{Naming, map_change, map_plan}
 use Rattle.sql_tree.specs.Plain.{Change, Plan}
@@ -24,13 +25,9 @@ pub all_mapped : {X Y : Type 0} (test : Y → Bool) (f : X → Y) (xs : List X) 
 all_mapped test f [] = refl
 all_mapped test f (x ∷ xs) = ap (λ b. test (f x) && b) (all_mapped test f xs)
 
-or_false : (b : Bool) → (b || false) ≡ b
-or_false true = refl
-or_false false = refl
-
 any_put : {Y : Type 0} (test : Y → Bool) (o : Option Y) (ys : List Y) → list_any test (cons_option o ys) ≡ (list_any test (cons_option o []) || list_any test ys)
 any_put test None ys = refl
-any_put test (Some y) ys = rw (or_false (test y)) refl
+any_put test (Some y) ys = rw (or-false (test y)) refl
 
 -- a test of what is chosen of mapped items
 pub any_chosen : {X Y Z : Type 0} (test : Z → Bool) (choose : Y → Option Z) (f : X → Y) (xs : List X) → list_any test (filter_map choose (map f xs)) ≡ list_any (λ x. list_any test (cons_option (choose (f x)) [])) xs

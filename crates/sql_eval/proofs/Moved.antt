@@ -2,9 +2,6 @@
 use Rattle.std.proofs.Common.{◌≡◌, suc, List, [], ◌∷◌, length, refl, ap, sym, ◌∙◌}
 use Rattle.std.specs.Prelude.{Bool, true, false, ◌||◌, Option, None, Some, ◌+ℤ◌}
 use Rattle.std.specs.List.{list_any, filter_map, cons_option, fold, reduce}
-use Rattle.std.specs.Cmp.{IsTotalOrder}
-use Rattle.std.specs.declared.cmp.Ordering.{Ordering}
-use Rattle.std.specs.declared.cmp.Ordering.TheVariants.{Equal}
 use Rattle.std.proofs.Math.IntN.{+ℤ_assoc, +ℤ_comm}
 use Rattle.sql_eval.specs.Moved.{Moved, none, more, swapped, along}
 
@@ -83,9 +80,3 @@ moved_reduce f h {xs} {ys} m = reduced f xs ∙ moved_fold (joined f) (joined_ex
 
 pub sums_exchange : Exchanges ◌+ℤ◌
 sums_exchange = record { commutes = +ℤ_comm; exchanges = λ a b c. +ℤ_assoc a b c ∙ ap (λ n. a +ℤ n) (+ℤ_comm b c) ∙ sym (+ℤ_assoc a c b) }
-
--- ---- the first of two by a total order in which only equal items tie
-
-pub record IsExact {A : Type 0} (order : A → A → Ordering) : Type 0 where
-  pub total : IsTotalOrder order
-  pub exact : (a b : A) → order a b ≡ Equal → a ≡ b

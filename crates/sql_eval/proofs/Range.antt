@@ -1,24 +1,20 @@
 -- A checked operation gives a number exactly where it is within 64 bits.
-use Rattle.std.proofs.Common.{◌≡◌, zero, suc, ◌<◌, ◌^◌, arith, refl, ap}
-use Rattle.std.specs.Prelude.{ℤ, pos, negsuc, Bool, true, false, nat_lt, Option, None, Some, int_div, FitsSigned, Ok}
+use Rattle.std.proofs.Common.{◌≡◌, zero, suc, ◌<◌, ◌^◌, arith, ap}
+use Rattle.std.specs.Prelude.{ℤ, pos, negsuc, true, false, nat_lt, Option, None, Some, int_div, FitsSigned, Ok}
 use Rattle.std.specs.Option.{SomeIff}
 use Rattle.std.specs.Int.{w64, CanDivide, IsNonZero}
-use Rattle.std.proofs.lemmas.Bool.{lt-ltb, ltb-true}
+use Rattle.std.proofs.lemmas.Bool.{lt-ltb, ltb-true, false_from_ne_true}
 use Rattle.desk_values.specs.declared.value.Value.TheVariants.{Int}
 use Rattle.sql_eval.specs.Value.{is_in_range, is_zero, number}
 use Rattle.sql_eval.specs.Inside.ValueRef.{computed_of}
-
-false_from : (b : Bool) → (b ≡ true → ⊥) → b ≡ false
-false_from true h = absurd (h refl)
-false_from false h = refl
 
 in_range : (z : ℤ) → FitsSigned w64 z → is_in_range z ≡ true
 in_range (pos n) h = lt-ltb n (2 ^ 63) h.sfits
 in_range (negsuc n) h = lt-ltb n (2 ^ 63) h.sfits
 
 out_of_range : (z : ℤ) → (FitsSigned w64 z → ⊥) → is_in_range z ≡ false
-out_of_range (pos n) h = false_from (nat_lt n (2 ^ 63)) (λ e. h (record { sfits = ltb-true n (2 ^ 63) e }))
-out_of_range (negsuc n) h = false_from (nat_lt n (2 ^ 63)) (λ e. h (record { sfits = ltb-true n (2 ^ 63) e }))
+out_of_range (pos n) h = false_from_ne_true (nat_lt n (2 ^ 63)) (λ e. h (record { sfits = ltb-true n (2 ^ 63) e }))
+out_of_range (negsuc n) h = false_from_ne_true (nat_lt n (2 ^ 63)) (λ e. h (record { sfits = ltb-true n (2 ^ 63) e }))
 
 pub computed_is_number : (r : Option ℤ) (z : ℤ) → SomeIff r (FitsSigned w64 z) z → computed_of r ≡ number z
 computed_is_number None z h = rw (out_of_range z h)

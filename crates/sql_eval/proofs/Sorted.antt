@@ -3,7 +3,7 @@ use Rattle.std.proofs.Common.{◌≡◌, ℕ, List, refl, ap, sym, ◌∙◌}
 use Rattle.std.specs.Prelude.{ℤ, neg_ℤ, ◌+ℤ◌, ◌-ℤ◌, ◌*ℤ◌, Bool, true, false, ◌&&◌, ◌||◌, not, if◌then◌else◌, Option, None, Some, Result, Ok, Err, slice_get}
 use Rattle.std.specs.Option.{option_map, unwrap_or}
 use Rattle.std.specs.Ordering.{is_lt, is_le, is_gt, is_ge}
-use Rattle.std.proofs.lemmas.Bool.{eqb-true, eq-eqb}
+use Rattle.std.proofs.lemmas.Bool.{eqb-true, eq-eqb, and_parts}
 use Rattle.desk_values.specs.declared.value.Value.{Value}
 use Rattle.desk_values.specs.declared.value.Value.TheVariants as value
 use Rattle.desk_values.specs.declared.fault.Fault.{Fault}
@@ -21,6 +21,7 @@ use Rattle.desk_values.specs.Comparison.{value_equal, value_order}
 use Rattle.sql_eval.specs.Value.{arithmetic, bind_at, both, comparison, connected, is_connective, is_in_range, is_null_value, is_zero, minus, number, of_numbers, quotient, then_apply, truth_value, value_of}
 use Rattle.sql_eval.specs.Kinds.{has_order, is_comparable, is_number, is_same_kind, is_taken, kept, kind_of, kind_of_value, of_one, of_two, operator_kind}
 use Rattle.sql_eval.specs.Laws.{IsComparison, UnknownMeansNull, ValueHasItsKind}
+use Rattle.desk_values.proofs.Cuts.{unmapped}
 
 -- a value that is there
 abbrev sound : {A : Type 0} → A → Result A Fault
@@ -192,14 +193,6 @@ equal_known level (value.Row a) (value.Row b) m n h e = cc
 equal_known level (value.Draw p a) (value.Draw q b) m n h e = cc
 equal_known level v w m n h e = cc
 
-and_left : (a b : Bool) → (a && b) ≡ true → a ≡ true
-and_left true b h = refl
-and_left false b h = absurd (cc)
-
-and_right : (a b : Bool) → (a && b) ≡ true → b ≡ true
-and_right true b h = h
-and_right false b h = absurd (cc)
-
 ordered : (level : ℕ) (v w : Value) → is_null_value v ≡ false → is_null_value w ≡ false → is_comparable (kind_of_value v) (kind_of_value w) ≡ true → has_order (kind_of_value v) ≡ true → value_order level v w ≡ None → ⊥
 ordered level (value.Int a) (value.Int b) m n h o e = cc
 ordered level (value.Text a) (value.Text b) m n h o e = cc
@@ -207,12 +200,9 @@ ordered level v w m n h o e = cc
 
 order_known : (level : ℕ) (v w : Value) → is_null_value v ≡ false → is_null_value w ≡ false → (is_comparable (kind_of_value v) (kind_of_value w) && has_order (kind_of_value v) && has_order (kind_of_value w)) ≡ true → value_order level v w ≡ None → ⊥
 order_known level v w m n h e =
-    let both_hold = and_left (is_comparable (kind_of_value v) (kind_of_value w) && has_order (kind_of_value v)) (has_order (kind_of_value w)) h in
-    ordered level v w m n (and_left (is_comparable (kind_of_value v) (kind_of_value w)) (has_order (kind_of_value v)) both_hold) (and_right (is_comparable (kind_of_value v) (kind_of_value w)) (has_order (kind_of_value v)) both_hold) e
-
-map_none : {A B : Type 0} (f : A → B) (x : Option A) → option_map f x ≡ None → x ≡ None
-map_none f None e = refl
-map_none f (Some a) e = absurd (cc)
+    let both_hold = and_parts (is_comparable (kind_of_value v) (kind_of_value w) && has_order (kind_of_value v)) (has_order (kind_of_value w)) h in
+    let first = and_parts (is_comparable (kind_of_value v) (kind_of_value w)) (has_order (kind_of_value v)) both_hold.0 in
+    ordered level v w m n first.0 first.1 e
 
 compared_known : (level : ℕ) (op : Op) (v w : Value) → IsComparison op → is_null_value v ≡ false → is_null_value w ≡ false → operator_kind op (kind_of_value v) (kind_of_value w) ≡ Some Condition → comparison level op v w ≡ None → ⊥
 compared_known level Add v w c m n h e = absurd c
@@ -220,11 +210,11 @@ compared_known level Sub v w c m n h e = absurd c
 compared_known level Mul v w c m n h e = absurd c
 compared_known level Div v w c m n h e = absurd c
 compared_known level Eq v w c m n h e = equal_known level v w m n ((kept_is (is_comparable (kind_of_value v) (kind_of_value w)) Condition Condition h).holds) e
-compared_known level Ne v w c m n h e = equal_known level v w m n ((kept_is (is_comparable (kind_of_value v) (kind_of_value w)) Condition Condition h).holds) (map_none not (value_equal level v w) e)
-compared_known level Lt v w c m n h e = order_known level v w m n ((kept_is (is_comparable (kind_of_value v) (kind_of_value w) && has_order (kind_of_value v) && has_order (kind_of_value w)) Condition Condition h).holds) (map_none is_lt (value_order level v w) e)
-compared_known level Le v w c m n h e = order_known level v w m n ((kept_is (is_comparable (kind_of_value v) (kind_of_value w) && has_order (kind_of_value v) && has_order (kind_of_value w)) Condition Condition h).holds) (map_none is_le (value_order level v w) e)
-compared_known level Gt v w c m n h e = order_known level v w m n ((kept_is (is_comparable (kind_of_value v) (kind_of_value w) && has_order (kind_of_value v) && has_order (kind_of_value w)) Condition Condition h).holds) (map_none is_gt (value_order level v w) e)
-compared_known level Ge v w c m n h e = order_known level v w m n ((kept_is (is_comparable (kind_of_value v) (kind_of_value w) && has_order (kind_of_value v) && has_order (kind_of_value w)) Condition Condition h).holds) (map_none is_ge (value_order level v w) e)
+compared_known level Ne v w c m n h e = equal_known level v w m n ((kept_is (is_comparable (kind_of_value v) (kind_of_value w)) Condition Condition h).holds) (unmapped not (value_equal level v w) e)
+compared_known level Lt v w c m n h e = order_known level v w m n ((kept_is (is_comparable (kind_of_value v) (kind_of_value w) && has_order (kind_of_value v) && has_order (kind_of_value w)) Condition Condition h).holds) (unmapped is_lt (value_order level v w) e)
+compared_known level Le v w c m n h e = order_known level v w m n ((kept_is (is_comparable (kind_of_value v) (kind_of_value w) && has_order (kind_of_value v) && has_order (kind_of_value w)) Condition Condition h).holds) (unmapped is_le (value_order level v w) e)
+compared_known level Gt v w c m n h e = order_known level v w m n ((kept_is (is_comparable (kind_of_value v) (kind_of_value w) && has_order (kind_of_value v) && has_order (kind_of_value w)) Condition Condition h).holds) (unmapped is_gt (value_order level v w) e)
+compared_known level Ge v w c m n h e = order_known level v w m n ((kept_is (is_comparable (kind_of_value v) (kind_of_value w) && has_order (kind_of_value v) && has_order (kind_of_value w)) Condition Condition h).holds) (unmapped is_ge (value_order level v w) e)
 compared_known level And v w c m n h e = absurd c
 compared_known level Or v w c m n h e = absurd c
 

@@ -8,6 +8,7 @@ use Rattle.std.specs.Cmp.{IsTotalOrder}
 use Rattle.std.specs.Cmp.Lexicographic.{slice_cmp}
 use Rattle.std.proofs.lemmas.Cmp.{back_total, int_cmp_total, nat_list_cmp_total, on_total, then_total, tied_back}
 use Rattle.std.proofs.lemmas.Map.Lookups.{exact_bytes, exact_signed}
+use Rattle.std.proofs.lemmas.Option.{same_Some}
 use Rattle.std.specs.declared.cmp.Ordering.{Ordering}
 use Rattle.std.specs.declared.cmp.Ordering.TheVariants.{Less, Equal, Greater}
 use Rattle.desk_values.specs.declared.value.Value.{Value}
@@ -19,12 +20,12 @@ use Rattle.sql_eval.specs.declared.totals.Extreme.{Extreme}
 use Rattle.sql_eval.specs.declared.totals.Extreme.TheVariants.{Least, Greatest}
 use Rattle.sql_eval.specs.Faults.{any_fault, divides, overflows, told, unless_told}
 use Rattle.sql_eval.specs.Moved.{Moved}
-use Rattle.sql_tree.specs.Plain.{Term}
 use Rattle.sql_tree.specs.Plain as total
 use Rattle.sql_eval.specs.Totals.{extreme_of, first_of, first_value, members, number_in, number_order, over, part_in, sum_of, sum_value, text_in, tied_order}
 use Rattle.sql_eval.specs.TotalLaws.{IsExtreme, MaxIsGreatest, MinIsLeast, TotalIgnoresOrder, beyond_all, mixed, nothing}
 use Rattle.sql_eval.proofs.Moved.{moved_any, moved_chosen, moved_length, moved_reduce, sums_exchange}
-use Rattle.sql_eval.proofs.FirstOf.{IsExact, first_exchanges, head_in, in_cases, not_in_none, reduced_first, tail_in}
+use Rattle.sql_eval.proofs.FirstOf.{IsExact, first_exchanges, reduced_first}
+use Rattle.desk_schema.proofs.Members.{Contains-none, Contains-here, Contains-there, Contains-cases}
 
 -- ---- the orders
 
@@ -40,11 +41,6 @@ then_equal : (p q : Ordering) → ordering_then p q ≡ Equal → q ≡ Equal
 then_equal Less q e = absurd (cc)
 then_equal Equal q e = e
 then_equal Greater q e = absurd (cc)
-
-turned_back : (p q : Ordering) → p ≡ ordering_reverse q → p ≡ Equal → q ≡ Equal
-turned_back p Less e h = absurd (cc)
-turned_back p Equal e h = refl
-turned_back p Greater e h = absurd (cc)
 
 numbers_exact : (extreme : Extreme) → IsExact (number_order extreme)
 numbers_exact Least = record { total = int_cmp_total; exact = exact_signed }
@@ -92,33 +88,30 @@ record Came {X A : Type 0} (choose : X → Option A) (xs : List X) (a : A) : Typ
   gave : choose item ≡ Some a
 
 came_later : {X A : Type 0} (choose : X → Option A) (x : X) (xs : List X) (a : A) → Came choose xs a → Came choose (x ∷ xs) a
-came_later choose x xs a c = record { item = c.item; among = tail_in x c.item xs c.among; gave = c.gave }
+came_later choose x xs a c = record { item = c.item; among = Contains-there x xs c.item c.among; gave = c.gave }
 
 came_first : {X A : Type 0} (choose : X → Option A) (x : X) (xs : List X) (a : A) (rest : List A) (o : Option A) → o ≡ choose x → (Contains rest a → Came choose xs a) → Contains (cons_option o rest) a → Came choose (x ∷ xs) a
 came_first choose x xs a rest None e more c = came_later choose x xs a (more c)
-came_first choose x xs a rest (Some b) e more c = elim (in_cases b a rest c) [
-  | inl f ↦ record { item = x; among = head_in x xs; gave = sym e ∙ ap Some f }
+came_first choose x xs a rest (Some b) e more c = elim (Contains-cases b rest a c) [
+  | inl f ↦ record { item = x; among = Contains-here x xs; gave = sym e ∙ ap Some f }
   | inr d ↦ came_later choose x xs a (more d)
 ]
 
 came : {X A : Type 0} (choose : X → Option A) (xs : List X) (a : A) → Contains (filter_map choose xs) a → Came choose xs a
-came choose [] a c = absurd (not_in_none a c)
+came choose [] a c = absurd (Contains-none a c)
 came choose (x ∷ xs) a c = came_first choose x xs a (filter_map choose xs) (choose x) refl (came choose xs a) c
-
-some_same : {A : Type 0} (b a : A) → Some b ≡ Some a → a ≡ b
-some_same b a h = cc
 
 goes_here : {A : Type 0} (o : Option A) (rest : List A) (a : A) → o ≡ Some a → Contains (cons_option o rest) a
 goes_here None rest a h = absurd (cc)
-goes_here {A} (Some b) rest a h = let P : A → Type 0 = λ x. Contains (b ∷ rest) x in subst P (sym (some_same b a h)) (head_in b rest)
+goes_here {A} (Some b) rest a h = let P : A → Type 0 = λ x. Contains (b ∷ rest) x in subst P (same_Some b a h) (Contains-here b rest)
 
 goes_there : {A : Type 0} (o : Option A) (rest : List A) (a : A) → Contains rest a → Contains (cons_option o rest) a
 goes_there None rest a c = c
-goes_there (Some b) rest a c = tail_in b a rest c
+goes_there (Some b) rest a c = Contains-there b rest a c
 
 goes : {X A : Type 0} (choose : X → Option A) (xs : List X) (x : X) (a : A) → Contains xs x → choose x ≡ Some a → Contains (filter_map choose xs) a
-goes choose [] x a c e = absurd (not_in_none x c)
-goes choose (y ∷ ys) x a c e = elim (in_cases y x ys c) [
+goes choose [] x a c e = absurd (Contains-none x c)
+goes choose (y ∷ ys) x a c e = elim (Contains-cases y ys x c) [
   | inl f ↦ goes_here (choose y) (filter_map choose ys) a (ap choose f ∙ e)
   | inr d ↦ goes_there (choose y) (filter_map choose ys) a (goes choose ys x a d e)
 ]
@@ -146,7 +139,7 @@ text_stands values t c = let from = came text_in values t c in let P : Value →
 -- ---- MIN and MAX
 
 none_reduced : {A : Type 0} (f : A → A → A) (xs : List A) (a : A) → reduce f xs ≡ None → Contains xs a → ⊥
-none_reduced f [] a e c = not_in_none a c
+none_reduced f [] a e c = Contains-none a c
 none_reduced f (x ∷ xs) a e c = absurd (cc e)
 
 -- at most, or at least

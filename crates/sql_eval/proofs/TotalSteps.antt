@@ -1,8 +1,9 @@
 -- Steps of the loops over rows.
 use Rattle.std.proofs.Common.{◌≡◌, ℕ, ◌+◌, ◌<◌, ◌≤◌, List, [], ◌∷◌, length, drop, get_or, refl, ap, sym, ◌∙◌, add-one, drop-cons, drop_of_length-le}
+use Rattle.std.proofs.Math.Bool.{or-false, or_assoc}
 use denote.Ref.{Bor}
 use Rattle.desk_values.specs.declared.value.Image.{Image}
-use Rattle.std.specs.Prelude.{Bool, true, false, ◌||◌, Option, None, Some, Result, Ok, Err}
+use Rattle.std.specs.Prelude.{false, Option, None, Some, Result, Ok, Err}
 use Rattle.std.specs.List.{list_any, filter_map, cons_option, reduce}
 use Rattle.std.specs.Result.{result_ok}
 use Rattle.desk_values.specs.declared.value.Value.{Value}
@@ -12,14 +13,6 @@ use Rattle.sql_eval.specs.Faults.{divides, overflows, any_fault, joined, noted, 
 use Rattle.sql_eval.specs.Totals.{looked_at, members, over}
 use Rattle.sql_eval.specs.Inside.ValueRef.{ref_outcome}
 use Rattle.sql_eval.specs.declared.value_ref.ValueRef.{ValueRef}
-
-or_assoc : (a b c : Bool) → ((a || b) || c) ≡ (a || (b || c))
-or_assoc true b c = refl
-or_assoc false b c = refl
-
-or_false : (b : Bool) → (b || false) ≡ b
-or_false true = refl
-or_false false = refl
 
 -- a fault is the same where a value is borrowed
 pub noted_borrowed : (faults : Faults) (outcome : Result ValueRef Fault) → noted faults outcome ≡ noted faults (ref_outcome outcome)
@@ -52,7 +45,7 @@ module _ {A : Type 0} (part : Image → Result A Fault) (rows : List (Bor Image)
 
   joined_none : (faults : Faults) → joined faults (any_fault part []) ≡ faults
   unfolding joined any_fault
-  joined_none faults = rw (or_false faults.divides, or_false faults.overflows) refl
+  joined_none faults = rw (or-false faults.divides, or-false faults.overflows) refl
 
   pub all_noted : (faults : Faults) → length rows ≤ i → joined faults (any_fault part (looked_at (drop i rows))) ≡ any_fault part (looked_at rows) → faults ≡ any_fault part (looked_at rows)
   all_noted faults h before = sym (joined_none faults) ∙ ap (λ (others : List Image). joined faults (any_fault part others)) (sym (no_rows_from rows i h)) ∙ before

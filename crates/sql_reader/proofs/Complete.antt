@@ -18,12 +18,13 @@ use Rattle.sql_tree.specs.declared.tree.Op.TheVariants as op
 use Rattle.sql_tree.specs.declared.tree.Key.{Key}
 use Rattle.sql_reader.specs.Grammar as g
 use Rattle.std.proofs.lemmas.List.{append-nil}
+use Rattle.std.proofs.lemmas.Option.{same_Some}
 use Rattle.desk_values.specs.declared.keyword.Keyword.{Keyword}
 use Rattle.desk_values.specs.Keyword.{same_keyword}
 use Rattle.sql_reader.specs.declared.error.SqlErr.{SqlErr}
 use Rattle.sql_tree.specs.declared.tree.Statement.{Statement}
 use Rattle.sql_reader.specs.Spelling.{Spells, IsStatement, Gives}
-use Rattle.sql_reader.proofs.Options.{bind_then, some_is}
+use Rattle.sql_reader.proofs.Options.{bind_then}
 use Rattle.sql_reader.proofs.Scanning.{scan_sound, scan_complete}
 use Rattle.sql_reader.proofs.Sound.{statement_sound}
 
@@ -410,10 +411,6 @@ dot_none (token.Sign sign.Dot ∷ us) rest h e = absurd cc
 dot_none (token.Sign s ∷ us) rest h e = refl
 dot_none (other ∷ us) rest h e = refl
 
-name_no_draw : (n : List ℕ) (after : List Token) → after_sign sign.Dot after ≡ None → draw_at (token.Name n ∷ after) ≡ None
-unfolding draw_at name_at
-name_no_draw n after e = rw e refl
-
 no_draw_at : (t : Token) (us rest : List Token) → list_all not_dot (t ∷ us) ≡ true → after_sign sign.Dot rest ≡ None → draw_at ((t ∷ us) ++ rest) ≡ None
 unfolding draw_at name_at
 no_draw_at (token.Name n) us rest h e = rw (dot_none us rest h e) refl
@@ -700,7 +697,7 @@ read_complete bytes s h = rw (scan_complete bytes h.0 h.1) (statement_complete h
 
 -- a bytes spells one statement
 pub spells_one : (bytes : List ℕ) (a b : Plan Name) → Spells bytes a → Spells bytes b → a ≡ b
-spells_one bytes a b p q = some_is a b (sym (read_complete bytes a p) ∙ read_complete bytes b q)
+spells_one bytes a b p q = same_Some a b (sym (read_complete bytes a p) ∙ read_complete bytes b q)
 
 pub ok_spells : (bytes : List ℕ) (r : Result (Statement (List ℕ)) SqlErr) → Gives plan_of r (statement_of bytes) → IfOk r (λ s. Spells bytes (plan_of s))
 ok_spells bytes (Ok s) h = read_sound bytes (plan_of s) h

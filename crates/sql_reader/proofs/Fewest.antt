@@ -9,7 +9,7 @@ use Rattle.sql_reader.specs.declared.token.Sign.TheVariants as sign
 use Rattle.sql_reader.specs.declared.token.Token.{Token}
 use Rattle.sql_reader.specs.declared.token.Token.TheVariants as token
 use Rattle.sql_tree.specs.Plain.{Term, null, int, text, bind, column, rowid, neg, not, bin, is_null, not_null, Name, Total, Entry, Change, Asked, Plan}
-use Rattle.sql_reader.specs.Grammar.{looseness, right_of, line_of, operator_token, Reads, conjunction, or_, negation, and_, comparison, not_, sum_, compare_, is_null_, not_null_, product, add_, factor, multiply_, primary, minus_, number, string, null_, bind_, name, rowid_, parentheses, IsExpression, left_of, Joined, IsList, IsName, IsKey, IsAggregate, IsInput, IsSetting, IsWhere, IsOrder, IsForUpdate, IsSelection, IsColumns, IsBody, IsStatementOf}
+use Rattle.sql_reader.specs.Grammar.{looseness, right_of, line_of, operator_token, Reads, conjunction, or_, negation, and_, comparison, not_, sum_, compare_, is_null_, not_null_, product, add_, factor, multiply_, primary, minus_, number, string, null_, bind_, name, rowid_, parentheses, IsExpression, left_of, Joined, IsName, IsKey, IsAggregate, IsInput, IsSetting, IsWhere, IsOrder, IsForUpdate, IsSelection, IsColumns, IsBody, IsStatementOf}
 use Rattle.std.specs.Prelude.{nat_lt, if◌then◌else◌}
 use Rattle.std.specs.List.{flat_map}
 use Rattle.std.proofs.lemmas.Bool.{ltb-false, le-ltb}
@@ -17,7 +17,7 @@ use Rattle.sql_tree.specs.declared.tree.Op.TheVariants as op
 use Rattle.sql_tree.specs.declared.tree.Key.{Key}
 use Rattle.sql_reader.specs.Grammar as g
 use Rattle.sql_reader.specs.Written.{part_of, bare_tokens, expression_tokens, whole, joined, called, aggregate_tokens, given_tokens, assignment_tokens, key_tokens, name_tokens, selection_tokens, where_tokens, order_tokens, for_update_tokens, columns_tokens, inputs_tokens, statement_tokens, opening, opened}
-use Rattle.sql_reader.proofs.Rewritten.{at_most}
+use Rattle.sql_reader.proofs.Rewritten.{at_most, further}
 
 opened_both : (ts us : List Token) → opened (ts ++ us) ≡ opened ts + opened us
 opened_both [] us = omega arith
@@ -116,13 +116,9 @@ abbrev Few : {A : Type 0} → (List Token → A → Type 0) → (A → List Toke
 Few {A} Is tokens = (ts : List Token) (x : A) → Is ts x → opened (tokens x) ≤ opened ts
 
 module _ {A : Type 0} (Is : List Token → A → Type 0) (tokens : A → List Token) (few : Few Is tokens) where
-  further_list : {ts : List Token} {xs : List A} → Joined Is ts xs → flat_map (λ y. token.Sign sign.Comma ∷ tokens y) xs ≡ token.Sign sign.Comma ∷ joined tokens xs
-  further_list (g.last r) = refl
-  further_list (g.more r j) = refl
-
   list_few : {ts : List Token} {xs : List A} → Joined Is ts xs → opened (joined tokens xs) ≤ opened ts
   list_few (g.last {ts = ts} {x = x} r) = omega (arith, few ts x r, opened_both (tokens x) [])
-  list_few (g.more {ts = ts} {us = us} {x = x} {xs = xs} r j) = omega (arith, few ts x r, list_few j, opened_both ts (token.Sign sign.Comma ∷ us), opened_both (tokens x) (flat_map (λ y. token.Sign sign.Comma ∷ tokens y) xs), ap opened (further_list j))
+  list_few (g.more {ts = ts} {us = us} {x = x} {xs = xs} r j) = omega (arith, few ts x r, list_few j, opened_both ts (token.Sign sign.Comma ∷ us), opened_both (tokens x) (flat_map (λ y. token.Sign sign.Comma ∷ tokens y) xs), ap opened (further tokens j))
 
 whole_few : Few IsExpression whole
 whole_few ts e r = fewest r

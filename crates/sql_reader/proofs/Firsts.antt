@@ -2,6 +2,7 @@
 use Rattle.std.proofs.Common.{◌≡◌, ℕ, ◌<◌, Bool, true, false, eqb, List, [], ◌∷◌, get_or, Option, Some, None, refl, sym, ap, subst, ◌∙◌, arith, eq-eqb}
 use Rattle.std.proofs.lemmas.Bool.{eqb-true}
 use Rattle.std.proofs.lemmas.Bool.Decides.{nat_tests}
+use Rattle.std.proofs.lemmas.Option.{cond_some, same_Some}
 use Rattle.sql_tree.specs.declared.tree.Op.{Op}
 use Rattle.sql_tree.specs.declared.tree.Op.TheVariants as op
 use Rattle.sql_reader.specs.declared.part.Part.{Part}
@@ -18,7 +19,7 @@ use Rattle.sql_reader.specs.Grammar.{looseness, line_of, operator_token}
 use Rattle.desk_values.specs.Keyword.{all_keywords}
 use Rattle.desk_values.specs.Reading.{◌>>=◌}
 use Rattle.sql_reader.specs.Reading.{after_word, after_sign, operator_of, operator_among, operator_at}
-use Rattle.sql_reader.proofs.Options.{bind_then, guard_some, some_is, nothing_is}
+use Rattle.sql_reader.proofs.Options.{bind_then, nothing_is}
 
 keyword_back : (k : Keyword) → get_or all_keywords (keyword_number k) word.And ≡ k
 keyword_back word.And = refl
@@ -50,7 +51,7 @@ same_part a b h = sym (part_back a) ∙ ap (λ (n : ℕ). get_or every_part n Pr
 pub after_word_is : (k : Keyword) (ts rest : List Token) → after_word k ts ≡ Some rest → ts ≡ token.Word k ∷ rest
 unfolding after_word
 after_word_is k (token.Word found ∷ more) rest e =
-    let g = guard_some (same_keyword found k) more rest e in
+    let g = cond_some (same_keyword found k) more rest e in
     ap (λ (w : Keyword). token.Word w ∷ more) (same_keyword_is found k g.0) ∙ ap (λ (r : List Token). token.Word k ∷ r) g.1
 after_word_is k other rest e = nothing_is rest e
 
@@ -61,7 +62,7 @@ after_word_self k rest = rw (eq-eqb (keyword_number k) (keyword_number k) refl) 
 pub after_sign_is : (s : Sign) (ts rest : List Token) → after_sign s ts ≡ Some rest → ts ≡ token.Sign s ∷ rest
 unfolding after_sign
 after_sign_is s (token.Sign found ∷ more) rest e =
-    let g = guard_some (same_sign found s) more rest e in
+    let g = cond_some (same_sign found s) more rest e in
     ap (λ (w : Sign). token.Sign w ∷ more) (same_sign_is found s g.0) ∙ ap (λ (r : List Token). token.Sign s ∷ r) g.1
 after_sign_is s other rest e = nothing_is rest e
 
@@ -70,21 +71,21 @@ unfolding after_sign
 after_sign_self s rest = rw (eq-eqb (sign_number s) (sign_number s) refl) refl
 
 keyword_operator_is : (k : Keyword) (o : Op) → keyword_operator k ≡ Some o → token.Word k ≡ operator_token o
-keyword_operator_is word.And o e = ap operator_token (some_is op.And o e)
-keyword_operator_is word.Or o e = ap operator_token (some_is op.Or o e)
+keyword_operator_is word.And o e = ap operator_token (same_Some op.And o e)
+keyword_operator_is word.Or o e = ap operator_token (same_Some op.Or o e)
 keyword_operator_is other o e = nothing_is o e
 
 sign_operator_is : (s : Sign) (o : Op) → sign_operator s ≡ Some o → token.Sign s ≡ operator_token o
-sign_operator_is sign.Equal o e = ap operator_token (some_is op.Eq o e)
-sign_operator_is sign.NotEqual o e = ap operator_token (some_is op.Ne o e)
-sign_operator_is sign.Less o e = ap operator_token (some_is op.Lt o e)
-sign_operator_is sign.LessOrEqual o e = ap operator_token (some_is op.Le o e)
-sign_operator_is sign.Greater o e = ap operator_token (some_is op.Gt o e)
-sign_operator_is sign.GreaterOrEqual o e = ap operator_token (some_is op.Ge o e)
-sign_operator_is sign.Plus o e = ap operator_token (some_is op.Add o e)
-sign_operator_is sign.Minus o e = ap operator_token (some_is op.Sub o e)
-sign_operator_is sign.Star o e = ap operator_token (some_is op.Mul o e)
-sign_operator_is sign.Slash o e = ap operator_token (some_is op.Div o e)
+sign_operator_is sign.Equal o e = ap operator_token (same_Some op.Eq o e)
+sign_operator_is sign.NotEqual o e = ap operator_token (same_Some op.Ne o e)
+sign_operator_is sign.Less o e = ap operator_token (same_Some op.Lt o e)
+sign_operator_is sign.LessOrEqual o e = ap operator_token (same_Some op.Le o e)
+sign_operator_is sign.Greater o e = ap operator_token (same_Some op.Gt o e)
+sign_operator_is sign.GreaterOrEqual o e = ap operator_token (same_Some op.Ge o e)
+sign_operator_is sign.Plus o e = ap operator_token (same_Some op.Add o e)
+sign_operator_is sign.Minus o e = ap operator_token (same_Some op.Sub o e)
+sign_operator_is sign.Star o e = ap operator_token (same_Some op.Mul o e)
+sign_operator_is sign.Slash o e = ap operator_token (same_Some op.Div o e)
 sign_operator_is other o e = nothing_is o e
 
 operator_of_is : (t : Token) (o : Op) → operator_of t ≡ Some o → t ≡ operator_token o
@@ -102,7 +103,7 @@ unfolding operator_at
 operator_sound p [] o rest e = nothing_is (o, rest) e
 operator_sound p (t ∷ more) o rest e =
     bind_then (operator_of t) (λ x. operator_among p x more) (o, rest) e (λ x ex e1.
-    let g = guard_some {A = Op × List Token} (eqb (looseness (line_of x)) (looseness p)) (x, more) (o, rest) e1 in
+    let g = cond_some {A = Op × List Token} (eqb (looseness (line_of x)) (looseness p)) (x, more) (o, rest) e1 in
     subst (λ (q : Op × List Token). IsOperator p q.0 (t ∷ more) q.1) g.1 (record { line = same_part (line_of x) p (eqb-true _ _ g.0); is = ap (λ (u : Token). u ∷ more) (operator_of_is t x ex) }))
 
 operator_again : (o : Op) → operator_of (operator_token o) ≡ Some o

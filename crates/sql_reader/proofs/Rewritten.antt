@@ -18,7 +18,7 @@ use Rattle.sql_reader.specs.declared.token.Token.{Token}
 use Rattle.sql_reader.specs.declared.token.Token.TheVariants as token
 use Rattle.desk_values.specs.Keyword.{keyword_word}
 use Rattle.sql_reader.specs.Lexical as l
-use Rattle.sql_reader.specs.Lexical.{is_space, is_part, is_word, is_numeral, folded, lengthens, goes_on, EndsBefore, Lexeme, Tokens, mark}
+use Rattle.sql_reader.specs.Lexical.{is_part, is_word, is_numeral, folded, lengthens, EndsBefore, Lexeme, Tokens, mark}
 use Rattle.sql_reader.specs.Written.{token_text, part_of, bare_tokens, expression_tokens, whole, joined, first_word, further_tokens, written, called, aggregate_tokens, given_tokens, assignment_tokens, key_tokens, name_tokens, selection_tokens, where_tokens, order_tokens, for_update_tokens, columns_tokens, inputs_tokens, statement_tokens}
 use Rattle.sql_reader.specs.Inside.{spaced, spaced_all}
 use Rattle.sql_reader.proofs.Scanning.{length_folded}
@@ -31,6 +31,7 @@ use Rattle.sql_reader.specs.Words.{sign_text}
 use Rattle.sql_reader.proofs.Firsts.{same_part}
 use Rattle.std.proofs.lemmas.List.{append-nil}
 use Rattle.std.proofs.lemmas.List.Folds.{flat_map-map}
+use Rattle.std.proofs.lemmas.Str.Ascii.{lowercase-lowercase}
 use Rattle.sql_tree.specs.declared.tree.Key.{Key}
 use Rattle.sql_reader.specs.Grammar as g
 use Rattle.sql_reader.specs.Spelling.{Spells, IsStatement}
@@ -67,12 +68,9 @@ word_text : (k : Keyword) → Lexeme (token_text (token.Word k)) (token.Word k)
 word_text word.And = l.word refl refl
 word_text other = l.word refl refl
 
-lower_twice : (b : ℕ) → to_ascii_lowercase (to_ascii_lowercase b) ≡ to_ascii_lowercase b
-lower_twice b = grind (arith, nat_tests)
-
 folded_twice : (bytes : List ℕ) → folded (folded bytes) ≡ folded bytes
 folded_twice [] = refl
-folded_twice (b ∷ bytes) = rw (lower_twice b) (ap (λ (x : List ℕ). to_ascii_lowercase b ∷ x) (folded_twice bytes))
+folded_twice (b ∷ bytes) = rw (lowercase-lowercase b) (ap (λ (x : List ℕ). to_ascii_lowercase b ∷ x) (folded_twice bytes))
 
 lower_part : (b : ℕ) → is_part b ≡ true → is_part (to_ascii_lowercase b) ≡ true
 lower_part b h = grind (arith, nat_tests)
@@ -337,19 +335,19 @@ comma_is = (sign_text sign.Comma, mark)
 
 -- ---- lists
 
-module _ {A : Type 0} (Is : List Token → A → Type 0) (tokens : A → List Token) (again : AgainOf Is tokens) where
-  further : {ts : List Token} {xs : List A} → Joined Is ts xs → flat_map (λ y. token.Sign sign.Comma ∷ tokens y) xs ≡ token.Sign sign.Comma ∷ joined tokens xs
-  further (g.last r) = refl
-  further (g.more r j) = refl
+pub further : {A : Type 0} {Is : List Token → A → Type 0} (tokens : A → List Token) {ts : List Token} {xs : List A} → Joined Is ts xs → flat_map (λ y. token.Sign sign.Comma ∷ tokens y) xs ≡ token.Sign sign.Comma ∷ joined tokens xs
+further tokens (g.last r) = refl
+further tokens (g.more r j) = refl
 
+module _ {A : Type 0} (Is : List Token → A → Type 0) (tokens : A → List Token) (again : AgainOf Is tokens) where
   joined_again : {ts : List Token} {xs : List A} → Joined Is ts xs → Joined Is (joined tokens xs) xs
   joined_again (g.last {ts = ts} {x = x} r) = subst (λ (z : List Token). Joined Is z (x ∷ [])) (sym (append-nil (tokens x))) (g.last (again ts x r).reads)
-  joined_again (g.more {ts = ts} {us = us} {x = x} {xs = xs} r j) = subst (λ (z : List Token). Joined Is (tokens x ++ z) (x ∷ xs)) (sym (further j)) (g.more (again ts x r).reads (joined_again j))
+  joined_again (g.more {ts = ts} {us = us} {x = x} {xs = xs} r j) = subst (λ (z : List Token). Joined Is (tokens x ++ z) (x ∷ xs)) (sym (further tokens j)) (g.more (again ts x r).reads (joined_again j))
 
   joined_are : {ts : List Token} {xs : List A} → Joined Is ts xs → AreTokens ts → AreTokens (joined tokens xs)
   joined_are (g.last {ts = ts} {x = x} r) a = are_both (tokens x) [] ((again ts x r).are a) tt
   joined_are (g.more {ts = ts} {us = us} {x = x} {xs = xs} r j) a =
-      are_both (tokens x) (flat_map (λ y. token.Sign sign.Comma ∷ tokens y) xs) ((again ts x r).are (are_left ts (token.Sign sign.Comma ∷ us) a)) (subst AreTokens (sym (further j)) (comma_is, joined_are j (are_right ts (token.Sign sign.Comma ∷ us) a).1))
+      are_both (tokens x) (flat_map (λ y. token.Sign sign.Comma ∷ tokens y) xs) ((again ts x r).are (are_left ts (token.Sign sign.Comma ∷ us) a)) (subst AreTokens (sym (further tokens j)) (comma_is, joined_are j (are_right ts (token.Sign sign.Comma ∷ us) a).1))
 
   list_again : (ts : List Token) (xs : List A) → IsList Is ts xs → Again (IsList Is) (joined tokens) ts xs
   list_again ts xs l = record { reads = (joined_again l.0, l.1); are = joined_are l.0 }

@@ -2,8 +2,8 @@
 use Rattle.std.proofs.Common.{◌≡◌, ℕ, ◌<◌, ◌≤◌, Bool, true, false, List, length, Some, None, refl, arith, suc, [], ◌∷◌, ◌++◌, take, drop, ap, ◌∙◌, inl, inr, ◌≢◌, ◌+◌, ◌-◌, ◌*◌, ◌/◌, ◌%◌, ◌^◌, cond, ◌&&◌, Option, sym, lit<, zero, subst, append_assoc, length-append, lit≤}
 use Rattle.std.specs.Prelude.{nat_le, ◌&&◌, nat_lt, ◌==◌, codes, ℤ, pos}
 use Rattle.std.specs.Str.{IsUtf8, bytes_eq, IsAscii}
-use Rattle.std.proofs.lemmas.Bool.{and_parts, leb-true, and_from, ltb-true, lt-ltb, le-leb, eqb-true, cases_lt, ltb-false, le-ltb}
-use Rattle.sql_reader.proofs.Options.{guard_some, either_way, find_passes, some, some_is, bind_some, chosen, pair_is, nothing_is, or_none, bind_then}
+use Rattle.std.proofs.lemmas.Bool.{and_parts, leb-true, and_from, ltb-true, lt-ltb, le-leb, eqb-true, cases_lt, ltb-false, le-ltb, cases_Bool, or_parts}
+use Rattle.sql_reader.proofs.Options.{some, nothing_is, bind_then}
 use Rattle.std.proofs.lemmas.Bool.Decides.{nat_tests}
 use Rattle.std.proofs.lemmas.Str.{IsUtf8-from_ascii}
 use Rattle.desk_values.specs.declared.text.TxtErr.{TxtErr}
@@ -23,12 +23,15 @@ use Rattle.desk_values.specs.declared.keyword.Keyword.{Keyword}
 use Rattle.desk_values.specs.Word.{member_with_word}
 use Rattle.desk_values.specs.Keyword.{keyword_word, all_keywords, keywords_have_own_words}
 use Rattle.std.proofs.lemmas.List.{take-append-drop}
+use Rattle.std.proofs.lemmas.Option.{cond_some, same_Some, some_pair_parts}
 use Rattle.sql_reader.specs.declared.token.Sign.{Sign}
 use Rattle.sql_reader.specs.declared.token.Sign.TheVariants as sign
 use Rattle.sql_reader.specs.declared.token.Token.{Token}
 use Rattle.sql_reader.specs.declared.token.Token.TheVariants as token
 use Rattle.sql_reader.specs.Words.{sign_text}
 use Rattle.desk_values.proofs.Escapes.{txt_in_again, txt_in_none, txt_in_taken}
+use Rattle.desk_values.proofs.Options.{bind_some, when_some, chosen}
+use Rattle.desk_values.proofs.Words.{find_passes}
 use Rattle.sql_reader.proofs.Loops.{Fails, content_next}
 
 -- ---- Which bytes are a text of the desk.
@@ -71,7 +74,7 @@ behind_none byte bytes h = ap (λ (n : ℕ). drop n (byte ∷ bytes)) (none_more
 pub run_sound : (bytes : List ℕ) → IsRun bytes (run_of bytes) (behind_run bytes)
 run_sound [] = record { parts = refl; all = refl; stops = tt }
 run_sound (byte ∷ bytes) =
-    elim (either_way (is_part byte)) [
+    elim (cases_Bool (is_part byte)) [
       | inl h ↦ rw (run_more byte bytes h, behind_more byte bytes h) (longer byte bytes h (run_sound bytes))
       | inr h ↦ rw (run_none byte bytes h, behind_none byte bytes h) (record { parts = refl; all = refl; stops = h })
     ]
@@ -112,16 +115,12 @@ value_step : (n c : ℕ) (cs : List ℕ) → is_ascii_digit c ≡ true → digit
 value_step n c cs h = ap (λ (d : ℕ). digits_value_after 10 (n * 10 + d) cs) (digit_is c h)
 
 pub value_sound : (n : ℕ) (run : List ℕ) (m : ℕ) → n < 2 ^ 63 → value_after n run ≡ Some m → (list_all is_ascii_digit run ≡ true) × (digits_value_after 10 n run ≡ m) × (m < 2 ^ 63)
-value_sound n [] m small e = let same : n ≡ m = some_is n m e in (refl, same, rw (sym same) small)
+value_sound n [] m small e = let same : n ≡ m = same_Some n m e in (refl, same, rw (sym same) small)
 value_sound n (c ∷ cs) m small e =
-    let g = kept (is_ascii_digit c && nat_lt (n * 10 + (c - 48)) (2 ^ 63)) (value_after (n * 10 + (c - 48)) cs) m e in
+    let g = when_some (is_ascii_digit c && nat_lt (n * 10 + (c - 48)) (2 ^ 63)) (value_after (n * 10 + (c - 48)) cs) m e in
     let t = and_parts (is_ascii_digit c) (nat_lt (n * 10 + (c - 48)) (2 ^ 63)) g.0 in
     let r = value_sound (n * 10 + (c - 48)) cs m (ltb-true _ _ t.1) g.1 in
     (and_from _ _ t.0 r.0, value_step n c cs t.0 ∙ r.1, r.2)
-  where
-    kept : (b : Bool) (o : Option ℕ) (m : ℕ) → cond b o None ≡ Some m → (b ≡ true) × (o ≡ Some m)
-    kept true o m e = (refl, e)
-    kept false o m e = absurd cc
 
 value_grows : (n : ℕ) (run : List ℕ) → n ≤ digits_value_after 10 n run
 value_grows n [] = omega arith
@@ -146,12 +145,12 @@ pub bind_sound : (run : List ℕ) (n : ℕ) → bind_number run ≡ Some n → (
 unfolding bind_number
 bind_sound [] n e = absurd cc
 bind_sound (a ∷ []) n e =
-    let g = guard_some (nat_le 49 a && nat_le a 57) (a - 48) n e in
+    let g = cond_some (nat_le 49 a && nat_le a 57) (a - 48) n e in
     let range : (49 ≤ a) × (a ≤ 57) = between 49 57 a g.0 in
     let back : 48 + n ≡ a = omega (arith, g.1) in
     (omega (arith, g.1), omega (arith, g.1), rw (decimal_digit n (omega (arith, g.1)), back) refl)
 bind_sound (a ∷ b ∷ []) n e =
-    let g = guard_some (a == 49 && nat_le 48 b && nat_le b 54) (b - 38) n e in
+    let g = cond_some (a == 49 && nat_le 48 b && nat_le b 54) (b - 38) n e in
     let t = and_parts (a == 49 && nat_le 48 b) (nat_le b 54) g.0 in
     let u = and_parts (a == 49) (nat_le 48 b) t.0 in
     let ten : a ≡ 49 = eqb-true _ _ u.0 in
@@ -197,9 +196,6 @@ pub record IsContent (bytes content rest : List ℕ) : Type 0 where
   pub parts : bytes ≡ flat_map quoted content ++ 39 ∷ rest
   pub stops : NoQuote rest
 
-quoted_quote : quoted 39 ≡ 39 ∷ 39 ∷ []
-quoted_quote = refl
-
 quoted_other : (a : ℕ) → (a == 39) ≡ false → quoted a ≡ a ∷ []
 quoted_other a h = rw h refl
 
@@ -215,7 +211,7 @@ ended rest h = record { parts = refl; stops = h }
 kept_is : (byte : ℕ) (read : Option (List ℕ × List ℕ)) (content rest : List ℕ) → keep byte read ≡ Some (content, rest) → (inner : List ℕ) × (read ≡ Some (inner, rest)) × (byte ∷ inner ≡ content)
 kept_is byte read content rest e =
     let b = bind_some read (λ x. Some (byte ∷ x.0, x.1)) (content, rest) e in
-    let p = pair_is (byte ∷ b.0.0) content b.0.1 rest b.2 in
+    let p = some_pair_parts (byte ∷ b.0.0) content b.0.1 rest b.2 in
     (b.0.0, b.1 ∙ ap (λ (r : List ℕ). Some (b.0.0, r)) p.1, p.0)
 
 sound : (n : ℕ) (bytes content rest : List ℕ) → length bytes ≤ n → content_at bytes ≡ Some (content, rest) → IsContent bytes content rest
@@ -223,7 +219,7 @@ unfolding content_at
 sound n [] content rest le e = nothing_is (content, rest) e
 sound n (a ∷ []) content rest le e =
     elim (chosen (a == 39) (Some ([], [])) None (Some (content, rest)) e) [
-      | inl h ↦ (let q : a ≡ 39 = eqb-true _ _ h.0 in let p = pair_is [] content [] rest h.1 in rw (q, ← p.0, ← p.1) (ended [] tt))
+      | inl h ↦ (let q : a ≡ 39 = eqb-true _ _ h.0 in let p = some_pair_parts [] content [] rest h.1 in rw (q, ← p.0, ← p.1) (ended [] tt))
       | inr h ↦ nothing_is (content, rest) h.1
     ]
 sound zero (a ∷ b ∷ bytes) content rest le e = absurd (omega arith)
@@ -231,7 +227,7 @@ sound (suc n) (a ∷ b ∷ bytes) content rest le e =
     elim (chosen (a == 39) (cond (b == 39) (keep 39 (content_at bytes)) (Some ([], b ∷ bytes))) (keep a (content_at (b ∷ bytes))) (Some (content, rest)) e) [
       | inl h ↦ elim (chosen (b == 39) (keep 39 (content_at bytes)) (Some ([], b ∷ bytes)) (Some (content, rest)) h.1) [
         | inl g ↦ (let q : a ≡ 39 = eqb-true _ _ h.0 in let r : b ≡ 39 = eqb-true _ _ g.0 in let k = kept_is 39 (content_at bytes) content rest g.1 in rw (q, r, ← k.2) (kept_quote bytes k.0 rest (sound n bytes k.0 rest (omega arith) k.1)))
-        | inr g ↦ (let q : a ≡ 39 = eqb-true _ _ h.0 in let p = pair_is [] content (b ∷ bytes) rest g.1 in rw (q, ← p.0, ← p.1) (ended (b ∷ bytes) g.0))
+        | inr g ↦ (let q : a ≡ 39 = eqb-true _ _ h.0 in let p = some_pair_parts [] content (b ∷ bytes) rest g.1 in rw (q, ← p.0, ← p.1) (ended (b ∷ bytes) g.0))
       ]
       | inr h ↦ (let k = kept_is a (content_at (b ∷ bytes)) content rest h.1 in rw (← k.2) (kept_other a (b ∷ bytes) k.0 rest h.0 (sound n (b ∷ bytes) k.0 rest (omega arith) k.1)))
     ]
@@ -251,7 +247,7 @@ content_twice_at bytes = refl
 pub content_complete : (content rest : List ℕ) → NoQuote rest → content_at (flat_map quoted content ++ 39 ∷ rest) ≡ Some (content, rest)
 content_complete [] rest h = content_closes rest h
 content_complete (a ∷ content) rest h =
-    elim (either_way (a == 39)) [
+    elim (cases_Bool (a == 39)) [
       | inl e ↦ (let q : a ≡ 39 = eqb-true _ _ e in rw q (content_twice_at (flat_map quoted content ++ 39 ∷ rest) ∙ ap (λ (r : Option (List ℕ × List ℕ)). keep 39 r) (content_complete content rest h)))
       | inr e ↦ (ap (λ (q : List ℕ). content_at ((q ++ flat_map quoted content) ++ 39 ∷ rest)) (quoted_other a e) ∙ content_next a (flat_map quoted content ++ 39 ∷ rest) e ∙ ap (λ (r : Option (List ℕ × List ℕ)). keep a r) (content_complete content rest h))
     ]
@@ -279,7 +275,7 @@ ends_free s (byte ∷ rest) h = h byte
 skipped : {X : Type 0} (p : X → Bool) (x : X) (xs : List X) (y : X) → (x ≡ y → ⊥) → find p (x ∷ xs) ≡ Some y → (p x ≡ false) × (find p xs ≡ Some y)
 skipped p x xs y other e =
     elim (chosen (p x) (Some x) (find p xs) (Some y) e) [
-      | inl h ↦ absurd (other (some_is x y h.1))
+      | inl h ↦ absurd (other (same_Some x y h.1))
       | inr h ↦ h
     ]
 
@@ -332,18 +328,18 @@ pub sign_sound : (bytes : List ℕ) (t : Token) (rest : List ℕ) → sign_at by
 unfolding sign_at
 sign_sound bytes t rest e =
     elim (chosen (begins (codes "!=") bytes) (Some (token.Sign sign.NotEqual, drop 2 bytes)) (sign_behind (found_sign bytes) bytes) (Some (t, rest)) e) [
-      | inl h ↦ (let p = pair_is (token.Sign sign.NotEqual) t (drop 2 bytes) rest h.1 in rw (← p.0, ← p.1) (record { text = codes "!="; parts = begins_is (codes "!=") bytes h.0; lexeme = other_not_equal; ends = ends_free sign.NotEqual (drop 2 bytes) (λ b. refl) }))
+      | inl h ↦ (let p = some_pair_parts (token.Sign sign.NotEqual) t (drop 2 bytes) rest h.1 in rw (← p.0, ← p.1) (record { text = codes "!="; parts = begins_is (codes "!=") bytes h.0; lexeme = other_not_equal; ends = ends_free sign.NotEqual (drop 2 bytes) (λ b. refl) }))
       | inr h ↦ behind (found_sign bytes) refl h.1
     ]
   where
     behind : (o : Option Sign) → found_sign bytes ≡ o → sign_behind o bytes ≡ Some (t, rest) → IsFront bytes t rest
     behind None f g = nothing_is (t, rest) g
-    behind (Some s) f g = (let p = pair_is (token.Sign s) t (drop (length (sign_text s)) bytes) rest g in rw (← p.0, ← p.1) (front_sign bytes s f))
+    behind (Some s) f g = (let p = some_pair_parts (token.Sign s) t (drop (length (sign_text s)) bytes) rest g in rw (← p.0, ← p.1) (front_sign bytes s f))
 
 less_again : (rest : List ℕ) → EndsBefore (token.Sign sign.Less) rest → sign_at (60 ∷ rest) ≡ Some (token.Sign sign.Less, rest)
 unfolding sign_at
 less_again [] h = refl
-less_again (byte ∷ rest) h = (let p = or_none (byte == 61) (byte == 62) h in rw (p.0, p.1) refl)
+less_again (byte ∷ rest) h = (let p = or_parts (byte == 61) (byte == 62) h in rw (p.0, p.1) refl)
 
 greater_again : (rest : List ℕ) → EndsBefore (token.Sign sign.Greater) rest → sign_at (62 ∷ rest) ≡ Some (token.Sign sign.Greater, rest)
 unfolding sign_at
@@ -396,12 +392,12 @@ length_folded [] = refl
 length_folded (b ∷ bs) = ap suc (length_folded bs)
 
 front_word : (run : List ℕ) (t : Token) (o : Option Keyword) → keyword_at (folded run) ≡ o → is_word run ≡ true → name_or o (folded run) ≡ Some t → Spelled run t
-front_word run t (Some k) f w e = subst (Spelled run) (some_is (token.Word k) t e) (word w (keyword_sound (folded run) k f), λ b. refl)
+front_word run t (Some k) f w e = subst (Spelled run) (same_Some (token.Word k) t e) (word w (keyword_sound (folded run) k f), λ b. refl)
 front_word run t None f w e =
     let g = not_long (nat_lt 30 (length (folded run))) (txt_in (folded run) >>= λ n. Some (token.Name n)) t e in
     let short : length run ≤ 30 = omega (arith, ltb-false 30 (length (folded run)) g.0, length_folded run) in
     bind_then (txt_in (folded run)) (λ n. Some (token.Name n)) t g.1 (λ n en e1.
-    subst (Spelled run) (ap (λ (x : List ℕ). token.Name x) ((txt_in_taken (folded run) n en).1) ∙ some_is (token.Name n) t e1) (name w (keyword_none (folded run) f) short, λ b. refl))
+    subst (Spelled run) (ap (λ (x : List ℕ). token.Name x) ((txt_in_taken (folded run) n en).1) ∙ same_Some (token.Name n) t e1) (name w (keyword_none (folded run) f) short, λ b. refl))
 
 pub word_sound : (run : List ℕ) (t : Token) → is_word run ≡ true → word_at run ≡ Some t → Spelled run t
 unfolding word_at
@@ -418,7 +414,7 @@ number_sound run t full e =
     bind_then (value_after 0 run) (λ n. Some (pos n)) z ez (λ m em e2.
     let v = value_sound 0 run m (lit< tt) em in
     let low : digits_value 10 run < 2 ^ 63 = rw v.1 v.2 in
-    let same : token.Number (pos (digits_value 10 run)) ≡ t = ap (λ (n : ℕ). token.Number (pos n)) v.1 ∙ ap (λ (n : ℤ). token.Number n) (some_is (pos m) z e2) ∙ some_is (token.Number z) t e1 in
+    let same : token.Number (pos (digits_value 10 run)) ≡ t = ap (λ (n : ℕ). token.Number (pos n)) v.1 ∙ ap (λ (n : ℤ). token.Number n) (same_Some (pos m) z e2) ∙ same_Some (token.Number z) t e1 in
     subst (Spelled run) same (number (numeral run full v.0) low, λ b. refl)))
 
 pub bind_token_sound : (run : List ℕ) (t : Token) → bind_at run ≡ Some t → Spelled (58 ∷ run) t
@@ -426,7 +422,7 @@ unfolding bind_at
 bind_token_sound run t e =
     bind_then (bind_number run) (λ n. Some (token.Bind n)) t e (λ n en e1.
     let v = bind_sound run n en in
-    subst (Spelled (58 ∷ run)) (some_is (token.Bind n) t e1) (subst (λ (r : List ℕ). Spelled (58 ∷ r) (token.Bind n)) (sym v.2) (bind v.0 v.1, λ b. refl)))
+    subst (Spelled (58 ∷ run)) (same_Some (token.Bind n) t e1) (subst (λ (r : List ℕ). Spelled (58 ∷ r) (token.Bind n)) (sym v.2) (bind v.0 v.1, λ b. refl)))
 
 pub string_sound : (bytes : List ℕ) (t : Token) (rest : List ℕ) → string_at bytes ≡ Some (t, rest) → IsFront (39 ∷ bytes) t rest
 unfolding string_at
@@ -437,7 +433,7 @@ string_sound bytes t rest e =
     let taken = txt_in_taken x.0 text et in
     let same = taken.1 in
     let parts : 39 ∷ bytes ≡ (39 ∷ (flat_map quoted text ++ 39 ∷ [])) ++ x.1 = ap (λ (bs : List ℕ). 39 ∷ bs) (k.parts ∙ ap (λ (c : List ℕ). flat_map quoted c ++ 39 ∷ x.1) same ∙ sym (append_assoc (flat_map quoted text) (39 ∷ []) x.1)) in
-    subst (λ (q : Token × List ℕ). IsFront (39 ∷ bytes) q.0 q.1) (some_is {A = Token × List ℕ} (token.Text text, x.1) (t, rest) e2) (record { text = 39 ∷ (flat_map quoted text ++ 39 ∷ []); parts = parts; lexeme = string (subst IsTxt same taken.0); ends = ends_quote text x.1 k.stops })))
+    subst (λ (q : Token × List ℕ). IsFront (39 ∷ bytes) q.0 q.1) (same_Some {A = Token × List ℕ} (token.Text text, x.1) (t, rest) e2) (record { text = 39 ∷ (flat_map quoted text ++ 39 ∷ []); parts = parts; lexeme = string (subst IsTxt same taken.0); ends = ends_quote text x.1 k.stops })))
 
 -- a run of parts at the front
 front_run : (bytes run rest : List ℕ) (t : Token) → IsRun bytes run rest → Spelled run t → IsFront bytes t rest
@@ -446,7 +442,7 @@ front_run bytes run rest t r s = record { text = run; parts = r.parts; lexeme = 
 with_rest_is : {G : Type 0} (o : Option Token) (after : List ℕ) (t : Token) (rest : List ℕ) → with_rest o after ≡ Some (t, rest) → (o ≡ Some t → after ≡ rest → G) → G
 with_rest_is o after t rest e go =
     bind_then o (λ x. Some (x, after)) (t, rest) e (λ x ex e1.
-    let p = pair_is x t after rest e1 in
+    let p = some_pair_parts x t after rest e1 in
     go (ex ∙ ap (λ (y : Token). Some y) p.0) p.1)
 
 alphabetic_part : (b : ℕ) → is_ascii_alphabetic b ≡ true → is_part b ≡ true
@@ -459,9 +455,6 @@ digit_part b h = grind (arith, nat_tests)
 pub record BeginsWith (first : ℕ) (run : List ℕ) : Type 0 where
   pub others : List ℕ
   pub is : run ≡ first ∷ others
-
-run_begins : (first : ℕ) (others : List ℕ) → is_part first ≡ true → BeginsWith first (run_of (first ∷ others))
-run_begins first others h = record { others = run_of others; is = run_more first others h }
 
 word_run : (first : ℕ) (others : List ℕ) → is_ascii_alphabetic first ≡ true → is_word (run_of (first ∷ others)) ≡ true
 word_run first others h =
@@ -517,22 +510,22 @@ front_adds bytes t rest f tokens h = subst (λ (bs : List ℕ). Tokens bs (t ∷
 
 step_sound : (bytes : List ℕ) (o : Option Token) (rest : List ℕ) → step_at bytes ≡ Some (o, rest) → Adds bytes o rest
 unfolding step_at
-step_sound [] o rest e = subst (λ (q : Option Token × List ℕ). Adds [] q.0 q.1) (some_is {A = Option Token × List ℕ} (None, []) (o, rest) e) (λ tokens h. h)
+step_sound [] o rest e = subst (λ (q : Option Token × List ℕ). Adds [] q.0 q.1) (same_Some {A = Option Token × List ℕ} (None, []) (o, rest) e) (λ tokens h. h)
 step_sound (first ∷ others) o rest e =
     elim (chosen (is_space first) (Some (None, others)) (token_at first others >>= λ x. Some (Some x.0, x.1)) (Some (o, rest)) e) [
-      | inl h ↦ subst (λ (q : Option Token × List ℕ). Adds (first ∷ others) q.0 q.1) (some_is {A = Option Token × List ℕ} (None, others) (o, rest) h.1) (λ tokens g. space h.0 g)
+      | inl h ↦ subst (λ (q : Option Token × List ℕ). Adds (first ∷ others) q.0 q.1) (same_Some {A = Option Token × List ℕ} (None, others) (o, rest) h.1) (λ tokens g. space h.0 g)
       | inr h ↦ bind_then (token_at first others) (λ x. Some (Some x.0, x.1)) (o, rest) h.1 (λ x ex e1.
-          subst (λ (q : Option Token × List ℕ). Adds (first ∷ others) q.0 q.1) (some_is {A = Option Token × List ℕ} (Some x.0, x.1) (o, rest) e1) (front_adds (first ∷ others) x.0 x.1 (sound_token first others x.0 x.1 ex)))
+          subst (λ (q : Option Token × List ℕ). Adds (first ∷ others) q.0 q.1) (same_Some {A = Option Token × List ℕ} (Some x.0, x.1) (o, rest) e1) (front_adds (first ∷ others) x.0 x.1 (sound_token first others x.0 x.1 ex)))
     ]
 
 tokens_sound : (n : ℕ) (bytes : List ℕ) (tokens : List Token) → tokens_at n bytes ≡ Some tokens → Tokens bytes tokens
 unfolding tokens_at
-tokens_sound zero [] tokens e = subst (Tokens []) (some_is [] tokens e) end
+tokens_sound zero [] tokens e = subst (Tokens []) (same_Some [] tokens e) end
 tokens_sound zero (first ∷ others) tokens e = nothing_is tokens e
 tokens_sound (suc n) bytes tokens e =
     bind_then (step_at bytes) (λ x. tokens_at n x.1 >>= λ ts. Some (cons_option x.0 ts)) tokens e (λ x ex e1.
     bind_then (tokens_at n x.1) (λ ts. Some (cons_option x.0 ts)) tokens e1 (λ ts et e2.
-    subst (Tokens bytes) (some_is (cons_option x.0 ts) tokens e2) (step_sound bytes x.0 x.1 ex ts (tokens_sound n x.1 ts et))))
+    subst (Tokens bytes) (same_Some (cons_option x.0 ts) tokens e2) (step_sound bytes x.0 x.1 ex ts (tokens_sound n x.1 ts et))))
 
 pub scan_sound : (bytes : List ℕ) (tokens : List Token) → scanned bytes ≡ Some tokens → Tokens bytes tokens
 unfolding scanned

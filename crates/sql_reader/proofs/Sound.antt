@@ -1,6 +1,7 @@
 -- What is read is of the grammar.
 use Rattle.std.proofs.Common.{◌≡◌, ℕ, zero, suc, List, [], ◌∷◌, ◌++◌, length, Option, Some, refl, sym, ap, subst, ◌∙◌, inl, inr, append_assoc, ◌≤◌, true, false, None, arith, cond}
 use Rattle.std.proofs.lemmas.List.{append-nil}
+use Rattle.std.proofs.lemmas.Option.{same_Some}
 use Rattle.sql_tree.specs.declared.tree.Op.{Op}
 use Rattle.sql_reader.specs.declared.part.Part.{Part}
 use Rattle.sql_reader.specs.declared.part.Part.TheVariants.{Disjunction, Conjunction, Negation, Comparison, Sum, Product, Factor, Primary}
@@ -12,11 +13,12 @@ use Rattle.sql_tree.specs.Plain.{Term, null, int, text, bind, column, rowid, neg
 use Rattle.sql_reader.specs.Grammar.{line_of, operator_token, Reads, conjunction, or_, negation, and_, comparison, not_, sum_, compare_, is_null_, not_null_, product, add_, factor, multiply_, primary, minus_, number, string, null_, bind_, name, rowid_, parentheses, IsExpression, Joined, IsList, IsName, IsKey, IsAggregate, IsInput, IsSetting, IsWhere, IsOrder, IsForUpdate, IsSelection, IsColumns, IsBody, IsStatementOf}
 use Rattle.desk_values.specs.Reading.{◌>>=◌}
 use Rattle.sql_reader.specs.Reading.{cases, after_word, after_sign, operator_at, more_at, chain_at, null_test, primary_in, factor_in, product_in, sum_in, compared_in, comparison_in, negation_in, conjunction_in, disjunction_in, part_in, inner_at, part_at, expression_at, list_at, name_at, key_at, enclosed_at, counted_at, made_of, aggregate_at, draw_at, input_at, setting_at, where_at, order_at, for_update_at, from_at, begins_aggregate, aggregates_at, rows_at, listed_at, dual_at, items_at, select_at, columns_at, inputs_at, insert_at, update_at, delete_at, set_at, body_at, without_semicolon, only_if_empty, statement_at}
-use Rattle.sql_reader.proofs.Options.{bind_then, some, some_is, nothing_is, cases_are, chosen}
+use Rattle.sql_reader.proofs.Options.{bind_then, some, nothing_is, cases_are}
 use Rattle.sql_reader.proofs.Firsts.{after_word_is, after_sign_is, operator_sound}
 use Rattle.sql_tree.specs.declared.tree.Key.{Key}
 use Rattle.desk_values.specs.declared.keyword.Keyword.{Keyword}
 use Rattle.sql_reader.specs.Grammar as g
+use Rattle.desk_values.proofs.Options.{chosen}
 
 -- ---- What is read as an expression is one.
 
@@ -37,7 +39,7 @@ pair e rest = (e, rest)
 
 -- the value that was returned
 is_got : {part : Part} {depth : ℕ} {ts : List Token} (a : Term Name) (b : List Token) (e : Term Name) (rest : List Token) → some (pair a b) ≡ some (pair e rest) → Front part depth ts a b → Front part depth ts e rest
-is_got {part} {depth} {ts} a b e rest h f = subst (Got part depth ts) (some_is (pair a b) (pair e rest) h) f
+is_got {part} {depth} {ts} a b e rest h f = subst (Got part depth ts) (same_Some (pair a b) (pair e rest) h) f
 
 -- ---- a line of operators
 
@@ -53,7 +55,7 @@ record Further (line : Part) (depth : ℕ) (before ts : List Token) (e : Term Na
 module _ (line below : Part) (depth : ℕ) (operand : List Token → Option (Term Name × List Token)) (sound : Sound operand below depth) (links : Links line below depth) where
   stops : (before : List Token) (left : Term Name) (ts : List Token) (e : Term Name) (rest : List Token) → Reads line depth before left → some (pair left ts) ≡ some (pair e rest) → Further line depth before ts e rest
   stops before left ts e rest r h =
-      subst (λ (x : Term Name × List Token). Further line depth before ts x.0 x.1) (some_is (pair left ts) (pair e rest) h) (record { taken = []; parts = refl; reads = subst (λ (b : List Token). Reads line depth b left) (sym (append-nil before)) r })
+      subst (λ (x : Term Name × List Token). Further line depth before ts x.0 x.1) (same_Some (pair left ts) (pair e rest) h) (record { taken = []; parts = refl; reads = subst (λ (b : List Token). Reads line depth b left) (sym (append-nil before)) r })
 
   goes_on : (before : List Token) (o : Op) (ts behind : List Token) (right : Term Name) (after : List Token) (e : Term Name) (rest : List Token) → ts ≡ operator_token o ∷ behind → (f : Front below depth behind right after) → Further line depth (before ++ operator_token o ∷ f.taken) after e rest → Further line depth before ts e rest
   goes_on before o ts behind right after e rest is f g = record {
@@ -227,7 +229,7 @@ SoundOf {A} read Is = (ts : List Token) (x : A) (rest : List Token) → read ts 
 
 -- the value that was returned
 pub got : {A : Type 0} {Is : List Token → A → Type 0} {ts : List Token} (a : A) (b : List Token) (x : A) (rest : List Token) → some {A = A × List Token} (a, b) ≡ some {A = A × List Token} (x, rest) → FrontOf Is ts a b → FrontOf Is ts x rest
-got {A} {Is} {ts} a b x rest h f = subst (λ (q : A × List Token). FrontOf Is ts q.0 q.1) (some_is {A = A × List Token} (a, b) (x, rest) h) f
+got {A} {Is} {ts} a b x rest h f = subst (λ (q : A × List Token). FrontOf Is ts q.0 q.1) (same_Some {A = A × List Token} (a, b) (x, rest) h) f
 
 pub whole_sound : SoundOf expression_at IsExpression
 whole_sound ts e rest h = (let f = expression_sound ts e rest h in record { taken = f.taken; parts = f.parts; reads = f.reads })
@@ -250,7 +252,7 @@ seen_as R ts rest x y rule f = record { taken = f.taken; parts = f.parts; reads 
 
 pub name_is : (ts : List Token) (n : List ℕ) (rest : List Token) → name_at ts ≡ Some (n, rest) → ts ≡ token.Name n ∷ rest
 unfolding name_at
-name_is (token.Name m ∷ more) n rest e = ap (λ (q : List ℕ × List Token). token.Name q.0 ∷ q.1) (some_is {A = List ℕ × List Token} (m, more) (n, rest) e)
+name_is (token.Name m ∷ more) n rest e = ap (λ (q : List ℕ × List Token). token.Name q.0 ∷ q.1) (same_Some {A = List ℕ × List Token} (m, more) (n, rest) e)
 name_is other n rest e = nothing_is (n, rest) e
 
 pub name_sound : SoundOf name_at IsName
@@ -272,11 +274,11 @@ module _ {A : Type 0} (read : List Token → Option (A × List Token)) (Is : Lis
       bind_then (read ts) (λ x. cases (after_sign sign.Comma x.1) (Some (x.0 ∷ [], x.1)) (λ more. list_at read n more >>= λ ys. Some (x.0 ∷ ys.0, ys.1))) (xs, rest) h (λ x ex e1.
       let f = sound ts x.0 x.1 ex in
       elim (cases_are (after_sign sign.Comma x.1) (Some (x.0 ∷ [], x.1)) (λ more. list_at read n more >>= λ ys. Some (x.0 ∷ ys.0, ys.1)) (Some (xs, rest)) e1) [
-        | inl k ↦ subst (λ (q : List A × List Token). FrontList Is (suc n) ts q.0 q.1) (some_is {A = List A × List Token} (x.0 ∷ [], x.1) (xs, rest) k.1) (record { taken = f.taken; parts = f.parts; joined = g.last f.reads; short = omega arith })
+        | inl k ↦ subst (λ (q : List A × List Token). FrontList Is (suc n) ts q.0 q.1) (same_Some {A = List A × List Token} (x.0 ∷ [], x.1) (xs, rest) k.1) (record { taken = f.taken; parts = f.parts; joined = g.last f.reads; short = omega arith })
         | inr k ↦ bind_then (list_at read n k.0) (λ ys. Some (x.0 ∷ ys.0, ys.1)) (xs, rest) k.2 (λ ys ey e2.
             let r = members_sound n k.0 ys.0 ys.1 ey in
             let comma = after_sign_is sign.Comma x.1 k.0 k.1 in
-            subst (λ (q : List A × List Token). FrontList Is (suc n) ts q.0 q.1) (some_is {A = List A × List Token} (x.0 ∷ ys.0, ys.1) (xs, rest) e2) (record {
+            subst (λ (q : List A × List Token). FrontList Is (suc n) ts q.0 q.1) (same_Some {A = List A × List Token} (x.0 ∷ ys.0, ys.1) (xs, rest) e2) (record {
               taken = f.taken ++ token.Sign sign.Comma ∷ r.taken;
               parts = f.parts ∙ ap (λ (z : List Token). f.taken ++ z) (comma ∙ ap (λ (z : List Token). token.Sign sign.Comma ∷ z) r.parts) ∙ sym (append_assoc f.taken (token.Sign sign.Comma ∷ r.taken) ys.1);
               joined = g.more f.reads r.joined;
@@ -350,7 +352,7 @@ draw_is ts n rest h =
     bind_then (name_at ts) (λ x. after_sign sign.Dot x.1 >>= λ a. after_word word.Nextval a >>= λ q. Some (x.0, q)) (n, rest) h (λ x ex e1.
     bind_then (after_sign sign.Dot x.1) (λ a. after_word word.Nextval a >>= λ q. Some (x.0, q)) (n, rest) e1 (λ a ea e2.
     bind_then (after_word word.Nextval a) (λ q. Some (x.0, q)) (n, rest) e2 (λ q eq e3.
-    subst (λ (z : List ℕ × List Token). ts ≡ token.Name z.0 ∷ token.Sign sign.Dot ∷ token.Word word.Nextval ∷ z.1) (some_is {A = List ℕ × List Token} (x.0, q) (n, rest) e3)
+    subst (λ (z : List ℕ × List Token). ts ≡ token.Name z.0 ∷ token.Sign sign.Dot ∷ token.Word word.Nextval ∷ z.1) (same_Some {A = List ℕ × List Token} (x.0, q) (n, rest) e3)
     (name_is ts x.0 x.1 ex ∙ ap (λ (z : List Token). token.Name x.0 ∷ z) (after_sign_is sign.Dot x.1 a ea ∙ ap (λ (z : List Token). token.Sign sign.Dot ∷ z) (after_word_is word.Nextval a q eq))))))
 
 pub input_sound : SoundOf input_at IsInput
@@ -585,7 +587,7 @@ body_sound (token.Word word.Set ∷ ts) s rest h = set_sound ts s rest h
 body_sound other s rest h = nothing_is (s, rest) h
 
 only_empty : (a : Plan Name) (ts : List Token) (s : Plan Name) → only_if_empty a ts ≡ Some s → (ts ≡ []) × (a ≡ s)
-only_empty a [] s e = (refl, some_is a s e)
+only_empty a [] s e = (refl, same_Some a s e)
 only_empty a (t ∷ ts) s e = nothing_is s e
 
 finished : (ts : List Token) (a : Plan Name) (rest : List Token) (s : Plan Name) (o : Option (List Token)) → FrontOf IsBody ts a rest → after_sign sign.Semicolon rest ≡ o → only_if_empty a (cases o rest (λ q. q)) ≡ Some s → IsStatementOf ts s

@@ -1,11 +1,11 @@
 -- What placing and laying changes leave of rows.
-use Rattle.std.proofs.Common.{◌≡◌, ◌<◌, true, false, ltb, eqb, if◌then◌else◌, List, [], ◌∷◌, ◌++◌, refl, sym, subst, arith, ◌⊎◌, inl, inr, ⊎_elim}
+use Rattle.std.proofs.Common.{◌≡◌, ◌<◌, true, false, ltb, eqb, if◌then◌else◌, List, [], ◌∷◌, ◌++◌, refl, arith, ◌⊎◌, inl, inr, ⊎_elim}
 use Rattle.std.specs.List.{AllByRecursion}
 use Rattle.std.proofs.lemmas.Bool.{ltb-true, eqb-true}
 use Rattle.std.proofs.lemmas.Bool.Decides.{nat_tests}
 use Rattle.desk_values.specs.declared.value.Image.{Image}
 use Rattle.machine_model.specs.Rows.{is_there, lay, lay_all, noted, one, placed, shown}
-use Rattle.machine_model.proofs.Members.{each_joined}
+use Rattle.machine_model.proofs.SoundRows.{each_placed}
 
 -- the change goes behind the first row, in its place, or before it
 abbrev pub Places : (Image → List Image) → Image → Image → List Image → Type 0
@@ -22,19 +22,12 @@ places show c y ys = elim (ltb y.row c.row) as (λ b. ltb y.row c.row ≡ b → 
 
 -- what holds of each row and of what a change shows holds of each that is left
 module _ (P : Image → Type 0) where
-  each_placed : (show : Image → List Image) (c : Image) (xs : List Image) → AllByRecursion P (show c) → AllByRecursion P xs → AllByRecursion P (placed show c xs)
-  each_placed show c [] shows h = shows
-  each_placed show c (y ∷ ys) shows h = ⊎_elim
-      (λ below. subst (AllByRecursion P) (sym below.1) (h.0, each_placed show c ys shows h.1))
-      (λ other. ⊎_elim (λ same. subst (AllByRecursion P) (sym same.1) (each_joined P (show c) ys shows h.1)) (λ above. subst (AllByRecursion P) (sym above.1) (each_joined P (show c) (y ∷ ys) shows h)) other)
-      (places show c y ys)
-
   each_shown : (c : Image) → P c → AllByRecursion P (shown c)
   each_shown c h = elim (is_there c) as (λ b. AllByRecursion P (if b then c ∷ [] else [])) [ true ↦ (h, tt) | false ↦ tt ]
 
   pub each_laid : (xs cs : List Image) → AllByRecursion P xs → AllByRecursion P cs → AllByRecursion P (lay xs cs)
   each_laid xs [] h g = h
-  each_laid xs (c ∷ cs) h g = each_laid (placed shown c xs) cs (each_placed shown c xs (each_shown c g.0) h) g.1
+  each_laid xs (c ∷ cs) h g = each_laid (placed shown c xs) cs (each_placed P shown c xs (each_shown c g.0) h) g.1
 
   pub each_laid_all : (xs : List Image) (commits : List (List Image)) → AllByRecursion P xs → AllByRecursion (AllByRecursion P) commits → AllByRecursion P (lay_all xs commits)
   each_laid_all xs [] h g = h
@@ -42,4 +35,4 @@ module _ (P : Image → Type 0) where
 
   pub each_noted : (xs cs : List Image) → AllByRecursion P xs → AllByRecursion P cs → AllByRecursion P (noted xs cs)
   each_noted xs [] h g = h
-  each_noted xs (c ∷ cs) h g = each_noted (placed one c xs) cs (each_placed one c xs (g.0, tt) h) g.1
+  each_noted xs (c ∷ cs) h g = each_noted (placed one c xs) cs (each_placed P one c xs (g.0, tt) h) g.1

@@ -7,7 +7,7 @@ use Rattle.machine_model.specs.declared.effect.Deed.{Deed}
 use Rattle.machine_model.specs.declared.effect.Deed.TheVariants.{Nothing, Connects, Disconnects, Commits, RollsBack, ReadsOnly, Writes}
 use Rattle.machine_model.specs.declared.effect.Decision.{Decision}
 use Rattle.machine_model.specs.declared.seen.Seen.{Seen}
-use Rattle.machine_model.specs.declared.place.Place.{Place}
+use Rattle.machine_model.specs.declared.basis.Basis.{Basis}
 use Rattle.desk_schema.specs.declared.schema.Rights.{Rights}
 use Rattle.sql_tree.specs.Plain.{Plan}
 use Rattle.desk_values.specs.declared.value.Value.{Value}
@@ -25,8 +25,8 @@ abbrev pub view_of_seen : Seen → View
 view_of_seen seen = with_table (plain_view seen.session.now) (seen.others.before.now ++ seen.others.after.now) seen.table (looked_at seen.rows.now)
 
 -- the view of what an INSERT can depend on
-abbrev pub view_of_place : Place → View
-view_of_place place = with_table (plain_view place.session.now) (place.others.before.now ++ place.others.after.now) place.table (rows_seen place.start.now place.commits.now place.session.now place.table)
+abbrev pub view_of_basis : Basis → View
+view_of_basis basis = with_table (plain_view basis.session.now) (basis.others.before.now ++ basis.others.after.now) basis.table (rows_seen basis.start.now basis.commits.now basis.session.now basis.table)
 
 -- ---- what a deed leaves of a session
 

@@ -1,35 +1,31 @@
 -- Where keys stand: what is kept of the committed rows of a table to find a row by its key.
-use Rattle.std.specs.Prelude.{◌≡◌, ℕ, ◌+◌, ◌*◌, ◌^◌, ◌%◌, ◌<◌, Bool, true, false, ◌&&◌, nat_eq, not, if◌then◌else◌, List, [], ◌∷◌, length, slice_index_or, Option, None, Some}
+use Rattle.std.specs.Prelude.{◌≡◌, ℕ, ◌+◌, ◌*◌, ◌^◌, ◌%◌, ◌<◌, Bool, true, false, ◌&&◌, nat_eq, not, List, [], ◌∷◌, length, slice_index_or, Option, None, Some}
 use Rattle.std.specs.Int.{w64, cast_unsigned}
-use Rattle.std.specs.List.{filter, flat_map}
+use Rattle.std.specs.List.{filter}
 use Rattle.std.specs.HashMap.{get}
 use Rattle.desk_values.specs.declared.value.Value.{Value}
 use Rattle.desk_values.specs.declared.value.Value.TheVariants.{Null, Int, Text, Row, Draw}
 use Rattle.desk_values.specs.declared.value.Image.{Image}
 use Rattle.machine_model.specs.declared.index.KeyIndex.{KeyIndex}
-use Rattle.machine_model.specs.declared.place.Place.{Place}
-use Rattle.machine_model.specs.declared.place.Found.{Found}
-use Rattle.machine_model.specs.Inside.Rows.{AreLatest, stocked}
-use Rattle.machine_model.specs.Rows.{IsRising, of_table, row_key, shown}
+use Rattle.machine_model.specs.declared.basis.Basis.{Basis}
+use Rattle.machine_model.specs.declared.basis.Indexed.{Indexed}
+use Rattle.machine_model.specs.declared.index.TheConstants.{EMPTY_PRINT, PRINT_FACTOR}
+use Rattle.machine_model.specs.Inside.Rows.{AreLatest, row_at, stocked}
+use Rattle.machine_model.specs.Rows.{IsRising, of_table, row_key}
 use Rattle.machine_model.specs.Writes.{is_among}
 
--- a number that texts share which are equal
+-- a number that texts share which are equal: the print, byte by byte
 abbrev pub text_print : ℕ → List ℕ → ℕ
 text_print print [] = print
-text_print print (byte ∷ bytes) = text_print ((print * 1099511628211 % 2 ^ 64 + byte) % 2 ^ 64) bytes
+text_print print (byte ∷ bytes) = text_print ((print * PRINT_FACTOR % 2 ^ 64 + byte) % 2 ^ 64) bytes
 
 -- a number that values share which are one key
 abbrev pub print_of : Value → ℕ
 print_of Null = 0
 print_of (Int n) = cast_unsigned w64 n
-print_of (Text text) = text_print 0 text
+print_of (Text text) = text_print EMPTY_PRINT text
 print_of (Row n) = n
 print_of (Draw sequence n) = n
-
--- the row of this number
-abbrev pub row_at : ℕ → List Image → Option Image
-row_at row [] = None
-row_at row (image ∷ images) = if nat_eq image.row row then Some image else row_at row images
 
 -- there is a row, of this table
 abbrev pub is_of_table : ℕ → Option Image → Bool
@@ -41,14 +37,14 @@ abbrev pub has_print : ℕ → Option Image → Bool
 has_print print None = false
 has_print print (Some image) = nat_eq (print_of (row_key image)) print
 
--- a row is found under the print that is another than this one
+-- what is found under the print has it, and is another row than this one
 abbrev pub is_others : ℕ → ℕ → List Image → Option ℕ → Bool
 is_others row print rows None = false
 is_others row print rows (Some other) = not (nat_eq other row) && has_print print (row_at other rows)
 
 -- each of the rows is found by its key, but those that these changes have an image of
 abbrev pub FindsRows : (ℕ → Option ℕ) → List Image → List Image → Type 0
-FindsRows row_under rows changes = (image : Image) → row_at image.row rows ≡ Some image → is_among changes image ≡ false → row_under (print_of (row_key image)) ≡ Some image.row
+FindsRows under rows changes = (image : Image) → row_at image.row rows ≡ Some image → is_among changes image ≡ false → under (print_of (row_key image)) ≡ Some image.row
 
 -- the row that an index has under a print
 abbrev pub row_under : KeyIndex → ℕ → Option ℕ
@@ -63,21 +59,17 @@ abbrev pub AreIndexes : List KeyIndex → List (List Image) → List Image → T
 AreIndexes indexes tables changes = (table : ℕ) (i : KeyIndex) (r : List Image) → table < length indexes → table < length tables → HasRows (slice_index_or indexes table i) (slice_index_or tables table r) (of_table table changes)
 
 -- the rows that stay under changes
-abbrev pub kept : List Image → List Image → List Image
-kept rows changes = filter (λ (image : Image). not (is_among changes image)) rows
-
--- the rows that changes show
-abbrev pub all_shown : List Image → List Image
-all_shown changes = flat_map shown changes
+abbrev pub staying : List Image → List Image → List Image
+staying rows changes = filter (λ (image : Image). not (is_among changes image)) rows
 
 -- what an INSERT can depend on, as a machine keeps it
-pub record IsPlace (place : Place) : Type 0 where
-  pub rising : IsRising place.start.now
-  pub latest : AreLatest place.start.now place.commits.now 0 (stocked place.current.now)
-  pub indexed : AreIndexes place.indexes.now (stocked place.current.now) []
+pub record IsBasis (basis : Basis) : Type 0 where
+  pub rising : IsRising basis.start.now
+  pub latest : AreLatest basis.start.now basis.commits.now 0 (stocked basis.current.now)
+  pub indexed : AreIndexes basis.indexes.now (stocked basis.current.now) []
 
 -- rows that are found by their keys, and changes that rise
-pub record IsFound (found : Found) : Type 0 where
-  pub rows : IsRising found.rows.now
-  pub changes : IsRising found.changes.now
-  pub finds : FindsRows (row_under found.index.now) found.rows.now []
+pub record IsIndexed (indexed : Indexed) : Type 0 where
+  pub rows : IsRising indexed.rows.now
+  pub changes : IsRising indexed.changes.now
+  pub finds : FindsRows (row_under indexed.index.now) indexed.rows.now []

@@ -1,12 +1,21 @@
 -- Rows that are kept by table and current.
-use Rattle.std.specs.Prelude.{ℕ, ◌+◌, ◌<◌, ◌≤◌, length, slice_index_or, nat_lt, List, [], ◌∷◌, map, ◌≡◌}
-use Rattle.std.specs.List.{prefix_len}
+use Rattle.std.specs.Prelude.{ℕ, ◌+◌, ◌<◌, ◌≤◌, length, slice_index_or, nat_eq, nat_lt, if◌then◌else◌, List, [], ◌∷◌, map, ◌≡◌, Option, None, Some}
+use Rattle.std.specs.List.{flat_map, prefix_len}
 use Rattle.desk_values.specs.declared.value.Image.{Image}
-use Rattle.machine_model.specs.Rows.{lay, of_table, lay_all}
+use Rattle.machine_model.specs.Rows.{lay, lay_all, of_table, shown}
 
 -- how many images stand below the row
 abbrev pub place : ℕ → List Image → ℕ
 place row images = prefix_len (λ (image : Image). nat_lt image.row row) images
+
+-- the row of this number
+abbrev pub row_at : ℕ → List Image → Option Image
+row_at row [] = None
+row_at row (image ∷ images) = if nat_eq image.row row then Some image else row_at row images
+
+-- the rows that changes show
+abbrev pub all_shown : List Image → List Image
+all_shown changes = flat_map shown changes
 
 -- the rows of a table, and for how many more there is room
 pub record Stock : Type 0 where

@@ -5,20 +5,15 @@ use Rattle.std.specs.Str.{bytes_eq}
 use Rattle.desk_values.specs.declared.capture.Event.TheVariants.{Start, Answer}
 use Rattle.desk_values.specs.Fields.{cut_at}
 use Rattle.desk_values.specs.Reading.{◌>>=◌, number_of, number_below}
-use Rattle.desk_values.specs.Word.{member_with_word}
 use Rattle.capture_format.specs.Inside.Fields.{two_of}
 use Rattle.capture_format.specs.ReplyReading.{reply_of}
-use Rattle.replay_history.specs.declared.mode.Mode.{Mode}
-use Rattle.replay_history.specs.Mode.{mode_word, all_modes}
+use Rattle.replay_history.specs.Mode.{mode_of}
 use Rattle.replay_report.specs.declared.journal_line.JournalLine.{JournalLine}
 use Rattle.replay_report.specs.declared.journal_line.JournalLine.TheVariants.{Head, Event, End}
 
 -- the version of the format
 unfoldable pub version_of : List ℕ → Option (Unit {0})
 version_of bytes = if bytes_eq bytes (codes "1") then Some tt else None
-
-abbrev pub mode_of : List ℕ → Option Mode
-mode_of bytes = member_with_word mode_word all_modes bytes
 
 -- what a line with this first field says
 unfoldable pub line_behind : List ℕ → List ℕ → Option JournalLine

@@ -11,9 +11,10 @@ use Rattle.replay_history.specs.declared.report.Class.{Class}
 use Rattle.replay_history.specs.declared.report.Line.{Line}
 use Rattle.desk_values.specs.declared.capture.Event.TheVariants.{Start, Answer}
 use Rattle.id_pairs.specs.Pairs.{IdPair}
+use Rattle.replay_job.specs.Runs.{gained}
 use Rattle.divergence.specs.Class.{class_between}
 use Rattle.replay_report.specs.Differences.{captured_reply, fields_of, record_text}
-use Rattle.replay_report.specs.Report.{difference, gained}
+use Rattle.replay_report.specs.Report.{difference}
 
 -- the writer has its defaults and stands between two records
 pub record IsBetween (writer : Writer (Vec ℕ Global)) : Type 0 where

@@ -7,7 +7,7 @@ use Rattle.sql_eval.specs.Totals.{looked_at}
 use Rattle.machine_model.specs.declared.causes.Causes.{Causes}
 use Rattle.machine_model.specs.Inside.Evaluation.{env_of}
 use Rattle.machine_model.specs.Causes.{ranked}
-use Rattle.machine_model.specs.Inside.Parts.{first_causes}
+use Rattle.machine_model.specs.Inside.FirstCauses.{first_causes}
 use Rattle.machine_model.specs.View.{View, is_held}
 use Rattle.machine_model.specs.Found.{Environment, matches, matching, where_faults}
 use Rattle.machine_model.specs.Answer.{delete_causes}

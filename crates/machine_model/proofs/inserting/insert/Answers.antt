@@ -14,7 +14,7 @@ use Rattle.machine_model.specs.Found.{Environment}
 use Rattle.machine_model.specs.View.{View}
 use Rattle.machine_model.specs.Writes.{input_value}
 use Rattle.machine_model.specs.Answer.{done, insert_causes, insert_effect, new_causes, new_row, refused, ruled}
-use Rattle.machine_model.specs.Inside.Decision.{Decides, view_of_place}
+use Rattle.machine_model.specs.Inside.Decision.{Decides, view_of_basis}
 use Rattle.machine_model.proofs.Refusing.{ruled_done, ruled_refused}
 use Rattle.machine_model.proofs.inserting.insert.Goals as goal
 
@@ -30,19 +30,19 @@ module _ (env : Environment) (columns : List Column) (view : View) (draws : List
 pub returns-in-Some : goal.returns-in-Some
 returns-in-Some c =
     let env = env_of c.args.with in
-    let view = view_of_place c.args.place in
+    let view = view_of_basis c.args.basis in
     let entries = map (entry_of {N = ℕ}) c.args.inputs.now in
-    refuses env c.args.columns.now view c.args.draws c.args.place.table entries c.refusal.result
-    c.in_ok-new.new (new_row env c.args.columns.now c.args.draws c.args.row c.args.place.table c.args.named.now entries) c.in_ok-new.faults
+    refuses env c.args.columns.now view c.args.draws c.args.basis.table entries c.refusal.result
+    c.in_ok-new.new (new_row env c.args.columns.now c.args.draws c.args.row c.args.basis.table c.args.named.now entries) c.in_ok-new.faults
     (rw (c.as_slice.ensures, c.as_slice-2.ensures) at c.in_ok-new.ensures.image) (rw (c.as_slice.ensures, c.as_slice-2.ensures) at c.in_ok-new.ensures.faults)
     c.in-Some.fault (sym c.in-Some.is ∙ c.in_ok-fault.ensures) (c.refusal.ensures view)
 
 pub returns-in_ok-effect-in-None : goal.returns-in_ok-effect-in-None
 returns-in_ok-effect-in-None c =
     let env = env_of c.args.with in
-    let view = view_of_place c.args.place in
+    let view = view_of_basis c.args.basis in
     let entries = map (entry_of {N = ℕ}) c.args.inputs.now in
-    inserts env c.args.columns.now view c.args.draws c.args.place.table entries c.done.result
-    c.in_ok-new.new (new_row env c.args.columns.now c.args.draws c.args.row c.args.place.table c.args.named.now entries) c.in_ok-new.faults
+    inserts env c.args.columns.now view c.args.draws c.args.basis.table entries c.done.result
+    c.in_ok-new.new (new_row env c.args.columns.now c.args.draws c.args.row c.args.basis.table c.args.named.now entries) c.in_ok-new.faults
     (rw (c.as_slice.ensures, c.as_slice-2.ensures) at c.in_ok-new.ensures.image) (rw (c.as_slice.ensures, c.as_slice-2.ensures) at c.in_ok-new.ensures.faults)
     c.in_ok-effect-in-None.effect (sym c.in-None.is ∙ c.in_ok-fault.ensures) c.in_ok-effect-in-None.ensures (c.done.ensures view)

@@ -1,5 +1,6 @@
 use Rattle.std.proofs.Common.{◌≡◌, ◌≤◌, [], take, drop}
-use Rattle.capture_verdict.specs.Tests.{bad_number, commits_in, first_refused}
+use Rattle.capture_verdict.specs.Tests.{bad_number, first_refused}
+use Rattle.replay_history.specs.Capture.{commits_in}
 use Rattle.prepare_plan.proofs.recorded.judge_numbers.Given as goal
 
 abbrev pub invariant-loop-call : goal.invariant-loop-call

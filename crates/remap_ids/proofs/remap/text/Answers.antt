@@ -1,13 +1,10 @@
-use Rattle.std.proofs.Common.{◌≡◌, Result, Ok, Err, ap, sym, arith}
+use Rattle.std.proofs.Common.{Err, ap, sym, arith}
 use Rattle.desk_values.specs.declared.text.TxtErr.{TxtErr}
 use Rattle.desk_values.proofs.Escapes.{txt_in_made, txt_in_none}
 use Rattle.remap_ids.proofs.remap.text.Goals as goal
 
-ok_not_err : {T E : Type 0} {x : T} {e : E} → ◌≡◌ {A = Result T E} (Ok x) (Err e) → ⊥
-ok_not_err h = cc
-
 pub returns-in-Ok : goal.returns-in-Ok
-returns-in-Ok c = sym (txt_in_made c.args.bytes.now c.in-Ok.text c.in-Ok.ensures.ok (λ long. ok_not_err (c.in-Ok.ensures.too_long.1 long)) (λ bad. ok_not_err (c.in-Ok.ensures.not_utf8.1 bad)))
+returns-in-Ok c = sym (txt_in_made c.args.bytes.now c.in-Ok.text c.in-Ok.ensures.ok (λ long. cc (c.in-Ok.ensures.too_long.1 long)) (λ bad. cc (c.in-Ok.ensures.not_utf8.1 bad)))
 
 pub returns-in-Err-NotUtf8 : goal.returns-in-Err-NotUtf8
 returns-in-Err-NotUtf8 c = sym (txt_in_none c.args.bytes.now (λ is. (c.in-Err-NotUtf8.ensures.not_utf8.0 (ap (λ (e : TxtErr). Err e) c.in-Err-NotUtf8.field-0-is)).1 is.utf8))

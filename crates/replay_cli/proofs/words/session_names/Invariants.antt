@@ -1,5 +1,5 @@
 use Rattle.std.proofs.Common.{◌≡◌}
-use Rattle.replay_cli.specs.Words.{session_names}
+use Rattle.replay_cli.specs.FileNames.{session_names}
 use Rattle.replay_cli.proofs.words.session_names.Given as goal
 
 abbrev pub invariant-loop-session : goal.invariant-loop-session

@@ -1,8 +1,8 @@
-use Rattle.std.proofs.Common.{◌≡◌, ◌∙◌, ◌++◌, ◌∷◌, [], length, length-append, length-set, get_or, arith, sym, ap, subst}
+use Rattle.std.proofs.Common.{◌≡◌, ◌∙◌, ◌++◌, ◌∷◌, [], length-set, get_or, ap}
 use Rattle.replay_history.specs.Gap.{IsCallAt}
 use Rattle.replay_clock.specs.declared.gap.Gap.{Gap}
 use Rattle.replay_clock.specs.Inside.{gap_after}
-use Rattle.replay_clock.proofs.Pauses.{AreGapsBelow, ends_more, gaps_more}
+use Rattle.replay_clock.proofs.Pauses.{ends_more, gaps_more}
 use Rattle.history_laws.proofs.Items.{item_at}
 use Rattle.replay_clock.proofs.gap.gaps_of.Goals as goal
 
@@ -14,8 +14,7 @@ loop-call-preserved c =
     let at : IsCallAt calls l.call-index call = item_at c.as_slice-call-items.result.now calls l.call-index call c.as_slice-call-items.ensures c.loop-call-test.true c.call-item.is in
     let grown : c.push.new.self ≡ l.gaps ++ gap_after call (get_or l.ended call.session 0) ∷ [] = c.in_ok-push.ensures.ok ∙ ap (λ (gap : Gap). l.gaps ++ gap ∷ []) c.gap_after.ensures in
     record {
-      count = ap length grown ∙ length-append l.gaps (gap_after call (get_or l.ended call.session 0) ∷ []) ∙ omega arith;
+      gaps = grown ∙ gaps_more calls c.requires l.call-index l.ended call l.gaps at l.invariant.ends l.invariant.gaps;
       size = length-set l.ended call.session call.ended ∙ l.invariant.size;
-      each = subst (AreGapsBelow calls c.requires) (sym grown) (gaps_more calls c.requires l.call-index l.ended call l.gaps at l.invariant.count l.invariant.ends l.invariant.each);
       ends = ends_more calls c.requires l.call-index l.ended call at l.invariant.size l.invariant.ends;
     }

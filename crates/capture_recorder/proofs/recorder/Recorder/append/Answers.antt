@@ -49,8 +49,8 @@ first_is c = c.in_ok-copies.ensures.ok.0 ∙ ap (reply_in c.self.inside.engine.s
 state_is : (c : goal.After-self-2-1) → c.step_copies.new.self.state ≡ step c.self.inside.engine.state c.args.session c.args.call.now
 state_is c = c.in_ok-copies.ensures.ok.1 ∙ ap (step c.self.inside.engine.state c.args.session) c.in_ok-call.ensures
 
-numbered_is : (c : goal.After-self-2-1) → c.is_numbered-is_numbered.result ≡ commits (reply_in c.self.inside.engine.state c.args.session c.args.call.now).outcome
-numbered_is c = c.is_numbered-is_numbered.ensures ∙ ap (λ (reply : Reply). commits reply.outcome) (first_is c)
+numbered_is : (c : goal.After-self-2-1) → c.commits-is_numbered.result ≡ commits (reply_in c.self.inside.engine.state c.args.session c.args.call.now).outcome
+numbered_is c = c.commits-is_numbered.ensures ∙ ap (λ (reply : Reply). commits reply.outcome) (first_is c)
 
 grown : (c : goal.After-self-2-1) → c.push.new.self.items ≡ c.self.inside.calls.items ++ captured (before c) c.args.session c.args.call.now c.args.began c.args.ended ∷ []
 grown c =

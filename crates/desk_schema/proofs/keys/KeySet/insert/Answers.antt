@@ -1,15 +1,11 @@
-use Rattle.std.proofs.Common.{◌≡◌, Bool, true, false, not, List, map, refl, sym, ◌∙◌, ap, subst, ℕ}
+use Rattle.std.proofs.Common.{◌≡◌, true, not, List, map, sym, ◌∙◌, ap, subst, ℕ}
 use Rattle.std.specs.BTreeMap.{is_at}
 use Rattle.std.specs.List.{Contains, list_any}
-use Rattle.std.proofs.lemmas.Bool.{false≢true, OnTrue_from, OnFalse_from}
+use Rattle.std.proofs.lemmas.Bool.{false≢true, OnTrue_from, OnFalse_from, not-false}
 use Rattle.desk_values.specs.declared.value.Value.{Value}
 use Rattle.desk_schema.specs.Inside.Keys.{row_key, IsWith}
 use Rattle.desk_schema.proofs.RowKeys.{found_there, there_found, with_key, row_cmp}
 use Rattle.desk_schema.proofs.keys.KeySet.insert.Goals as goal
-
-not_false : (b : Bool) → not b ≡ false → b ≡ true
-not_false true e = refl
-not_false false e = cc
 
 pub returns-clause-added : goal.returns-clause-added
 returns-clause-added c = OnTrue_from c.in_ok-insert.field-0 (¬ Contains c.args.self.now (row_key c.args.key)) (λ added there.
@@ -27,5 +23,5 @@ returns-clause-new c = OnTrue_from c.in_ok-insert.field-0 _ (λ added.
 pub returns-clause-present : goal.returns-clause-present
 returns-clause-present c = OnFalse_from c.in_ok-insert.field-0 _ (λ added.
     let P : List (ℕ × Value) → Type 0 = λ keys. Contains keys (row_key c.args.key) in
-    let found : list_any (is_at (row_cmp c.args.key)) c.self.inside.keys.keys ≡ true = not_false _ (sym c.in_ok-insert.ensures.added ∙ added) in
+    let found : list_any (is_at (row_cmp c.args.key)) c.self.inside.keys.keys ≡ true = not-false _ (sym c.in_ok-insert.ensures.added ∙ added) in
     subst P c.self.view_is (found_there c.args.key c.self.inside.keys.keys found))

@@ -1,6 +1,7 @@
-use Rattle.std.proofs.Common.{◌∙◌, Bool, get_or, ap}
+use Rattle.std.proofs.Common.{◌∙◌, get_or, ap}
 use Rattle.std.specs.Prelude.{if◌then◌else◌}
 use Rattle.replay_history.specs.Gap.{pause_of}
+use Rattle.replay_clock.specs.declared.gap.Gap.{Gap}
 use Rattle.replay_job.specs.Job.{seen}
 use Rattle.history_laws.proofs.Items.{item_there}
 use Rattle.replay_core.proofs.Desks.{gap_at, gap_small, no_gap}
@@ -11,12 +12,13 @@ pause-requires-clause-micros c =
     let a = c.self.inside in
     let is = c.self.invariant in
     let call = item_there a.job.calls.items c.args.k (rw (← c.self.view_is) at c.requires) in
-    gap_small (seen a.job) c.args.k call.0 (get_or c.as_slice.result.now c.args.k no_gap) is.gate.replayable call.1 (gap_at is.gaps c.as_slice.ensures c.args.k call.0 call.1)
+    gap_small (seen a.job) c.args.k call.0 (get_or c.as_slice.result.now c.args.k no_gap) is.gate.replayable call.1 (gap_at a.job.calls.items is.gaps c.as_slice.ensures c.args.k call.0 call.1)
 
 pub returns : goal.returns
 returns c =
     let job = c.self.inside.job in
     let micros = (get_or c.as_slice.result.now c.args.k no_gap).micros in
     rw (← c.self.view_is) (λ call at.
-    let is = gap_at c.self.invariant.gaps c.as_slice.ensures c.args.k call at in
-    (micros, is.micros, c.pause.ensures ∙ ap (pause_of micros) (c.percentage.ensures ∙ ap (λ (first : Bool). if first then job.connect else job.think) is.first)))
+    c.pause.ensures
+    ∙ ap (pause_of micros) c.percentage.ensures
+    ∙ ap (λ (gap : Gap). pause_of gap.micros (if gap.first then job.connect else job.think)) (gap_at job.calls.items c.self.invariant.gaps c.as_slice.ensures c.args.k call at))

@@ -1,4 +1,4 @@
-//! The parts of a line.
+//! The fields of a line.
 
 use anyhow::anyhow;
 use desk_values::find_word;

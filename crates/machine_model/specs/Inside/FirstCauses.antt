@@ -1,4 +1,4 @@
--- What the bodies find on the way to a decision.
+-- What the bodies find of the causes before the rest: those that go first, and what meets a hold.
 use Rattle.std.specs.Prelude.{Bool, ℕ, ◌||◌, List, Option}
 use Rattle.std.specs.List.{list_any}
 use Rattle.sql_eval.specs.declared.faults.Faults.{Faults}

@@ -1,3 +1,5 @@
+//! What the words of a line say.
+
 use desk_values::fields::read_u64;
 use desk_values::{Bytes, List, Memory, ReadErr, Stamps, Txt};
 use std::alloc::Global;

@@ -1,3 +1,5 @@
+//! Numbers that look random, the same each time.
+
 /// Numbers that look random: a linear congruential generator of 64 bits (Knuth, MMIX), of which the upper half is taken.
 #[derive(Drop)]
 pub struct Random {

@@ -5,10 +5,10 @@ use Rattle.machine_model.specs.Rows.{IsRising}
 use Rattle.machine_model.specs.Inside.Index.{AreIndexes}
 use Rattle.machine_model.specs.Inside.Rows.{AreLatest, Stock, stocked}
 use Rattle.machine_model.proofs.SoundRows.{ascending_rises}
-use Rattle.machine_model.proofs.machine.PlainMachine.place.Goals as goal
+use Rattle.machine_model.proofs.machine.PlainMachine.basis.Goals as goal
 
-pub returns-clause-is_place : goal.returns-clause-is_place
-returns-clause-is_place c =
+pub returns-clause-is_basis : goal.returns-clause-is_basis
+returns-clause-is_basis c =
     let start = sym (c.as_slice.ensures ∙ c.rows.ensures.value) in
     let current = sym c.deref-2.ensures.value in
     record {

@@ -1,8 +1,6 @@
--- The words that a program is called with, and the names of files.
+-- The names of files in a folder: those of a capture, and those that a command writes.
 use Rattle.std.specs.Prelude.{ℕ, zero, suc, ◌/◌, ◌%◌, List, [], ◌∷◌, ◌++◌, codes}
 use Rattle.std.specs.Fmt.{decimal}
-
--- ---- the files of a capture, and those that a command writes, in a folder
 
 abbrev pub start_name : List ℕ → List ℕ
 start_name folder = folder ++ codes "/start.cap"
