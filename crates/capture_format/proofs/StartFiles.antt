@@ -9,7 +9,7 @@ use Rattle.desk_schema.specs.Start.{StartView, file_lines}
 use Rattle.desk_schema.specs.State.{State, nothing, added, state_of}
 use Rattle.desk_schema.specs.Rules.{MayFollow, AreLinesFrom}
 use Rattle.desk_schema.specs.File.{IsStart}
-use Rattle.desk_values.specs.declared.limits.TheConstants.{SESSION_LIMIT}
+use Rattle.desk_values.specs.Limits.{session_limit}
 use Rattle.desk_schema.proofs.Files.{read_back, written_lines, read_start, read_sessions}
 use Rattle.desk_schema.proofs.Steps.{sound_nothing}
 use Rattle.file_lines.specs.declared.reader.FormErr.{FormErr}
@@ -57,7 +57,7 @@ file_read bytes t file starts counts is =
     let count : (state_of has.lines).sessions ≡ file.sessions = sym (counts ∙ ap (λ (s : State). s.sessions) has.leads) in
     record {
       is_start = subst IsStart start back.is_start;
-      sessions = subst (λ (n : ℕ). n ≤ SESSION_LIMIT) count back.limit;
+      sessions = subst (λ (n : ℕ). n ≤ session_limit) count back.limit;
       text = has.text ∙ ap lines_text (sym back.same ∙ ap (λ (v : StartView). file_lines v (state_of has.lines).sessions) start ∙ ap (file_lines file.start) count);
     }
 

@@ -2,7 +2,7 @@
 use Rattle.std.specs.Prelude.{ℕ, ◌^◌, ◌==◌, if◌then◌else◌, List, [], ◌∷◌, ◌++◌, length, drop, slice_index, Option, None, Some, codes}
 use Rattle.std.specs.Option.{option_map}
 use Rattle.std.specs.Str.{bytes_eq}
-use Rattle.desk_values.specs.declared.value.TheConstants.{TABLE_LIMIT}
+use Rattle.desk_values.specs.Limits.{table_limit}
 use Rattle.desk_values.specs.declared.value.Value.{Value}
 use Rattle.desk_values.specs.declared.value.Image.{Image}
 use Rattle.desk_values.specs.declared.call.Outcome.{Outcome}
@@ -43,7 +43,7 @@ image_of bytes = do
   parts ← cut_at 58 bytes
   row ← number_of parts.0
   others ← cut_at 58 parts.1
-  table ← number_below TABLE_LIMIT others.0
+  table ← number_below table_limit others.0
   left ← left_of others.1
   Some (record { row = row; table = table; left = left })
 
@@ -95,7 +95,8 @@ draws_of bytes = do
 
 -- the made row, or None
 unfoldable pub made_of : List ℕ → Option (Option ℕ)
-made_of bytes = if bytes_eq bytes (codes "-") then Some None else (if slice_index bytes 0 == 114 then option_map Some (number_of (drop 1 bytes)) else None)
+made_of bytes = if bytes_eq bytes (codes "-") then Some None
+    else (if slice_index bytes 0 == 114 then option_map Some (number_of (drop 1 bytes)) else None)
 
 -- the reply whose text this is
 unfoldable pub reply_of : List ℕ → Option Reply

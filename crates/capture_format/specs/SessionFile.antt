@@ -8,7 +8,7 @@ use Rattle.desk_values.specs.Text.{call_text, reply_text}
 use Rattle.file_lines.specs.File.{IsBadAt}
 use Rattle.file_lines.specs.Form.{Form, Comes, text_of}
 use Rattle.capture_format.specs.declared.session_line.CallLine.{CallLine}
-use Rattle.desk_values.specs.declared.limits.TheConstants.{LAST_MOMENT}
+use Rattle.desk_values.specs.Limits.{last_moment}
 use Rattle.capture_format.specs.declared.session_line.SessionLine.{SessionLine}
 use Rattle.capture_format.specs.declared.session_line.SessionLine.TheVariants.{Head, Call, End}
 use Rattle.capture_format.specs.declared.session.Stage.{Stage}
@@ -33,8 +33,8 @@ session_line_text End = codes "end"
 -- the parts of a call's line are within their limits
 pub record IsCallLine (line : CallLine) : Type 0 where
   pub stamp : line.stamp < 2 ^ 32
-  pub began : line.began ≤ LAST_MOMENT
-  pub ended : line.ended ≤ LAST_MOMENT
+  pub began : line.began ≤ last_moment
+  pub ended : line.ended ≤ last_moment
   pub seen : line.seen < 2 ^ 64
   pub number : line.number < 2 ^ 64
   pub call : IsCall line.call
@@ -98,8 +98,8 @@ pub record IsCallAt (session place least : ℕ) (call : Captured) : Type 0 where
   pub session_is : call.session ≡ session
   pub place_is : call.place ≡ place
   pub stamp : least ≤ call.stamp
-  pub began : call.began ≤ LAST_MOMENT
-  pub ended : call.ended ≤ LAST_MOMENT
+  pub began : call.began ≤ last_moment
+  pub ended : call.ended ≤ last_moment
   pub reply : IsGoodReply call.reply
 
 -- calls of this session at places from this one on, with rising stamps from this one on

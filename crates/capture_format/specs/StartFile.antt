@@ -2,7 +2,7 @@
 use Rattle.std.specs.Prelude.{◌≡◌, ℕ, ◌<◌, ◌≤◌, ◌^◌, ◌==◌, Bool, List, FitsSigned}
 use Rattle.std.specs.Int.{w64}
 use Rattle.desk_values.specs.Good.{IsValues}
-use Rattle.desk_values.specs.declared.limits.TheConstants.{SESSION_LIMIT}
+use Rattle.desk_values.specs.Limits.{session_limit}
 use Rattle.desk_schema.specs.declared.line.StartLine.{StartLine}
 use Rattle.desk_schema.specs.declared.line.StartLine.TheVariants.{Head, Level, Seq as SeqLine, Service, Table, Column, Row, NextRow, Sessions, End}
 use Rattle.desk_schema.specs.declared.line.ColumnKind.{ColumnKind}
@@ -54,5 +54,5 @@ start_text start sessions = lines_text (file_lines start sessions)
 -- the bytes are the start file that says this
 pub record IsStartFile (bytes : List ℕ) (file : StartFile) : Type 0 where
   pub is_start : IsStart file.start
-  pub sessions : file.sessions ≤ SESSION_LIMIT
+  pub sessions : file.sessions ≤ session_limit
   pub text : bytes ≡ start_text file.start file.sessions

@@ -48,7 +48,12 @@ fn push_call(call: &Captured, to: &mut Bytes) -> Result<(), Memory>
 
 // The numbers of a call, each with a space behind it.
 fn push_numbers(call: &Captured, to: &mut Bytes) -> Result<(), Memory>
-    ensures { OnOk result (to.new ≡ to.old ++ (decimal call.now.stamp ++ 32 ∷ (decimal call.now.began ++ 32 ∷ (decimal call.now.ended ++ 32 ∷ (decimal call.now.seen ++ 32 ∷ (number_text call.now.number ++ 32 ∷ [])))))) }
+    ensures { OnOk result
+        (to.new ≡ to.old
+        ++ (decimal call.now.stamp
+        ++ 32 ∷ (decimal call.now.began
+        ++ 32 ∷
+        (decimal call.now.ended ++ 32 ∷ (decimal call.now.seen ++ 32 ∷ (number_text call.now.number ++ 32 ∷ [])))))) }
 {
     push_field(u64::from(call.stamp), to)?;
     push_field(call.began, to)?;

@@ -112,7 +112,8 @@ fn read_shape_behind(alloc: Global, word: &[u8], rest: &[u8]) -> Result<(ColumnK
 
 #[tactic(auto, unfolding(crate::specs::Inside::Fields::two_of))]
 fn read_range(bytes: &[u8]) -> Option<(ColumnKind, bool)>
-    ensures { result ≡ option_map (λ p. (ColumnKind.Int p.0 p.1.0, p.1.1)) (two_of 32 integer_of (two_of 32 integer_of nulls_of) bytes.now) }
+    ensures { result ≡ option_map
+        (λ p. (ColumnKind.Int p.0 p.1.0, p.1.1)) (two_of 32 integer_of (two_of 32 integer_of nulls_of) bytes.now) }
 {
     let (low, rest) = cut(bytes, b' ')?;
     let (high, nulls) = cut(rest, b' ')?;
@@ -157,7 +158,8 @@ fn read_nulls(bytes: &[u8]) -> Option<bool>
 
 #[tactic(auto, unfolding(crate::specs::Inside::Fields::two_of))]
 fn read_row(alloc: Global, bytes: &[u8]) -> Result<StartLine, ReadErr>
-    ensures { Reads result (option_map (λ p. StartLine.Row p.0 p.1.0 p.1.1) (two_of 32 number_of (two_of 32 (number_below (2 ^ 32)) values_of) bytes.now)) }
+    ensures { Reads result
+        (option_map (λ p. StartLine.Row p.0 p.1.0 p.1.1) (two_of 32 number_of (two_of 32 (number_below (2 ^ 32)) values_of) bytes.now)) }
 {
     let (row, rest) = cut(bytes, b' ').ok_or(ReadErr::Bad)?;
     let (table, values) = cut(rest, b' ').ok_or(ReadErr::Bad)?;

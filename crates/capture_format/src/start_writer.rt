@@ -3,7 +3,7 @@
 ghost use Rattle.std.specs.Prelude.{◌≡◌, ◌≤◌, ◌++◌, ◌∷◌, [], map, IfOk, OnOk};
 ghost use Rattle.std.specs.List.{flat_map};
 ghost use Rattle.std.specs.Fmt.{decimal};
-ghost use Rattle.desk_values.specs.declared.limits.TheConstants.{SESSION_LIMIT};
+ghost use Rattle.desk_values.specs.Limits.{session_limit};
 ghost use Rattle.desk_schema.specs.declared.line.StartLine.TheVariants.{Head, Level, Table as TableLine, NextRow, Sessions, End};
 ghost use Rattle.desk_schema.specs.Line.{kind_text, line_text, lines_text, nulls_text, with_name};
 ghost use Rattle.desk_schema.specs.Start.{column_line, part_lines, row_line, sequence_lines, service_line, table_lines, values_left};
@@ -18,7 +18,7 @@ use std::alloc::Global;
 /// The one start file of a start and a number of sessions, as [`read_start`](crate::read_start) reads it. It fails for
 /// want of memory alone.
 pub fn write_start(alloc: Global, start: &Start, sessions: u32) -> Result<Bytes, Memory>
-    requires { sessions ≤ SESSION_LIMIT }
+    requires { sessions ≤ session_limit }
     ensures { IfOk result (λ bytes. bytes ≡ start_text start.now sessions) }
 {
     let mut text = List::new(alloc);

@@ -5,8 +5,8 @@ use Rattle.std.proofs.lemmas.List.{map_push}
 use Rattle.desk_values.specs.declared.capture.Captured.{Captured}
 use Rattle.desk_values.specs.Room.{Room}
 use Rattle.capture_format.specs.SessionFile.{AreCallsOf}
-use Rattle.capture_laws.specs.Sessions.{AreSessionsFrom, calls_of, session_lists}
-use Rattle.capture_laws.proofs.Files.{session_file, session_files}
+use Rattle.captured_calls.specs.Sessions.{AreSessionsFrom, calls_of, session_lists}
+use Rattle.captured_calls.proofs.Files.{session_file, session_files}
 use Rattle.capture_recorder.specs.Recording.{IsRecording, Recording}
 
 module _ (r : Recording) (is : IsRecording r) where

@@ -10,15 +10,15 @@ use Rattle.desk_values.specs.declared.call.Call.{Call}
 use Rattle.desk_values.specs.declared.capture.Captured.{Captured}
 use Rattle.desk_values.specs.Good.{IsGoodReply}
 use Rattle.desk_schema.specs.Start.{StartView}
-use Rattle.desk_values.specs.declared.limits.TheConstants.{LAST_MOMENT}
+use Rattle.desk_values.specs.Limits.{last_moment}
 use Rattle.replay_history.specs.Capture.{FitsIn, IsKnown, binds_of, commits, commits_before, session_calls_before}
-use Rattle.capture_laws.specs.Moments.{ended_in}
-use Rattle.capture_laws.specs.Sessions.{is_of}
-use Rattle.capture_laws.specs.Stamped.{HasText}
-use Rattle.capture_laws.proofs.Counts.{count_more}
-use Rattle.capture_laws.proofs.Following.{ended_more, ended_most, follows}
-use Rattle.capture_laws.proofs.Growing.{legal_longer, run_more}
-use Rattle.given_ids.proofs.Known.{known_after}
+use Rattle.captured_calls.specs.Moments.{ended_in}
+use Rattle.captured_calls.specs.Sessions.{is_of}
+use Rattle.captured_calls.specs.Stamped.{HasText}
+use Rattle.captured_calls.proofs.Counts.{count_more}
+use Rattle.captured_calls.proofs.Following.{ended_more, ended_most, follows}
+use Rattle.captured_calls.proofs.Growing.{legal_longer, run_more}
+use Rattle.law_ids.proofs.Known.{known_after}
 use Rattle.machine_model.specs.Machine.{Running}
 use Rattle.machine_model.specs.declared.session.Session.{Session}
 use Rattle.machine_model.specs.State.{State, disconnected, is_given, opening}
@@ -43,15 +43,15 @@ each_given state (bind ∷ binds) none = elim (cases_Bool (is_given state bind))
 ordered : (began ended : ℕ) → cut began ≤ kept_ended (cut began) ended
 ordered began ended = omega arith
 
-after_last : (last began : ℕ) → last ≤ LAST_MOMENT → last ≤ cut (max began last)
+after_last : (last began : ℕ) → last ≤ last_moment → last ≤ cut (max began last)
 after_last last began limit = omega (arith, limit)
 
 module _ (r : Recording) (engine : Running) (numbered : ℕ) (sessions : List Progress) (keeps : Keeps r engine numbered sessions) (session : ℕ) (within : session < 64) (call : Call) (began ended : ℕ) (given : is_stranger r.state call ≡ false) where
   abbrev new : Captured
   new = captured r session call began ended
 
-  limit : (other : ℕ) → ended_in other r.calls ≤ LAST_MOMENT
-  limit other = ended_most other LAST_MOMENT r.calls (all_weaker HasText (λ (c : Captured). c.ended ≤ LAST_MOMENT) (λ c text. text.ended) r.calls keeps.recording.texts)
+  limit : (other : ℕ) → ended_in other r.calls ≤ last_moment
+  limit other = ended_most other last_moment r.calls (all_weaker HasText (λ (c : Captured). c.ended ≤ last_moment) (λ c text. text.ended) r.calls keeps.recording.texts)
 
   fits_new : FitsIn r.start.rows r.calls (length r.calls) new
   fits_new = record {

@@ -2,4 +2,5 @@
 pub mod Connected
 pub mod Keeping
 pub mod Files
+pub mod Listed
 pub mod Generating

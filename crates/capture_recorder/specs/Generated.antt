@@ -11,7 +11,7 @@ use Rattle.desk_schema.specs.declared.schema.Rights.TheVariants.{ReadWrite}
 use Rattle.desk_schema.specs.declared.schema.Service.{Service}
 use Rattle.desk_schema.specs.declared.schema.Table.{Table}
 use Rattle.desk_schema.specs.Start.{StartView}
-use Rattle.capture_recorder.specs.declared.generated.TheConstants.{GENERATED_SESSIONS}
+use Rattle.capture_recorder.specs.Limits.{generated_sessions}
 use Rattle.capture_recorder.specs.Recording.{Recording, opened, recorded}
 
 -- ---- its start
@@ -74,7 +74,7 @@ call_in_round i round = if round == 0 then Connect (codes "main") else call_in_t
 
 -- the sessions make their calls in turn, one every ten microseconds
 abbrev pub generated_request : ℕ → Request
-generated_request i = record { session = i % GENERATED_SESSIONS; call = call_in_round i (i / GENERATED_SESSIONS); began = 10 * i; ended = 10 * i + 5 }
+generated_request i = record { session = i % generated_sessions; call = call_in_round i (i / generated_sessions); began = 10 * i; ended = 10 * i + 5 }
 
 abbrev pub generated_requests : ℕ → List Request
 generated_requests n = map generated_request (range_with_len 0 n)

@@ -6,17 +6,17 @@ use Rattle.desk_values.specs.declared.call.Call.TheVariants.{Disconnect}
 use Rattle.desk_values.specs.declared.call.Reply.{Reply}
 use Rattle.desk_values.specs.declared.capture.Captured.{Captured}
 use Rattle.desk_schema.specs.Start.{StartView}
-use Rattle.desk_values.specs.declared.limits.TheConstants.{LAST_MOMENT}
+use Rattle.desk_values.specs.Limits.{last_moment}
 use Rattle.replay_history.specs.Capture.{IsLegalCapture, IsRun, binds_of, commits_before, number_behind, session_calls_before}
-use Rattle.capture_laws.specs.Moments.{ended_in}
-use Rattle.capture_laws.specs.Stamped.{HasText}
+use Rattle.captured_calls.specs.Moments.{ended_in}
+use Rattle.captured_calls.specs.Stamped.{HasText}
 use Rattle.machine_model.specs.declared.session.Session.{Session}
 use Rattle.machine_model.specs.State.{State, is_connected, is_given, opening}
 use Rattle.machine_model.specs.Step.{Gives, reply_in, step}
 use Rattle.capture_recorder.specs.declared.refusal.CallErr.{CallErr}
 use Rattle.capture_recorder.specs.declared.refusal.CallErr.TheVariants.{Stranger, Full, Memory}
-use Rattle.capture_recorder.specs.declared.recorder.TheConstants.{ACCEPTED_LIMIT}
-use Rattle.replay_history.specs.declared.limits.TheConstants.{CALL_LIMIT}
+use Rattle.capture_recorder.specs.Limits.{accepted_limit}
+use Rattle.replay_history.specs.Limits.{call_limit}
 
 pub record Recording : Type 0 where
   pub start : StartView
@@ -33,7 +33,7 @@ opened start = record { start = start; calls = []; state = opening start }
 
 -- at most the greatest moment of a capture
 abbrev pub cut : ℕ → ℕ
-cut moment = min moment LAST_MOMENT
+cut moment = min moment last_moment
 
 -- a call is kept as beginning when it did, but not before the end of its session's last call
 abbrev pub kept_began : List Captured → ℕ → ℕ → ℕ
@@ -66,7 +66,7 @@ is_stranger state call = list_any (λ bind. not (is_given state bind)) (binds_of
 
 -- why a call is turned away, if it is: the recorder is full; or else the call knows an id that it can't know
 abbrev pub turned_away : Recording → Call → Option CallErr
-turned_away r call = if nat_le ACCEPTED_LIMIT (length r.calls) then Some Full else if is_stranger r.state call then Some Stranger else None
+turned_away r call = if nat_le accepted_limit (length r.calls) then Some Full else if is_stranger r.state call then Some Stranger else None
 
 -- it is answered just where it is not turned away; memory is wanted only then
 abbrev pub Turns : {T : Type 0} → Result T CallErr → Option CallErr → Type 0
@@ -94,5 +94,5 @@ pub record IsRecording (r : Recording) : Type 0 where
   -- after which the server is in this state
   pub reached : IsRun Gives (opening r.start) r.calls r.state
   -- each session that is connected can still be disconnected
-  pub room : length r.calls + connected_count r.state ≤ CALL_LIMIT
+  pub room : length r.calls + connected_count r.state ≤ call_limit
   pub texts : AllByRecursion HasText r.calls

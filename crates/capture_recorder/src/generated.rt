@@ -12,6 +12,7 @@ ghost use Rattle.machine_model.specs.State.{State};
 ghost use Rattle.capture_recorder.specs.Recording.{is_stranger};
 ghost use Rattle.capture_recorder.specs.Generated.{about, account, call_in_round, call_in_turn, generated, generated_start};
 ghost use Rattle.capture_recorder.specs.Inside.Declaring.{declared};
+ghost use Rattle.capture_recorder.specs.Limits.{generated_sessions};
 
 use crate::recorder::Recorder;
 use desk_schema::{Draft, Kind, Rights, Start};
@@ -109,7 +110,8 @@ fn add_column(
     kind: Kind,
     not_null: bool,
 ) -> Result<(), Memory>
-    ensures { OnOk result (draft.new ≡ added draft.old (StartLine.Column name.now (with_name draft.old.start.schema.sequences kind) not_null)) }
+    ensures { OnOk result
+        (draft.new ≡ added draft.old (StartLine.Column name.now (with_name draft.old.start.schema.sequences kind) not_null)) }
 {
     let name = word(alloc, name)?;
     draft.add_col(&name, kind, not_null).map_err(|_| Memory)
@@ -118,7 +120,7 @@ fn add_column(
 // The call with stamp i.
 fn call(alloc: Global, i: u32) -> Result<Call, Memory>
     requires { i < 10000 }
-    ensures value { IfOk result (λ call. call ≡ call_in_round i (i / GENERATED_SESSIONS)) }
+    ensures value { IfOk result (λ call. call ≡ call_in_round i (i / generated_sessions)) }
     ensures given { IfOk result (λ call. (state : State) → is_stranger state call ≡ false) }
 {
     let round = i / GENERATED_SESSIONS;

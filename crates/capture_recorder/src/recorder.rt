@@ -1,12 +1,13 @@
 //! The recorder of calls.
 
-ghost use Rattle.std.specs.Prelude.{◌≡◌, ◌+◌, ◌<◌, ◌≤◌, false, if◌then◌else◌, length, IfOk, IfSome, OnOk, OnErr, IsSomeAnd, Some};
+ghost use Rattle.std.specs.Prelude.{◌≡◌, ◌≢◌, ℕ, ◌+◌, ◌<◌, ◌≤◌, false, if◌then◌else◌, length, IfOk, IfSome, OnOk, OnErr, IsSomeAnd, Some};
 ghost use Rattle.desk_values.specs.Good.{IsGoodReply};
 ghost use Rattle.capture_format.specs.SessionFile.{AreCallsOf};
+ghost use Rattle.machine_model.specs.State.{is_connected, session_at};
 ghost use Rattle.machine_model.specs.Step.{reply_in, step};
-ghost use Rattle.capture_recorder.specs.declared.recorder.TheConstants.{ACCEPTED_LIMIT as ACCEPTED};
+ghost use Rattle.capture_recorder.specs.Limits.{accepted_limit};
 ghost use Rattle.capture_recorder.specs.Recording.{IsRecording, Turns, captured, closed, closing_reply, connected_count, cut, is_stranger, kept_ended, opened, recorded, turned_away};
-ghost use Rattle.capture_laws.specs.Sessions.{calls_of};
+ghost use Rattle.captured_calls.specs.Sessions.{calls_of};
 
 use crate::progress::Progress;
 use crate::refusal::CallErr;
@@ -43,7 +44,7 @@ pub struct Recorder {
 }
 
 impl Model for Recorder {
-    ghost use Rattle.capture_recorder.specs.declared.recorder.TheConstants.{ACCEPTED_LIMIT as ACCEPTED};
+    ghost use Rattle.capture_recorder.specs.Limits.{accepted_limit};
     ghost use Rattle.capture_recorder.specs.Recording.{Recording};
     ghost use Rattle.capture_recorder.specs.Inside.Keeping.{Keeps};
 
@@ -51,7 +52,8 @@ impl Model for Recorder {
 
     ghost view = { λ a. record { start = a.start; calls = a.calls.items; state = a.engine.state } };
 
-    ghost invariant = { λ a. Keeps (record { start = a.start; calls = a.calls.items; state = a.engine.state }) a.engine a.numbered a.sessions.items };
+    ghost invariant = { λ a. Keeps
+        (record { start = a.start; calls = a.calls.items; state = a.engine.state }) a.engine a.numbered a.sessions.items };
 }
 
 impl Recorder {
@@ -127,10 +129,15 @@ impl Recorder {
     }
 
     /// Disconnects a session that is connected at this moment: it records the call and gives its reply. For another
-    /// session it does nothing and gives `None`. An `Err` changes nothing.
+    /// session it does nothing and gives `None`. Afterwards the session is not connected. The others are as they were, and
+    /// so is all that is committed. An `Err` changes nothing.
     pub fn close(&mut self, session: u32, at: u64) -> Result<Option<Reply>, Memory>
         requires { session < 64 }
         ensures ok { OnOk result (self.new ≡ closed self.old session at) }
+        ensures off { OnOk result (is_connected self.new.state session ≡ false) }
+        ensures others { (other : ℕ) → other ≢ session → session_at self.new.state other ≡ session_at self.old.state other }
+        ensures their_calls { (other : ℕ) → other ≢ session → calls_of other self.new.calls ≡ calls_of other self.old.calls }
+        ensures commits { self.new.state.commits ≡ self.old.state.commits }
         ensures reply { IfOk result (λ reply. reply ≡ closing_reply self.old session) }
         ensures good { IfOk result (λ reply. IfSome reply (λ r. IsGoodReply r)) }
         ensures err { OnErr result (self.new ≡ self.old) }
@@ -163,7 +170,7 @@ impl Recorder {
     ) -> Result<Twice, Memory>
         requires session { session < 64 }
         requires given { is_stranger self.old.state call.now ≡ false }
-        requires room { length self.old.calls < ACCEPTED }
+        requires room { length self.old.calls < accepted_limit }
         ensures ok { OnOk result (self.new ≡ recorded self.old session call.now began ended) }
         ensures reply { IfOk result (λ twice. twice.reply ≡ reply_in self.old.state session call.now) }
         ensures same { IfOk result (λ twice. twice.same ≡ twice.reply) }

@@ -1,49 +1,73 @@
-//! What a desk tells of a whole replay.
+//! What is told of a capture and of its replay.
 
-ghost use Rattle.replay_history.specs.History.{AnswersAll};
-ghost use Rattle.replay_core.specs.Desk.{IsKept};
-
-use desk_values::{Bytes, Memory};
-use replay_core::Desk;
-use replay_core::laws::all_answered_is_complete;
-use replay_history::Report;
-use replay_job::Job;
-use replay_report::{report_csv, report_of};
+use desk_values::{Bytes, List, Memory};
 use std::alloc::Global;
+use std::marker::Model;
 
-/// What is replayed.
-pub(crate) fn job(desk: &Desk) -> &Job {
-    desk.job()
+/// Files, as far as they are told. Contracts see nothing of them.
+#[derive(Drop)]
+pub struct Told {
+    /// The file of the capture's start, then that of each session.
+    pub files: Vec<Bytes>,
+    /// The files of other starts that the replay may begin with.
+    pub targets: Vec<Bytes>,
+    /// The remap file.
+    pub remap: Bytes,
+    // The file whose lines are being told.
+    open: Option<Bytes>,
 }
 
-/// A desk of a copy of the same job, and whether the copy is the same.
-pub(crate) fn anew(alloc: Global, desk: &Desk) -> Result<(Desk, bool), Memory> {
-    desk.history_is_kept();
-    let job = desk.job().copy()?;
-    let same = desk.job().same(&job);
-    Ok((Desk::setup(alloc, job)?, same))
+impl Model for Told {
+    ghost Value = { Unit {0} };
+
+    ghost view = { λ told. tt };
 }
 
-/// The records of the calls that differ, by the report.
-pub(crate) fn records_of(alloc: Global, desk: &Desk, report: &Report) -> Result<Bytes, Memory> {
-    report_csv(alloc, desk.job(), desk.history(), report)
-}
-
-/// The report, where each call is answered.
-pub(crate) fn report_on(alloc: Global, desk: &Desk) -> Result<Option<Report>, Memory> {
-    match desk.first_open() {
-        Some(_) => Ok(None),
-        None => {
-            desk.history_is_kept();
-            Ok(Some(whole_report(alloc, desk)?))
+impl Told {
+    /// Nothing yet.
+    pub fn new(alloc: Global) -> Told {
+        Told {
+            files: Vec::new(alloc),
+            targets: Vec::new(alloc),
+            remap: List::new(alloc),
+            open: None,
         }
+    }
+
+    /// Whether the next line is one of a file.
+    pub fn is_inside(&self) -> bool {
+        self.open.is_some()
+    }
+
+    /// Takes a line of a file, the first one where none is open.
+    pub fn add(&mut self, alloc: Global, line: &str) -> Result<(), Memory> {
+        let mut file = self.open.take().unwrap_or(List::new(alloc));
+        append_line(&mut file, line)?;
+        if line == "end" {
+            self.close(file)
+        } else {
+            self.open = Some(file);
+            Ok(())
+        }
+    }
+
+    // Keeps a whole file.
+    fn close(&mut self, file: Bytes) -> Result<(), Memory> {
+        if file.as_slice().starts_with(b"start") && !self.files.is_empty() {
+            self.targets.push(file)?;
+        } else {
+            self.files.push(file)?;
+        }
+        Ok(())
+    }
+
+    /// Adds a line to the remap file.
+    pub fn add_remap(&mut self, line: &str) -> Result<(), Memory> {
+        append_line(&mut self.remap, line)
     }
 }
 
-fn whole_report(alloc: Global, desk: &Desk) -> Result<Report, Memory>
-    requires kept { IsKept desk.now }
-    requires all { AnswersAll desk.now.job.calls desk.now.history }
-{
-    all_answered_is_complete();
-    report_of(alloc, desk.job(), desk.history())
+fn append_line(file: &mut Bytes, line: &str) -> Result<(), Memory> {
+    file.append(line.as_bytes())?;
+    file.append(b"\n")
 }

@@ -1,7 +1,7 @@
 //! Random captures.
 
 ghost use Rattle.std.specs.Prelude.{◌≤◌, length, map, IfOk};
-ghost use Rattle.capture_laws.specs.Sessions.{AreSessionsFrom};
+ghost use Rattle.captured_calls.specs.Sessions.{AreSessionsFrom};
 
 use crate::calls::Kind;
 use crate::clients::Clients;

@@ -1,7 +1,7 @@
 //! What is recorded. Nothing else sees the recorder.
 
 ghost use Rattle.std.specs.Prelude.{◌<◌, ◌≤◌, length, map, IfOk};
-ghost use Rattle.capture_laws.specs.Sessions.{AreSessionsFrom};
+ghost use Rattle.captured_calls.specs.Sessions.{AreSessionsFrom};
 
 use crate::clients::Clients;
 use capture_recorder::{CallErr, Recorder, sessions_of};

@@ -26,7 +26,8 @@ pub record GateView : Type 0 where
 
 -- a gate where no call is started
 abbrev pub new_gate : List Fact → Mode → GateView
-new_gate facts mode = record { facts = facts; mode = mode; started = replicate (length facts) false; answered = replicate (length facts) false }
+new_gate facts mode =
+    record { facts = facts; mode = mode; started = replicate (length facts) false; answered = replicate (length facts) false }
 
 -- call j is the call of the session of k before it
 pub record IsBefore (facts : List Fact) (k j : ℕ) : Type 0 where
@@ -73,8 +74,10 @@ NoneReady gate session = (k : ℕ) → IsReadyOf gate session k → ⊥
 
 -- call k is the ready call of the first session of the lane that has one
 abbrev pub IsPick : GateView → List ℕ → ℕ → Type 0
-IsPick gate lane k = (i : ℕ) × (i < length lane) × IsReadyOf gate (slice_index lane i) k × ((j : ℕ) → j < i → NoneReady gate (slice_index lane j))
+IsPick gate lane k = (i : ℕ) × (i < length lane) × IsReadyOf gate (slice_index lane i) k
+    × ((j : ℕ) → j < i → NoneReady gate (slice_index lane j))
 
 -- every call of the session is answered
 abbrev pub IsDoneOf : GateView → ℕ → Type 0
-IsDoneOf gate session = (k : ℕ) → k < length gate.facts → (fact_at gate.facts k).session ≡ session → is_in gate.answered k ≡ true
+IsDoneOf gate session = (k : ℕ) → k < length gate.facts → (fact_at gate.facts k).session ≡ session
+    → is_in gate.answered k ≡ true

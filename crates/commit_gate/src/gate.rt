@@ -94,12 +94,17 @@ impl Gate {
     /// What a gate keeps. It does nothing: its contract is a law.
     ///
     /// Answered calls are started. Of a started call the calls of its session before it are answered, and so are those that
-    /// it requires. And the facts are sound.
+    /// it requires. And the facts are sound. For each fact it is kept whether its call is started and whether it is answered.
     pub fn order_is_kept(&self)
         ensures started { (k : ℕ) → is_in self.now.answered k ≡ true → is_in self.now.started k ≡ true }
-        ensures turn { (j k : ℕ) → j < k → (fact_at self.now.facts j).session ≡ (fact_at self.now.facts k).session → is_in self.now.started k ≡ true → is_in self.now.answered j ≡ true }
-        ensures required { (k : ℕ) → is_in self.now.started k ≡ true → AreRequiredAnswered self.now.mode self.now.facts self.now.answered k }
+        ensures turn { (j k : ℕ) → j < k
+            → (fact_at self.now.facts j).session ≡ (fact_at self.now.facts k).session
+            → is_in self.now.started k ≡ true → is_in self.now.answered j ≡ true }
+        ensures required { (k : ℕ) → is_in self.now.started k ≡ true
+            → AreRequiredAnswered self.now.mode self.now.facts self.now.answered k }
         ensures sound { AreSound self.now.facts }
+        ensures started_len { length self.now.started ≡ length self.now.facts }
+        ensures answered_len { length self.now.answered ≡ length self.now.facts }
     {
         let _ = self.facts.len();
     }

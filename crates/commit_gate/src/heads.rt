@@ -58,7 +58,8 @@ fn put_before(heads: &mut Heads, facts: &[Fact], k: usize) -> Result<u32, Memory
 fn insert(heads: &mut Heads, session: u32, stamp: u32) -> Result<Option<u32>, Memory>
     ensures old { IfOk result (λ old. old ≡ get nat_cmp heads.old session) }
     ensures here { OnOk result (get nat_cmp heads.new session ≡ Some stamp) }
-    ensures others { OnOk result ((other : ℕ) → (other ≡ session → ⊥) → get nat_cmp heads.new other ≡ get nat_cmp heads.old other) }
+    ensures others { OnOk result
+        ((other : ℕ) → (other ≡ session → ⊥) → get nat_cmp heads.new other ≡ get nat_cmp heads.old other) }
 {
     Ok(heads.insert(session, stamp)?)
 }

@@ -96,7 +96,8 @@ pub fn advance_tables(marks: &mut [Mark], facts: &[Fact], answered: &[bool])
     requires len { length marks.old ≡ 32 }
     requires few { length facts.now ≤ 100000 }
     requires lengths { length answered.now ≡ length facts.now }
-    requires passed { (table : ℕ) → table < 32 → IsPassed (Table table) facts.now answered.now (mark_at marks.old table).at (mark_at marks.old table).count }
+    requires passed { (table : ℕ) → table < 32
+        → IsPassed (Table table) facts.now answered.now (mark_at marks.old table).at (mark_at marks.old table).count }
     ensures { AreTableMarks facts.now answered.now marks.new 32 }
 {
     for table in 0..32 {

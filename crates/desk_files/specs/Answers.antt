@@ -1,6 +1,6 @@
 -- What an answer says, and how its call ended.
 use Rattle.std.specs.Prelude.{◌≡◌, ℕ, ◌<◌, List, length, Option, None, Some, IsSomeAnd, Result, Ok, Err, ⊤}
-use Rattle.desk_files.specs.declared.files.TheConstants.{FILE_LIMIT}
+use Rattle.desk_files.specs.Limits.{file_limit}
 use Rattle.desk_files.specs.declared.fault.Failed.{Failed}
 use Rattle.desk_files.specs.declared.fault.FileErr.{FileErr}
 use Rattle.desk_files.specs.declared.fault.FileErr.TheVariants as file_err
@@ -12,7 +12,7 @@ use Rattle.desk_files.specs.Outside.{Ending, Answered, DeviceFailed, MemoryShort
 abbrev pub ReadSays : Option (List ℕ) → Result (List ℕ) FileErr → Type 0
 ReadSays file (Ok bytes) = file ≡ Some bytes
 ReadSays file (Err file_err.Missing) = file ≡ None
-ReadSays file (Err file_err.TooLong) = IsSomeAnd file (λ bytes. FILE_LIMIT < length bytes)
+ReadSays file (Err file_err.TooLong) = IsSomeAnd file (λ bytes. file_limit < length bytes)
 ReadSays file (Err file_err.Failed) = ⊤
 ReadSays file (Err file_err.Memory) = ⊤
 

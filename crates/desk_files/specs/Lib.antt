@@ -1,3 +1,4 @@
+pub mod Limits
 pub mod Outside
 pub mod Answers
 pub mod Writes

@@ -40,10 +40,13 @@ refuses sink bytes = fails_now sink.calls || nat_lt sink.room (length sink.held 
 
 -- how the values above are stored
 abbrev pub calls_code : Coded Calls
-calls_code = code_by (List ℕ × (ℕ × ℕ)) (coded× (coded_list coded_ℕ) (coded× coded_ℕ coded_ℕ)) (λ c. (c.fails, (c.made, c.faults))) (λ p. record { fails = p.0; made = p.1.0; faults = p.1.1 }) (λ _. refl)
+calls_code = code_by (List ℕ × (ℕ × ℕ)) (coded× (coded_list coded_ℕ) (coded× coded_ℕ coded_ℕ))
+    (λ c. (c.fails, (c.made, c.faults))) (λ p. record { fails = p.0; made = p.1.0; faults = p.1.1 }) (λ _. refl)
 
 abbrev pub memory_files_code : Coded MemoryFiles
-memory_files_code = code_by (FileMap × Calls) (coded× (code (coded_list coded_ℕ) (coded_list coded_ℕ)) calls_code) (λ m. (m.files, m.calls)) (λ p. record { files = p.0; calls = p.1 }) (λ _. refl)
+memory_files_code = code_by (FileMap × Calls) (coded× (code (coded_list coded_ℕ) (coded_list coded_ℕ)) calls_code)
+    (λ m. (m.files, m.calls)) (λ p. record { files = p.0; calls = p.1 }) (λ _. refl)
 
 abbrev pub memory_sink_code : Coded MemorySink
-memory_sink_code = code_by (List ℕ × (ℕ × Calls)) (coded× (coded_list coded_ℕ) (coded× coded_ℕ calls_code)) (λ m. (m.held, (m.room, m.calls))) (λ p. record { held = p.0; room = p.1.0; calls = p.1.1 }) (λ _. refl)
+memory_sink_code = code_by (List ℕ × (ℕ × Calls)) (coded× (coded_list coded_ℕ) (coded× coded_ℕ calls_code))
+    (λ m. (m.held, (m.room, m.calls))) (λ p. record { held = p.0; room = p.1.0; calls = p.1.1 }) (λ _. refl)

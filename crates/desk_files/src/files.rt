@@ -2,6 +2,7 @@ ghost use Rattle.std.specs.Prelude.{◌≡◌, ℕ, ◌≤◌, Option, Some, len
 ghost use Rattle.std.specs.FinMap as map;
 ghost use Rattle.desk_files.specs.Outside.{FileMap, Told, KeepsOthers, Leaves};
 ghost use Rattle.desk_files.specs.Answers.{ReadSays, read_ending, write_ending};
+ghost use Rattle.desk_files.specs.Limits.{file_limit};
 
 use crate::fault::{FileErr, WriteErr};
 use desk_values::{Bytes, Txt};
@@ -21,7 +22,7 @@ pub trait Files {
     /// The bytes of a file.
     fn read(&mut self, name: &Txt) -> Result<Bytes, FileErr>
         ensures says { Told (content self.old) (λ files. ReadSays (map.get files name.now) result) }
-        ensures limit { IfOk result (λ bytes. length bytes ≤ FILE_LIMIT) }
+        ensures limit { IfOk result (λ bytes. length bytes ≤ file_limit) }
         ensures content { content self.new ≡ content self.old }
         ensures leaves { Leaves (read_ending result) (content self.old) (content self.new) (faults self.old) (faults self.new) };
 

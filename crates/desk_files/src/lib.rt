@@ -1,13 +1,15 @@
-//! The outside world as traits: files by name, and a sink of bytes.
+//! The outside world as traits: files by name, a sink of bytes, and a door by which time passes.
 //!
-//! Enters: names and bytes. Leaves: bytes, and which fault came. The objects in memory touch nothing
-//! but memory; the real ones touch the system's files and the standard output, and nothing is claimed
-//! of what those hold.
+//! Enters: names, bytes and times. Leaves: bytes, times, and which fault came. The objects in memory
+//! touch nothing but memory; the real ones touch the system's files, its standard output and its
+//! clock, and nothing is claimed of what those hold or tell.
 #![tactic(auto)]
 
 mod calls;
+mod door;
 mod fault;
 mod files;
+mod mem_door;
 mod mem_files;
 mod mem_sink;
 mod real_files;
@@ -15,8 +17,10 @@ mod sink;
 mod std_sink;
 mod writes;
 
+pub use door::{Door, SleepDoor};
 pub use fault::{Failed, FileErr, WriteErr};
 pub use files::{FILE_LIMIT, Files};
+pub use mem_door::{MemDoor, Passed};
 pub use mem_files::MemFiles;
 pub use mem_sink::MemSink;
 pub use real_files::{RealFiles, SUFFIX};

@@ -4,6 +4,7 @@ ghost use Rattle.std.specs.FinMap as map;
 ghost use Rattle.desk_files.specs.Outside.{is_failed};
 ghost use Rattle.desk_files.specs.Answers.{ReadSays, read_ending, write_ending};
 ghost use Rattle.desk_files.specs.Memory.{no_calls, fails_now, after_call};
+ghost use Rattle.desk_files.specs.Limits.{file_limit};
 
 use crate::calls::Calls;
 use crate::fault::{FileErr, WriteErr};
@@ -74,7 +75,7 @@ impl Files for MemFiles {
     fn read(&mut self, name: &Txt) -> Result<Bytes, FileErr>
         ensures failed { IsErrOf result FileErr.Failed ↔ IsTrue (fails_now self.old.calls) }
         ensures says { ReadSays (map.get self.old.files name.now) result }
-        ensures limit { IfOk result (λ bytes. length bytes ≤ FILE_LIMIT) }
+        ensures limit { IfOk result (λ bytes. length bytes ≤ file_limit) }
         ensures files { self.new.files ≡ self.old.files }
         ensures calls { self.new.calls ≡ after_call self.old.calls (is_failed (read_ending result)) }
     {

@@ -2,6 +2,7 @@ ghost use Rattle.std.specs.Prelude.{◌≡◌, ◌≢◌, ◌↔◌, ◌≤◌, 
 ghost use Rattle.std.specs.IoError.{error_kind};
 ghost use Rattle.desk_files.specs.Outside.{counted};
 ghost use Rattle.desk_files.specs.Answers.{read_ending, write_ending};
+ghost use Rattle.desk_files.specs.Limits.{file_limit};
 
 use crate::fault::{FileErr, WriteErr};
 use crate::files::{FILE_LIMIT, Files};
@@ -75,7 +76,7 @@ impl<R: rt::Files> Files for RealFiles<'_, R> {
     ghost faults = { λ count. count };
 
     fn read(&mut self, name: &Txt) -> Result<Bytes, FileErr>
-        ensures limit { IfOk result (λ bytes. length bytes ≤ FILE_LIMIT) }
+        ensures limit { IfOk result (λ bytes. length bytes ≤ file_limit) }
         ensures count { self.new ≡ counted (read_ending result) self.old }
     {
         match read_file(self.system, self.alloc, name.as_str()) {
@@ -102,7 +103,7 @@ impl<R: rt::Files> Files for RealFiles<'_, R> {
 
 // The bytes of a file, or `None` where it is too long. Past the limit at most one byte is read.
 fn read_file<R: rt::Files>(system: &R, alloc: Global, name: &str) -> io::Result<Option<Bytes>>
-    ensures { IfOk result (λ read. IfSome read (λ bytes. length bytes ≤ FILE_LIMIT)) }
+    ensures { IfOk result (λ read. IfSome read (λ bytes. length bytes ≤ file_limit)) }
 {
     let file = fs::open(system, name)?;
     let length = file.metadata()?.len();

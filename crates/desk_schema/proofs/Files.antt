@@ -4,7 +4,7 @@ use Rattle.std.specs.List.{AllByRecursion}
 use Rattle.std.proofs.lemmas.List.{append_assoc, append-nil}
 use Rattle.std.proofs.lemmas.List.Sums.{fold-append}
 use Rattle.desk_schema.specs.declared.line.StartLine.{StartLine}
-use Rattle.desk_values.specs.declared.limits.TheConstants.{SESSION_LIMIT}
+use Rattle.desk_values.specs.Limits.{session_limit}
 use Rattle.desk_schema.specs.declared.line.StartLine.TheVariants.{NextRow, Sessions, End}
 use Rattle.desk_schema.specs.declared.schema.Table.{Table}
 use Rattle.desk_schema.specs.Schema.{HasColumns, IsSchema}
@@ -105,7 +105,7 @@ read_back lines is =
       same = same;
     }
 
-pub written_lines : (start : StartView) (sessions : ℕ) → IsStart start → sessions ≤ SESSION_LIMIT → IsFile (file_lines start sessions)
+pub written_lines : (start : StartView) (sessions : ℕ) → IsStart start → sessions ≤ session_limit → IsFile (file_lines start sessions)
 written_lines start sessions is limit =
     let counted = more_lines nothing (lines_of start) (Sessions sessions) is.lines (last_of_start start, limit) in
     let nine : (state_of (lines_of start ++ Sessions sessions ∷ [])).last ≡ 9 = ap (λ (s : State). s.last) (after_both (lines_of start) (Sessions sessions ∷ [])) in

@@ -8,8 +8,8 @@ use Rattle.std.proofs.lemmas.List.Elements.{filter_map-append, All-contains, All
 use Rattle.std.proofs.lemmas.Option.{slice_get_past}
 use Rattle.desk_values.specs.declared.value.Value.{Value}
 use Rattle.desk_values.specs.declared.value.Image.{Image}
-use Rattle.desk_schema.specs.declared.rules.TheConstants.{COLUMN_LIMIT}
-use Rattle.desk_values.specs.declared.limits.TheConstants.{SESSION_LIMIT}
+use Rattle.desk_schema.specs.Limits.{column_limit}
+use Rattle.desk_values.specs.Limits.{session_limit}
 use Rattle.desk_schema.specs.declared.line.StartLine.{StartLine}
 use Rattle.desk_schema.specs.declared.line.StartLine.TheVariants.{Head, Level as LevelLine, Seq as SeqLine, Service as ServiceLine, Table as TableLine, Column as ColumnLine, Row as RowLine, NextRow, Sessions, End}
 use Rattle.desk_schema.specs.declared.line.ColumnKind.{ColumnKind}
@@ -84,7 +84,7 @@ first_column [] column key new = new refl
 first_column (c ∷ cs) column key new = key
 
 one_more_column : (sequences : ℕ) (table : Table) (column : Column) → IsSoundTable sequences table
-    → length table.columns < COLUMN_LIMIT → IsName column.name → (Contains (column_names table.columns) column.name → ⊥) → IsKnownKind sequences column.kind
+    → length table.columns < column_limit → IsName column.name → (Contains (column_names table.columns) column.name → ⊥) → IsKnownKind sequences column.kind
     → (length table.columns ≡ 0 → column.not_null ≡ true) → IsSoundTable sequences (record { name = table.name; columns = table.columns ++ column ∷ [] })
 one_more_column sequences table column sound count is fresh known key =
     let e : column_names (table.columns ++ column ∷ []) ≡ column_names table.columns ++ column.name ∷ [] = map-append _ table.columns (column ∷ []) in record {
@@ -96,7 +96,7 @@ one_more_column sequences table column sound count is fresh known key =
     }
 
 tables_sound-with_column : (sequences : ℕ) (tables : List Table) (column : Column) → AllByRecursion (IsSoundTable sequences) tables
-    → length (last_columns tables) < COLUMN_LIMIT → IsName column.name → (Contains (column_names (last_columns tables)) column.name → ⊥) → IsKnownKind sequences column.kind
+    → length (last_columns tables) < column_limit → IsName column.name → (Contains (column_names (last_columns tables)) column.name → ⊥) → IsKnownKind sequences column.kind
     → (length (last_columns tables) ≡ 0 → column.not_null ≡ true) → AllByRecursion (IsSoundTable sequences) (with_column tables column)
 tables_sound-with_column sequences [] column sound count is fresh known key = tt
 tables_sound-with_column sequences (table ∷ []) column sound count is fresh known key = (one_more_column sequences table column sound.0 count is fresh known key, tt)
@@ -389,7 +389,7 @@ next_row_added state (NextRow next) is rule late = record { least = rule.least; 
 next_row_added state (Sessions count) is rule late = is.next_row (omega (arith, rule.0))
 next_row_added state End is rule late = is.next_row (omega (arith, rule))
 
-sessions_added : (state : State) (line : StartLine) → IsSoundState state → MayFollow state line → sessions_with state.sessions line ≤ SESSION_LIMIT
+sessions_added : (state : State) (line : StartLine) → IsSoundState state → MayFollow state line → sessions_with state.sessions line ≤ session_limit
 sessions_added state Head is rule = is.sessions
 sessions_added state (LevelLine level) is rule = is.sessions
 sessions_added state (SeqLine name next) is rule = is.sessions

@@ -24,7 +24,8 @@ place_of_last Row = 7
 
 -- the state of a draft: neither the next row nor the sessions are declared yet
 abbrev pub drafted : Last → SchemaView → List ℕ → List Image → State
-drafted last schema nexts rows = record { last = place_of_last last; start = record { schema = schema; rows = rows; next_row = 0; next_values = nexts }; sessions = 0 }
+drafted last schema nexts rows =
+    record { last = place_of_last last; start = record { schema = schema; rows = rows; next_row = 0; next_values = nexts }; sessions = 0 }
 
 -- the state with the line of the next row, once a start is whole
 abbrev pub finished : StartView → State

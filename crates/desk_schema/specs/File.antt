@@ -1,7 +1,7 @@
 -- A whole file, and the start that it declares.
 use Rattle.std.specs.Prelude.{ℕ, ◌≡◌, ◌≤◌, List}
 use Rattle.desk_schema.specs.declared.line.StartLine.{StartLine}
-use Rattle.desk_values.specs.declared.limits.TheConstants.{SESSION_LIMIT}
+use Rattle.desk_values.specs.Limits.{session_limit}
 use Rattle.desk_schema.specs.Start.{StartView, lines_of, file_lines}
 use Rattle.desk_schema.specs.State.{state_of}
 use Rattle.desk_schema.specs.Rules.{AreLines}
@@ -19,5 +19,5 @@ pub record IsFile (lines : List StartLine) : Type 0 where
 -- a file declares a start that keeps the rules and a number of sessions, and is their lines
 pub record IsFileOf (lines : List StartLine) (start : StartView) (sessions : ℕ) : Type 0 where
   pub is_start : IsStart start
-  pub limit : sessions ≤ SESSION_LIMIT
+  pub limit : sessions ≤ session_limit
   pub same : file_lines start sessions ≡ lines

@@ -8,10 +8,8 @@ use Rattle.desk_values.specs.declared.value.Value.TheVariants as value
 use Rattle.desk_values.specs.declared.value.Image.{Image}
 use Rattle.desk_values.specs.Comparison.{same_key}
 use Rattle.desk_values.specs.Good.{IsTxt}
-use Rattle.desk_values.specs.declared.limits.TheConstants.{SESSION_LIMIT}
-use Rattle.desk_values.specs.declared.value.TheConstants.{TABLE_LIMIT}
-use Rattle.desk_schema.specs.declared.draft.TheConstants.{LEVEL}
-use Rattle.desk_schema.specs.declared.rules.TheConstants.{SEQUENCE_LIMIT, SERVICE_LIMIT, COLUMN_LIMIT, ROW_LIMIT, LENGTH_LIMIT, NEXT_LIMIT}
+use Rattle.desk_values.specs.Limits.{session_limit, table_limit}
+use Rattle.desk_schema.specs.Limits.{only_level, sequence_limit, service_limit, column_limit, start_row_limit, length_limit, next_limit}
 use Rattle.desk_schema.specs.declared.line.StartLine.{StartLine}
 use Rattle.desk_schema.specs.declared.line.StartLine.TheVariants.{Head, Level as LevelLine, Seq as SeqLine, Service as ServiceLine, Table as TableLine, Column as ColumnLine, Row as RowLine, NextRow, Sessions, End}
 use Rattle.desk_schema.specs.declared.line.ColumnKind.{ColumnKind}
@@ -39,16 +37,16 @@ pub record IsWithin (low high last : ℕ) : Type 0 where
 -- `seq`, after `level` or `seq`: at most 16, with names of their own
 pub record SequenceMayFollow (last : ℕ) (sequences : List (List ℕ)) (name : List ℕ) (next : ℕ) : Type 0 where
   pub order : IsWithin 2 3 last
-  pub count : length sequences < SEQUENCE_LIMIT
+  pub count : length sequences < sequence_limit
   pub is_name : IsName name
   pub distinct : ¬ Contains sequences name
   pub least : 1 ≤ next
-  pub most : next ≤ NEXT_LIMIT
+  pub most : next ≤ next_limit
 
 -- `svc`, after `level`, `seq` or `svc`: at most 16, with names of their own
 pub record ServiceMayFollow (last : ℕ) (services : List Service) (name : List ℕ) : Type 0 where
   pub order : IsWithin 2 4 last
-  pub count : length services < SERVICE_LIMIT
+  pub count : length services < service_limit
   pub is_name : IsName name
   pub distinct : ¬ Contains (service_names services) name
 
@@ -56,7 +54,7 @@ pub record ServiceMayFollow (last : ℕ) (services : List Service) (name : List 
 pub record TableMayFollow (last : ℕ) (tables : List Table) (name : List ℕ) : Type 0 where
   pub order : IsWithin 2 6 last
   pub whole : ¬ (last ≡ 5)
-  pub count : length tables < TABLE_LIMIT
+  pub count : length tables < table_limit
   pub is_name : IsName name
   pub distinct : ¬ Contains (table_names tables) name
 
@@ -68,13 +66,14 @@ pub record IsRange (low high : ℤ) : Type 0 where
 -- a range with a number in it, a length from 1 to 1,000, or a sequence that is there
 abbrev pub IsKind : List (List ℕ) → ColumnKind → Type 0
 IsKind sequences (written.Int low high) = IsRange low high
-IsKind sequences (written.Text most) = (1 ≤ most) × (most ≤ LENGTH_LIMIT)
+IsKind sequences (written.Text most) = (1 ≤ most) × (most ≤ length_limit)
 IsKind sequences (written.Seq sequence) = Contains sequences sequence
 
 -- `col`, after `table` or `col`: at most 16 of a table, with names of their own; the first is not null
-pub record ColumnMayFollow (last : ℕ) (sequences : List (List ℕ)) (columns : List Column) (name : List ℕ) (kind : ColumnKind) (not_null : Bool) : Type 0 where
+pub record ColumnMayFollow (last : ℕ) (sequences : List (List ℕ)) (columns : List Column) (name : List ℕ)
+    (kind : ColumnKind) (not_null : Bool) : Type 0 where
   pub order : IsWithin 5 6 last
-  pub count : length columns < COLUMN_LIMIT
+  pub count : length columns < column_limit
   pub is_name : IsName name
   pub distinct : ¬ Contains (column_names columns) name
   pub is_kind : IsKind sequences kind
@@ -114,9 +113,10 @@ abbrev pub AreBelow : ℕ → List Image → Type 0
 AreBelow number rows = AllByRecursion (λ row. row.row < number) rows
 
 -- `row`, behind `col` or `row`: numbers rise from 1 on, up to 100,000 rows; as many values as columns, and each fits its own
-pub record RowFits (last : ℕ) (tables : List Table) (nexts : List ℕ) (rows : List Image) (row table : ℕ) (values : List Value) : Type 0 where
+pub record RowFits (last : ℕ) (tables : List Table) (nexts : List ℕ) (rows : List Image) (row table : ℕ)
+    (values : List Value) : Type 0 where
   pub order : IsWithin 6 7 last
-  pub count : length rows < ROW_LIMIT
+  pub count : length rows < start_row_limit
   pub least : 1 ≤ row
   pub most : row < 2 ^ 64
   pub rising : AreBelow row rows
@@ -124,7 +124,8 @@ pub record RowFits (last : ℕ) (tables : List Table) (nexts : List ℕ) (rows :
   pub allowed : AllZip (IsAllowed nexts) (columns_of tables table) values
 
 -- and a first value that its table does not have yet
-pub record RowMayFollow (last : ℕ) (schema : SchemaView) (nexts : List ℕ) (rows : List Image) (row table : ℕ) (values : List Value) : Type 0 where
+pub record RowMayFollow (last : ℕ) (schema : SchemaView) (nexts : List ℕ) (rows : List Image) (row table : ℕ)
+    (values : List Value) : Type 0 where
   pub fits : RowFits last schema.tables nexts rows row table values
   pub key : IsNewKey schema.level (keys_of table rows) (key_of values)
 
@@ -133,20 +134,20 @@ pub record NextRowMayFollow (last : ℕ) (rows : List Image) (next : ℕ) : Type
   pub order : IsWithin 2 7 last
   pub whole : ¬ (last ≡ 5)
   pub least : 1 ≤ next
-  pub most : next ≤ NEXT_LIMIT
+  pub most : next ≤ next_limit
   pub above : AreBelow next rows
 
 -- the line has what it needs
 abbrev pub MayFollow : State → StartLine → Type 0
 MayFollow state Head = state.last ≡ 0
-MayFollow state (LevelLine level) = (state.last ≡ 1) × (level ≡ LEVEL)
+MayFollow state (LevelLine level) = (state.last ≡ 1) × (level ≡ only_level)
 MayFollow state (SeqLine name next) = SequenceMayFollow state.last state.start.schema.sequences name next
 MayFollow state (ServiceLine name rights) = ServiceMayFollow state.last state.start.schema.services name
 MayFollow state (TableLine name) = TableMayFollow state.last state.start.schema.tables name
 MayFollow state (ColumnLine name kind not_null) = ColumnMayFollow state.last state.start.schema.sequences (last_columns state.start.schema.tables) name kind not_null
 MayFollow state (RowLine row table values) = RowMayFollow state.last state.start.schema state.start.next_values state.start.rows row table values
 MayFollow state (NextRow next) = NextRowMayFollow state.last state.start.rows next
-MayFollow state (Sessions count) = (state.last ≡ 8) × (count ≤ SESSION_LIMIT)
+MayFollow state (Sessions count) = (state.last ≡ 8) × (count ≤ session_limit)
 MayFollow state End = state.last ≡ 9
 
 -- each line has what it needs in the state that those before it lead to

@@ -4,8 +4,8 @@ use Rattle.std.specs.Option.{option_map}
 use Rattle.std.specs.List.{AllByRecursion}
 use Rattle.std.specs.Str.{bytes_eq, str_to_ascii_lowercase, str_eq_ignore_ascii_case}
 use Rattle.desk_values.specs.Word.{HasOwnWords, member_with_word}
-use Rattle.desk_values.specs.declared.value.TheConstants.{TABLE_LIMIT}
-use Rattle.desk_schema.specs.declared.rules.TheConstants.{SEQUENCE_LIMIT, SERVICE_LIMIT, COLUMN_LIMIT}
+use Rattle.desk_values.specs.Limits.{table_limit}
+use Rattle.desk_schema.specs.Limits.{sequence_limit, service_limit, column_limit}
 use Rattle.desk_schema.specs.declared.schema.Service.{Service}
 use Rattle.desk_schema.specs.declared.schema.Table.{Table}
 use Rattle.desk_schema.specs.declared.schema.Column.{Column}
@@ -24,13 +24,13 @@ pub record SchemaView : Type 0 where
 -- a table has 1 to 16 columns
 pub record HasColumns (table : Table) : Type 0 where
   pub least : 1 ≤ length table.columns
-  pub most : length table.columns ≤ COLUMN_LIMIT
+  pub most : length table.columns ≤ column_limit
 
 -- how much a schema holds
 pub record IsSchema (schema : SchemaView) : Type 0 where
-  pub sequences : length schema.sequences ≤ SEQUENCE_LIMIT
-  pub services : length schema.services ≤ SERVICE_LIMIT
-  pub tables : length schema.tables ≤ TABLE_LIMIT
+  pub sequences : length schema.sequences ≤ sequence_limit
+  pub services : length schema.services ≤ service_limit
+  pub tables : length schema.tables ≤ table_limit
   pub columns : AllByRecursion HasColumns schema.tables
 
 -- the word of a service's rights

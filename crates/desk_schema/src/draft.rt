@@ -86,9 +86,22 @@ impl Model for Draft {
 
     ghost Value = { State };
 
-    ghost view = { λ a. drafted a.last (record { level = a.level; sequences = a.sequences.items; services = a.services; tables = a.tables.items }) a.next_values.items a.rows.items };
+    ghost view = { λ a. drafted a.last
+        (record {
+          level = a.level;
+          sequences = a.sequences.items;
+          services = a.services;
+          tables = a.tables.items;
+        }) a.next_values.items a.rows.items };
 
-    ghost invariant = { λ a. IsDraft (drafted a.last (record { level = a.level; sequences = a.sequences.items; services = a.services; tables = a.tables.items }) a.next_values.items a.rows.items) a.keys };
+    ghost invariant = { λ a. IsDraft
+        (drafted a.last
+        (record {
+          level = a.level;
+          sequences = a.sequences.items;
+          services = a.services;
+          tables = a.tables.items;
+        }) a.next_values.items a.rows.items) a.keys };
 }
 
 impl Draft {
@@ -167,8 +180,10 @@ impl Draft {
     /// where `name` is no name or that of another column of the table; where `kind` has limits that it does not allow, or
     /// is that of no sequence; or where the first column of a table, its key, may be null. An `Err` changes nothing.
     pub fn add_col(&mut self, name: &Txt, kind: Kind, not_null: bool) -> Result<(), DraftErr>
-        ensures ok { OnOk result (self.new ≡ added self.old (StartLine.Column name.now (with_name self.old.start.schema.sequences kind) not_null)) }
-        ensures rule { Judges result (MayFollow self.old (StartLine.Column name.now (with_name self.old.start.schema.sequences kind) not_null)) }
+        ensures ok { OnOk result
+            (self.new ≡ added self.old (StartLine.Column name.now (with_name self.old.start.schema.sequences kind) not_null)) }
+        ensures rule { Judges result
+            (MayFollow self.old (StartLine.Column name.now (with_name self.old.start.schema.sequences kind) not_null)) }
         ensures err { OnErr result (self.new ≡ self.old) }
     {
         let sequences = self.sequences.as_slice();

@@ -6,7 +6,7 @@ ghost use Rattle.desk_values.specs.Comparison.{same_key};
 ghost use Rattle.desk_values.specs.declared.value.Value.{Value};
 ghost use Rattle.desk_values.specs.declared.value.Value.TheVariants.{Null};
 ghost use Rattle.desk_schema.specs.declared.line.StartLine.{StartLine};
-ghost use Rattle.desk_values.specs.declared.limits.TheConstants.{SESSION_LIMIT};
+ghost use Rattle.desk_values.specs.Limits.{session_limit};
 ghost use Rattle.desk_schema.specs.Start.{StartView, file_lines};
 ghost use Rattle.desk_schema.specs.State.{state_of};
 ghost use Rattle.desk_schema.specs.Rules.{AreLines, MayFollow};
@@ -20,7 +20,8 @@ pub fn files_are_starts()
 
 /// The lines of a start that keeps the rules are a file, which declares just that start.
 pub fn starts_are_files()
-    ensures file { (start : StartView) (sessions : ℕ) → IsStart start → sessions ≤ SESSION_LIMIT → IsFile (file_lines start sessions) }
+    ensures file { (start : StartView) (sessions : ℕ) → IsStart start → sessions ≤ session_limit
+        → IsFile (file_lines start sessions) }
     ensures start { (start : StartView) (sessions : ℕ) → IsStart start → (state_of (file_lines start sessions)).start ≡ start }
     ensures sessions { (start : StartView) (sessions : ℕ) → (state_of (file_lines start sessions)).sessions ≡ sessions }
 {}
@@ -32,7 +33,8 @@ pub fn starts_are_sound()
 
 /// Lines grow by a line that may follow, and what they begin with is lines too.
 pub fn lines_grow()
-    ensures grown { (lines : List StartLine) (line : StartLine) → AreLines lines → MayFollow (state_of lines) line → AreLines (lines ++ line ∷ []) }
+    ensures grown { (lines : List StartLine) (line : StartLine) → AreLines lines → MayFollow (state_of lines) line
+        → AreLines (lines ++ line ∷ []) }
     ensures front { (front rest : List StartLine) → AreLines (front ++ rest) → AreLines front }
 {}
 

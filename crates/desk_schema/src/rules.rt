@@ -83,7 +83,8 @@ pub(crate) fn may_add_column(
     not_null: bool,
 ) -> bool
     requires { AllByRecursion IsName sequences.now }
-    ensures { IsTrue result ↔ ColumnMayFollow (place_of_last last) sequences.now columns.now name.now (with_name sequences.now kind) not_null }
+    ensures { IsTrue result
+        ↔ ColumnMayFollow (place_of_last last) sequences.now columns.now name.now (with_name sequences.now kind) not_null }
 {
     matches!(last, Last::Table | Last::Column)
         && columns.len() < COLUMN_LIMIT

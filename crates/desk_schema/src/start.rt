@@ -22,7 +22,8 @@ impl Model for Start {
 
     ghost view = { λ a. record { schema = a.schema; rows = a.rows; next_row = a.next_row; next_values = a.next_values.items } };
 
-    ghost invariant = { λ a. IsStart (record { schema = a.schema; rows = a.rows; next_row = a.next_row; next_values = a.next_values.items }) };
+    ghost invariant = { λ a. IsStart
+        (record { schema = a.schema; rows = a.rows; next_row = a.next_row; next_values = a.next_values.items }) };
 }
 
 impl Copied for Start {
@@ -53,6 +54,13 @@ impl Start {
             next_row,
             next_values,
         }
+    }
+
+    /// What a start keeps: the rules of its file. It does nothing: its contract is a law.
+    pub fn know_rules(&self)
+        ensures { IsStart self.now }
+    {
+        let _schema = &self.schema;
     }
 
     /// The schema.

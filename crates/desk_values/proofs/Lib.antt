@@ -10,3 +10,4 @@ pub mod Words
 pub mod Faults
 pub mod Keeping
 pub mod ValueOrder
+pub mod Keywords

@@ -23,3 +23,7 @@ member_with_word_law {W} word members own bytes member = (
   λ e. (bytes_eq-Decides (word member) bytes).0 (find_passes (λ other. bytes_eq (word other) bytes) members member e),
   λ e. ap (member_with_word word members) (sym e) ∙ own member,
 )
+
+-- members with the same word are the same
+pub same_member : {W : Type 0} (word : W → List ℕ) (members : List W) → HasOwnWords word members → (a b : W) → bytes_eq (word a) (word b) ≡ true → a ≡ b
+same_member word members own a b e = same_Some a b (sym (own a) ∙ ap (member_with_word word members) ((bytes_eq-Decides (word a) (word b)).0 e) ∙ own b)

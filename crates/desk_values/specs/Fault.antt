@@ -49,7 +49,9 @@ fault_rank OutOfRange = 18
 fault_rank DuplicateKey = 19
 
 abbrev pub all_faults : List Fault
-all_faults = Syntax ∷ UnknownTable ∷ UnknownColumn ∷ UnknownSequence ∷ UnknownService ∷ Kinds ∷ BindMissing ∷ Locked ∷ DuplicateKey ∷ NullValue ∷ OutOfRange ∷ TextTooLong ∷ ZeroDivisor ∷ Overflow ∷ ReadOnly ∷ NotConnected ∷ AlreadyConnected ∷ UnderWay ∷ TooManyRows ∷ []
+all_faults = Syntax ∷ UnknownTable ∷ UnknownColumn ∷ UnknownSequence ∷ UnknownService ∷ Kinds
+    ∷ BindMissing ∷ Locked ∷ DuplicateKey ∷ NullValue ∷ OutOfRange ∷ TextTooLong ∷ ZeroDivisor
+    ∷ Overflow ∷ ReadOnly ∷ NotConnected ∷ AlreadyConnected ∷ UnderWay ∷ TooManyRows ∷ []
 
 -- the fault with this number, where there is one
 unfoldable pub fault_numbered : ℕ → Option Fault

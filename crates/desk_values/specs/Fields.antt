@@ -10,7 +10,8 @@ Lacks byte bytes = AllByRecursion (λ other. other ≢ byte) bytes
 -- what stands before the first such byte and what stands behind it, where there is one
 abbrev pub cut_at : ℕ → List ℕ → Option (List ℕ × List ℕ)
 cut_at byte [] = None
-cut_at byte (first ∷ rest) = if first == byte then Some ([], rest) else option_map (λ parts. (first ∷ parts.0, parts.1)) (cut_at byte rest)
+cut_at byte (first ∷ rest) = if first == byte then Some ([], rest)
+    else option_map (λ parts. (first ∷ parts.0, parts.1)) (cut_at byte rest)
 
 -- the pieces between such bytes, at least one
 abbrev pub pieces : ℕ → List ℕ → List (List ℕ)

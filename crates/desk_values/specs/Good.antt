@@ -3,8 +3,7 @@ use Rattle.std.specs.Prelude.{ℕ, ◌<◌, ◌≤◌, ◌^◌, Bool, true, fals
 use Rattle.std.specs.Int.{w64}
 use Rattle.std.specs.Str.{IsUtf8}
 use Rattle.std.specs.List.{AllByRecursion}
-use Rattle.desk_values.specs.declared.text.TheConstants.{TEXT_LIMIT}
-use Rattle.desk_values.specs.declared.value.TheConstants.{BIND_LIMIT, TABLE_LIMIT}
+use Rattle.desk_values.specs.Limits.{text_limit, bind_limit, table_limit}
 use Rattle.desk_values.specs.declared.value.Value.{Value}
 use Rattle.desk_values.specs.declared.value.Value.TheVariants.{Null, Int, Text, Row, Draw}
 use Rattle.desk_values.specs.declared.value.Image.{Image}
@@ -16,7 +15,7 @@ use Rattle.desk_values.specs.declared.call.Reply.{Reply}
 
 -- a text of the desk: at most 1,000 bytes of UTF-8
 pub record IsTxt (bytes : List ℕ) : Type 0 where
-  pub limit : length bytes ≤ TEXT_LIMIT
+  pub limit : length bytes ≤ text_limit
   pub utf8 : IsUtf8 bytes
 
 -- a value whose parts are within the limits of their types
@@ -41,7 +40,7 @@ IsGoodDraw other = ⊥
 
 pub record IsGoodImage (image : Image) : Type 0 where
   pub row : image.row < 2 ^ 64
-  pub table : image.table < TABLE_LIMIT
+  pub table : image.table < table_limit
   pub left : IfSome image.left IsGoodRow
 
 -- the rows of images ascend strictly
@@ -76,7 +75,7 @@ IsDraw (Draw sequence n) = Unit {0}
 IsDraw other = ⊥
 
 pub record IsShapedImage (image : Image) : Type 0 where
-  pub table : image.table < TABLE_LIMIT
+  pub table : image.table < table_limit
   pub left : IfSome image.left HasValues
 
 abbrev pub IsShapedOutcome : Outcome → Type 0
@@ -93,7 +92,7 @@ pub record HasGoodShape (reply : Reply) : Type 0 where
 -- a call that has a text
 abbrev pub IsCall : Call → Type 0
 IsCall (Connect service) = IsTxt service
-IsCall (Sql text binds) = IsTxt text × (length binds ≤ BIND_LIMIT) × IsValues binds
+IsCall (Sql text binds) = IsTxt text × (length binds ≤ bind_limit) × IsValues binds
 IsCall Disconnect = Unit {0}
 
 -- ---- the same as tests

@@ -1,6 +1,7 @@
 -- The words of SQL that are no names.
-use Rattle.std.specs.Prelude.{ℕ, Bool, ◌==◌, List, [], ◌∷◌, codes, refl}
+use Rattle.std.specs.Prelude.{ℕ, Bool, List, [], ◌∷◌, codes, refl}
 use Rattle.std.specs.Option.{is_some}
+use Rattle.std.specs.Str.{bytes_eq}
 use Rattle.desk_values.specs.Word.{HasOwnWords, member_with_word}
 use Rattle.desk_values.specs.declared.keyword.Keyword.{Keyword}
 use Rattle.desk_values.specs.declared.keyword.Keyword.TheVariants as word
@@ -41,44 +42,9 @@ keyword_word word.Update = codes "update"
 keyword_word word.Values = codes "values"
 keyword_word word.Where = codes "where"
 
--- the place of each word in their list
-abbrev pub keyword_number : Keyword → ℕ
-keyword_number word.And = 0
-keyword_number word.Asc = 1
-keyword_number word.By = 2
-keyword_number word.Commit = 3
-keyword_number word.Count = 4
-keyword_number word.Delete = 5
-keyword_number word.Desc = 6
-keyword_number word.Dual = 7
-keyword_number word.For = 8
-keyword_number word.From = 9
-keyword_number word.Insert = 10
-keyword_number word.Into = 11
-keyword_number word.Is = 12
-keyword_number word.Max = 13
-keyword_number word.Min = 14
-keyword_number word.Nextval = 15
-keyword_number word.Not = 16
-keyword_number word.Null = 17
-keyword_number word.Only = 18
-keyword_number word.Or = 19
-keyword_number word.Order = 20
-keyword_number word.Read = 21
-keyword_number word.Rollback = 22
-keyword_number word.Rowid = 23
-keyword_number word.Savepoint = 24
-keyword_number word.Select = 25
-keyword_number word.Set = 26
-keyword_number word.Sum = 27
-keyword_number word.To = 28
-keyword_number word.Transaction = 29
-keyword_number word.Update = 30
-keyword_number word.Values = 31
-keyword_number word.Where = 32
-
+-- whether they are the same word
 abbrev pub same_keyword : Keyword → Keyword → Bool
-same_keyword a b = keyword_number a == keyword_number b
+same_keyword a b = bytes_eq (keyword_word a) (keyword_word b)
 
 -- the words, in their order
 abbrev pub all_keywords : List Keyword

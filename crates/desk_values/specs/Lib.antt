@@ -3,6 +3,7 @@ pub mod Word
 pub mod Answers
 pub mod Fault
 pub mod Keyword
+pub mod Limits
 pub mod Good
 pub mod Text
 pub mod Fields

@@ -7,7 +7,7 @@ use Rattle.std.specs.Str.Parse.{digits_value}
 use Rattle.percent_encoding.specs.Percent.{percent_decode}
 use Rattle.desk_values.specs.declared.read_err.ReadErr.{ReadErr}
 use Rattle.desk_values.specs.declared.read_err.ReadErr.TheVariants.{Bad, Memory}
-use Rattle.desk_values.specs.declared.text.TheConstants.{TEXT_LIMIT}
+use Rattle.desk_values.specs.Limits.{text_limit}
 use Rattle.desk_values.specs.declared.value.Value.{Value}
 use Rattle.desk_values.specs.declared.value.Value.TheVariants.{Null, Int, Text, Row, Draw}
 use Rattle.desk_values.specs.Answers.{Answers}
@@ -58,7 +58,7 @@ integer_of bytes = if slice_index bytes 0 == 45 then number_of (drop 1 bytes) >>
 
 -- these bytes, where they are a text
 unfoldable pub txt_in : List ℕ → Option (List ℕ)
-txt_in bytes = if nat_le (length bytes) TEXT_LIMIT && is_utf8 bytes then Some bytes else None
+txt_in bytes = if nat_le (length bytes) text_limit && is_utf8 bytes then Some bytes else None
 
 -- the text whose escaped text this is: what its escapes stand for, where that is escaped so again
 unfoldable pub escaped_of : List ℕ → Option (List ℕ)

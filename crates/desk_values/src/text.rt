@@ -1,5 +1,6 @@
 ghost use Rattle.std.specs.Prelude.{◌≡◌, ◌↔◌, ◌<◌, ◌≤◌, length, IfOk, IsErrOf};
 ghost use Rattle.std.specs.Str.{IsUtf8};
+ghost use Rattle.desk_values.specs.Limits.{text_limit};
 ghost use Rattle.desk_values.specs.declared.text.TxtErr.TheVariants.{Memory as OutOfMemory};
 
 use crate::memory::{Copied, Memory};
@@ -19,13 +20,13 @@ pub struct Txt {
 impl Model for Txt {
     ghost use Rattle.std.specs.Prelude.{List, ℕ, ◌≤◌};
     ghost use Rattle.std.specs.String.{string_bytes, string_len};
-    ghost use Rattle.desk_values.specs.declared.text.TheConstants.{TEXT_LIMIT};
+    ghost use Rattle.desk_values.specs.Limits.{text_limit};
 
     ghost Value = { List ℕ };
 
     ghost view = { λ a. string_bytes a.text };
 
-    ghost invariant = { λ a. string_len a.text ≤ TEXT_LIMIT };
+    ghost invariant = { λ a. string_len a.text ≤ text_limit };
 }
 
 /// Why bytes make no [`Txt`].
@@ -55,8 +56,8 @@ impl Txt {
     /// UTF-8 (RFC 3629: no overlong form, no surrogate, nothing above U+10FFFF); else `Memory` where memory is wanting.
     pub fn from_bytes(alloc: Global, bytes: &[u8]) -> Result<Txt, TxtErr>
         ensures ok { IfOk result (λ text. text ≡ bytes.now) }
-        ensures too_long { IsErrOf result TxtErr.TooLong ↔ (TEXT_LIMIT < length bytes.now) }
-        ensures not_utf8 { IsErrOf result TxtErr.NotUtf8 ↔ ((length bytes.now ≤ TEXT_LIMIT) × (¬ (IsUtf8 bytes.now))) }
+        ensures too_long { IsErrOf result TxtErr.TooLong ↔ (text_limit < length bytes.now) }
+        ensures not_utf8 { IsErrOf result TxtErr.NotUtf8 ↔ ((length bytes.now ≤ text_limit) × (¬ (IsUtf8 bytes.now))) }
     {
         if bytes.len() > TEXT_LIMIT {
             return Err(TxtErr::TooLong);
@@ -72,7 +73,7 @@ impl Txt {
     /// The text itself.
     pub fn as_str(&self) -> &str
         ensures value { result.now ≡ self.now }
-        ensures limit { length self.now ≤ TEXT_LIMIT }
+        ensures limit { length self.now ≤ text_limit }
         ensures utf8 { IsUtf8 self.now }
     {
         self.text.as_str()

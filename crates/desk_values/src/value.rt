@@ -1,5 +1,6 @@
 ghost use Rattle.std.specs.Prelude.{◌≡◌, ◌++◌, ◌∷◌, ◌↔◌, ◌≤◌, [], length, OnOk, OnErr, IsErrOf, IsNone, slice_get, ◌==◌};
 ghost use Rattle.std.specs.Option.{option_copied};
+ghost use Rattle.desk_values.specs.Limits.{bind_limit};
 ghost use Rattle.desk_values.specs.declared.value.BindErr.TheVariants.{Memory as OutOfMemory};
 
 use crate::list::List;
@@ -75,13 +76,13 @@ pub struct Binds {
 impl Model for Binds {
     ghost use Rattle.std.specs.Prelude.{List, ◌≤◌, length};
     ghost use Rattle.desk_values.specs.declared.value.Value.{Value as Bind};
-    ghost use Rattle.desk_values.specs.declared.value.TheConstants.{BIND_LIMIT};
+    ghost use Rattle.desk_values.specs.Limits.{bind_limit};
 
     ghost Value = { List Bind };
 
     ghost view = { λ a. a.values };
 
-    ghost invariant = { λ a. length a.values ≤ BIND_LIMIT };
+    ghost invariant = { λ a. length a.values ≤ bind_limit };
 }
 
 /// Why a bind was not added.
@@ -115,7 +116,7 @@ impl Binds {
 
     /// The binds of a list of at most 16 values.
     pub fn from_values(values: Values) -> Self
-        requires { length values ≤ BIND_LIMIT }
+        requires { length values ≤ bind_limit }
         ensures { result ≡ values }
     {
         Binds { values }
@@ -124,7 +125,7 @@ impl Binds {
     /// How many binds there are.
     pub fn len(&self) -> usize
         ensures count { result ≡ length self.now }
-        ensures limit { result ≤ BIND_LIMIT }
+        ensures limit { result ≤ bind_limit }
     {
         self.values.len()
     }
@@ -147,7 +148,7 @@ impl Binds {
     /// The binds in order.
     pub fn as_slice(&self) -> &[Value]
         ensures value { result.now ≡ self.now }
-        ensures limit { length self.now ≤ BIND_LIMIT }
+        ensures limit { length self.now ≤ bind_limit }
     {
         self.values.as_slice()
     }
@@ -156,7 +157,7 @@ impl Binds {
     /// changes nothing.
     pub fn push(&mut self, value: Value) -> Result<(), BindErr>
         ensures ok { OnOk result (self.new ≡ self.old ++ value ∷ []) }
-        ensures full { IsErrOf result BindErr.Full ↔ (length self.old ≡ BIND_LIMIT) }
+        ensures full { IsErrOf result BindErr.Full ↔ (length self.old ≡ bind_limit) }
         ensures err { OnErr result (self.new ≡ self.old) }
     {
         if self.values.len() == BIND_LIMIT {

@@ -18,14 +18,14 @@ use Rattle.desk_values.proofs.Faults.{numbered_again}
 use Rattle.id_pairs.specs.Pairs.{IdPair}
 use Rattle.replay_history.specs.declared.report.Class.{Class}
 use Rattle.replay_history.specs.declared.report.Class.TheVariants.{Same, MutatedError, RowsModified, RowsFetched, RowContents, Images}
-use Rattle.carrying_law.specs.Carried.{carried_images, carried_row, carried_rows}
+use Rattle.id_pairs.specs.Carrying.Carried.{carried_images, carried_row, carried_rows}
 use Rattle.divergence.specs.Class.{equal_carried, fits, lines}
-use Rattle.bag_laws.specs.Equality.{same_bag, same_map}
-use Rattle.bag_laws.specs.Laws.{AreSameMaps}
+use Rattle.divergence.specs.Bags.Equality.{same_bag, same_map}
+use Rattle.divergence.specs.Bags.Laws.{AreSameMaps}
 use Rattle.divergence.specs.Laws.{IsSameOutcome, LongerMapsKeepSame, SameWhereEqual, rows, count, committed, rolled_back, marked, connected, disconnected, refused}
-use Rattle.carrying_law.proofs.Carrying.{each_length, images_longer, rows_longer}
-use Rattle.bag_laws.proofs.SameImages.{map_decides}
-use Rattle.bag_laws.proofs.SameRows.{bag_decides}
+use Rattle.id_pairs.proofs.Carrying.Carrying.{each_length, images_longer, rows_longer}
+use Rattle.divergence.proofs.Bags.SameImages.{map_decides}
+use Rattle.divergence.proofs.Bags.SameRows.{bag_decides}
 
 one_fault : (fault other : Fault) → fault_number fault ≡ fault_number other → fault ≡ other
 unfolding fault_numbered

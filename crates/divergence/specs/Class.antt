@@ -10,8 +10,8 @@ use Rattle.id_pairs.specs.Pairs.{IdPair}
 use Rattle.replay_history.specs.declared.report.Class.{Class}
 use Rattle.replay_history.specs.declared.report.Class.TheVariants.{Same, NewError, GoneError, MutatedError, RowsModified, RowsFetched, RowContents, Images, Shape}
 use Rattle.replay_history.specs.Class.{class_number}
-use Rattle.carrying_law.specs.Carried.{carried_images, carried_rows}
-use Rattle.bag_laws.specs.Equality.{same_bag, same_map}
+use Rattle.id_pairs.specs.Carrying.Carried.{carried_images, carried_rows}
+use Rattle.divergence.specs.Bags.Equality.{same_bag, same_map}
 
 abbrev pub is_refused : Outcome → Bool
 is_refused (Refused fault) = true
@@ -68,4 +68,5 @@ is_committed other = false
 
 -- a call that differs, and writes in the capture or in the replay
 abbrev pub is_write_divergence : List IdPair → Reply → Reply → Bool
-is_write_divergence pairs captured replayed = not (class_number (class_between pairs captured replayed) == class_number Same) && (is_committed captured.outcome || is_committed replayed.outcome)
+is_write_divergence pairs captured replayed = not (class_number (class_between pairs captured replayed) == class_number Same)
+    && (is_committed captured.outcome || is_committed replayed.outcome)

@@ -12,16 +12,18 @@ use Rattle.id_pairs.specs.Pairs.{IdPair}
 use Rattle.replay_history.specs.declared.report.Class.{Class}
 use Rattle.replay_history.specs.declared.report.Class.TheVariants.{Same}
 use Rattle.replay_history.specs.Class.{class_number}
-use Rattle.carrying_law.specs.Carried.{carried_images, carried_rows}
-use Rattle.bag_laws.specs.Laws.{AreSameMaps}
+use Rattle.id_pairs.specs.Carrying.Carried.{carried_images, carried_rows}
+use Rattle.divergence.specs.Bags.Laws.{AreSameMaps}
 use Rattle.divergence.specs.Class.{class_between, fits, lines}
 
 -- equal outcomes, with each captured id replaced by its image: rows in whatever order, images as maps, counts and faults as
 -- they are
 pub data IsSameOutcome (pairs : List IdPair) : Outcome → Outcome → Type 0 where
-  rows : (found carried others : List (List Value)) → carried_rows pairs found ≡ Some carried → IsPermutation carried others → IsSameOutcome pairs (Rows found) (Rows others)
+  rows : (found carried others : List (List Value)) → carried_rows pairs found ≡ Some carried
+      → IsPermutation carried others → IsSameOutcome pairs (Rows found) (Rows others)
   count : (n : ℕ) → IsSameOutcome pairs (Count n) (Count n)
-  committed : (images carried others : List Image) → carried_images pairs images ≡ Some carried → AreSameMaps carried others → IsSameOutcome pairs (Committed images) (Committed others)
+  committed : (images carried others : List Image) → carried_images pairs images ≡ Some carried
+      → AreSameMaps carried others → IsSameOutcome pairs (Committed images) (Committed others)
   rolled_back : IsSameOutcome pairs RolledBack RolledBack
   marked : IsSameOutcome pairs Marked Marked
   connected : IsSameOutcome pairs Connected Connected
@@ -30,7 +32,8 @@ pub data IsSameOutcome (pairs : List IdPair) : Outcome → Outcome → Type 0 wh
 
 -- the class is Same exactly where the outcomes are equal
 abbrev pub SameWhereEqual : Type 0
-SameWhereEqual = (pairs : List IdPair) (captured replayed : Reply) → (class_between pairs captured replayed ≡ Same) ↔ IsSameOutcome pairs captured.outcome replayed.outcome
+SameWhereEqual = (pairs : List IdPair) (captured replayed : Reply)
+    → (class_between pairs captured replayed ≡ Same) ↔ IsSameOutcome pairs captured.outcome replayed.outcome
 
 -- the lines above that of a class; all of them, for Same
 abbrev pub lines_above : Class → List Class
@@ -39,8 +42,10 @@ lines_above class = take_while (λ line. not (class_number line == class_number 
 -- the line of the class fits, and none above it
 abbrev pub ClassesByPlace : Type 0
 ClassesByPlace = (pairs : List IdPair) (captured replayed : Reply) → let class = class_between pairs captured replayed in
-    (fits pairs captured.outcome replayed.outcome class ≡ true) × AllByRecursion (λ line. fits pairs captured.outcome replayed.outcome line ≡ false) (lines_above class)
+    (fits pairs captured.outcome replayed.outcome class ≡ true)
+    × AllByRecursion (λ line. fits pairs captured.outcome replayed.outcome line ≡ false) (lines_above class)
 
 -- pairs that are learnt later part nothing that was the same
 abbrev pub LongerMapsKeepSame : Type 0
-LongerMapsKeepSame = (pairs more : List IdPair) (captured replayed : Reply) → class_between pairs captured replayed ≡ Same → class_between (pairs ++ more) captured replayed ≡ Same
+LongerMapsKeepSame = (pairs more : List IdPair) (captured replayed : Reply)
+    → class_between pairs captured replayed ≡ Same → class_between (pairs ++ more) captured replayed ≡ Same

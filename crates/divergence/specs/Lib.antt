@@ -1,2 +1,3 @@
 pub mod Class
 pub mod Laws
+pub mod Bags

@@ -1,6 +1,6 @@
 ghost use Rattle.std.specs.Prelude.{◌≡◌, List as Sequence, Option as Maybe, IfOk};
 ghost use Rattle.id_pairs.specs.Pairs.{IdPair};
-ghost use Rattle.carrying_law.specs.Carried.{carried_image, carried_number, carried_value, each_some};
+ghost use Rattle.id_pairs.specs.Carrying.Carried.{carried_image, carried_number, carried_value, each_some};
 
 use desk_values::{Copied, Image, List, Memory, Value};
 use remap_ids::{Id, IdMap};

@@ -1,6 +1,6 @@
 ghost use Rattle.std.specs.Prelude.{◌≡◌, ◌&&◌, false, length, ◌==◌, if◌then◌else◌, IfOk, IsOk};
-ghost use Rattle.bag_laws.specs.Equality.{same_bag, same_map};
-ghost use Rattle.carrying_law.specs.Carried.{carried_images, carried_rows};
+ghost use Rattle.divergence.specs.Bags.Equality.{same_bag, same_map};
+ghost use Rattle.id_pairs.specs.Carrying.Carried.{carried_images, carried_rows};
 ghost use Rattle.divergence.specs.Class.{class_between, equal_carried, holds_list, variant};
 
 use crate::carry::Carry;
@@ -20,7 +20,8 @@ pub fn class_of(
     replayed: &Reply,
 ) -> Result<Class, Memory>
     ensures class { IfOk result (λ class. class ≡ class_between map.now.pairs captured.now replayed.now) }
-    ensures succeeds { (holds_list captured.now.outcome && (variant captured.now.outcome == variant replayed.now.outcome)) ≡ false → IsOk result }
+    ensures succeeds { (holds_list captured.now.outcome && (variant captured.now.outcome == variant replayed.now.outcome)) ≡ false
+        → IsOk result }
 {
     match (&captured.outcome, &replayed.outcome) {
         (Outcome::Refused(fault), Outcome::Refused(other)) => {
@@ -58,7 +59,11 @@ fn class_of_rows(
     rows: &RowList,
     others: &RowList,
 ) -> Result<Class, Memory>
-    ensures { IfOk result (λ class. class ≡ (if length rows.now == length others.now then (if equal_carried same_bag (carried_rows map.now.pairs rows.now) others.now then Class.Same else Class.RowContents) else Class.RowsFetched)) }
+    ensures { IfOk result
+        (λ class. class
+        ≡ (if length rows.now == length others.now
+        then (if equal_carried same_bag (carried_rows map.now.pairs rows.now) others.now then Class.Same else Class.RowContents)
+        else Class.RowsFetched)) }
 {
     if rows.len() != others.len() {
         return Ok(Class::RowsFetched);

@@ -5,7 +5,7 @@ ghost use Rattle.std.specs.List.{list_all};
 ghost use Rattle.std.specs.Option.{option_copied};
 ghost use Rattle.std.specs.Ordering.{nat_cmp};
 ghost use Rattle.std.specs.BTreeMap.{get};
-ghost use Rattle.bag_laws.specs.Equality.{found, same_bag, same_image, same_map};
+ghost use Rattle.divergence.specs.Bags.Equality.{found, same_bag, same_image, same_map};
 
 use desk_values::{Image, Memory, RowList, Same, same_items, sort_rows};
 use std::alloc::Global;
@@ -44,7 +44,9 @@ fn by_row(alloc: Global, images: &[Image]) -> Result<BTreeMap<u64, &Image>, Memo
 
 // Whether the two maps have the same image at the rows of these.
 fn agree_on(images: &[Image], left: &BTreeMap<u64, &Image>, right: &BTreeMap<u64, &Image>) -> bool
-    ensures { result ≡ list_all (λ image. same_image (option_copied (get nat_cmp left.now image.row)) (option_copied (get nat_cmp right.now image.row))) images.now }
+    ensures { result ≡ list_all
+        (λ image. same_image (option_copied (get nat_cmp left.now image.row))
+        (option_copied (get nat_cmp right.now image.row))) images.now }
 {
     for image in images {
         if !same_image(left.get(&image.row), right.get(&image.row)) {

@@ -2,8 +2,8 @@
 
 ghost use Rattle.divergence.specs.Laws.{ClassesByPlace, LongerMapsKeepSame, SameWhereEqual};
 
-pub use bag_laws::laws::one_ascending_list;
-pub use carrying_law::laws::renamed_are_carried;
+pub use crate::bag_laws::one_ascending_list;
+pub use id_pairs::carrying_laws::renamed_are_carried;
 
 /// The class is `Same` exactly where the outcomes are equal: rows as bags, images as maps, counts and faults as they are,
 /// each captured id being replaced by its image.

@@ -5,9 +5,10 @@
 //! images are to be compared.
 //!
 //! A captured id counts as the replayed one that stands for it. Rows are compared as bags and images as maps from rows: their
-//! order is no part of the comparison.
+//! order is no part of the comparison: laws say how bags and maps are told by counts and by rows (`bag_laws`).
 #![tactic(auto)]
 
+pub mod bag_laws;
 mod carry;
 mod class;
 mod equality;

@@ -29,7 +29,8 @@ Lead {S} Comes done s [] after = after ≡ s
 Lead {S} Comes done s (text ∷ texts) after = (t : S) × Goes Comes done s text t × Lead Comes done t texts after
 
 -- the bytes are such lines, up to the last of all
-pub record IsFile {S : Type 0} (Comes : S → List ℕ → S → Type 0) (done : S → Bool) (s : S) (bytes : List ℕ) (after : S) : Type 0 where
+pub record IsFile {S : Type 0} (Comes : S → List ℕ → S → Type 0) (done : S → Bool) (s : S)
+    (bytes : List ℕ) (after : S) : Type 0 where
   pub texts : List (List ℕ)
   pub lead : Lead Comes done s texts after
   pub text : bytes ≡ lines_text texts
@@ -41,7 +42,8 @@ pub record IsStuck {S : Type 0} (Comes : S → List ℕ → S → Type 0) (done 
   pub ended : done s ≡ true → rest ≢ []
 
 -- the line of this number is the first that is not whole or may not come
-pub record IsBadAt {S : Type 0} (Comes : S → List ℕ → S → Type 0) (done : S → Bool) (s : S) (first : ℕ) (bytes : List ℕ) (n : ℕ) : Type 0 where
+pub record IsBadAt {S : Type 0} (Comes : S → List ℕ → S → Type 0) (done : S → Bool) (s : S) (first : ℕ)
+    (bytes : List ℕ) (n : ℕ) : Type 0 where
   pub texts : List (List ℕ)
   pub before : S
   pub rest : List ℕ
@@ -60,7 +62,8 @@ abbrev pub SaysOne : {S : Type 0} → (S → List ℕ → S → Type 0) → Type
 SaysOne {S} Comes = (s : S) (text : List ℕ) (a b : S) → Comes s text a → Comes s text b → a ≡ b
 
 -- what reading answers: just this, unless memory is wanting
-abbrev pub Says : {U S : Type 0} → Result U FormErr → S → (S → List ℕ → S → Type 0) → (S → Bool) → S → List ℕ → Type 0
+abbrev pub Says : {U S : Type 0} → Result U FormErr → S → (S → List ℕ → S → Type 0) → (S → Bool)
+    → S → List ℕ → Type 0
 Says (Ok u) after Comes done s bytes = IsFile Comes done s bytes after
 Says (Err (Bad n)) after Comes done s bytes = IsBadAt Comes done s 1 bytes n
 Says (Err Memory) after Comes done s bytes = Unit {0}

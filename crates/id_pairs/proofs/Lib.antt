@@ -1,2 +1,3 @@
 pub mod SameIds
 pub mod New
+pub mod Carrying

@@ -1,3 +1,4 @@
 pub mod Ids
 pub mod Pairs
 pub mod Renaming
+pub mod Carrying

@@ -7,6 +7,7 @@
 ghost use Rattle.std.specs.Prelude.{◌≡◌};
 ghost use Rattle.id_pairs.specs.Ids.{id_of, id_value, same_id};
 
+pub mod carrying_laws;
 pub mod laws;
 
 use desk_values::Value;

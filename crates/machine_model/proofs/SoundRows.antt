@@ -3,7 +3,7 @@ use Rattle.std.proofs.Common.{◌≡◌, ◌∙◌, ℕ, zero, suc, ◌+◌, ◌
 use Rattle.std.specs.Prelude.{if◌then◌else◌, Option, None, Some, IsSomeAnd}
 use Rattle.std.specs.Ordering.{is_lt}
 use Rattle.std.specs.List.{AllByRecursion, AllZip}
-use Rattle.desk_values.specs.declared.value.TheConstants.{TABLE_LIMIT}
+use Rattle.desk_values.specs.Limits.{table_limit}
 use Rattle.desk_values.specs.declared.value.Value.{Value}
 use Rattle.desk_values.specs.declared.value.Image.{Image}
 use Rattle.desk_values.specs.Good.{Ascend, HasValues, IsShapedImage}
@@ -26,7 +26,7 @@ use Rattle.machine_model.proofs.Members.{each_filtered, each_joined, each_mapped
 
 -- a row that is there, in a table that there may be
 pub record IsStanding (image : Image) : Type 0 where
-  pub table : image.table < TABLE_LIMIT
+  pub table : image.table < table_limit
   pub values : HasValues (values_in image)
 
 is_there_by : (left : Option (List Value)) (image : Image) → image.left ≡ left → HasValues (values_in image) → is_there image ≡ true
@@ -132,7 +132,7 @@ there : (nexts : List ℕ) (columns : List Column) (left : Option (List Value)) 
 there nexts columns None image is some fit = absurd fit
 there nexts columns (Some values) image is some fit = rw is (some_values nexts columns values some fit)
 
-module _ (tables : List Table) (nexts : List ℕ) (count : length tables ≤ TABLE_LIMIT) (have : AllByRecursion HasColumns tables) where
+module _ (tables : List Table) (nexts : List ℕ) (count : length tables ≤ table_limit) (have : AllByRecursion HasColumns tables) where
   stands_first : (row : Image) → IsSoundRow tables nexts row → IsStanding row
   stands_first row is = record { table = omega (arith, is.is_table); values = there nexts (columns_of tables row.table) row.left row refl (some_columns tables row.table have is.is_table) is.allowed }
 

@@ -19,18 +19,18 @@ use Rattle.machine_model.proofs.Laying.{rising_lay_all}
 use Rattle.machine_model.specs.Request.{request_of, table_in}
 use Rattle.machine_model.specs.Draws.{moved}
 use Rattle.machine_model.specs.Step.{answer_in, committed_in, replies_of, reply_in, session_after, step, with_commit}
-use Rattle.machine_model.specs.Sound.{AreSound, AreStanding, HasSoundChanges, IsSound}
+use Rattle.machine_model.specs.Sound.{AreSound, AreStanding, HasSoundChanges, IsSoundState}
 use Rattle.machine_model.proofs.Members.{each_joined, each_taken, each_weaker, each_repeated, each_set, one_of}
 use Rattle.machine_model.proofs.SoundRows.{AreShaped, IsStanding, ascending_rises, sound_none, stand_first, stand_laid_all, stand_seen, stands_there}
 use Rattle.machine_model.proofs.SoundPlans.{sound_request}
 use Rattle.machine_model.proofs.SoundAnswers.{IsSoundAnswer, IsSoundView, answer_sound}
 
-pub opening_sound : (start : StartView) → IsStart start → IsSound (opening start)
+pub opening_sound : (start : StartView) → IsStart start → IsSoundState (opening start)
 opening_sound start is =
     let first = sound_start start is in
     record { start = first; commits = tt; next_values = first.sound.sequences.counts; count = length-replicate 64 disconnected; sessions = each_repeated HasSoundChanges 64 disconnected sound_none }
 
-pub tables_stand : (state : State) (n : ℕ) → IsSound state → AreStanding (tables state n)
+pub tables_stand : (state : State) (n : ℕ) → IsSoundState state → AreStanding (tables state n)
 tables_stand state n is =
     let schema = is.start.is_schema in
     let first = stand_first state.start.schema.tables state.start.next_values schema.tables schema.columns state.start.rows is.start.sound.sound_rows.each in
@@ -43,7 +43,7 @@ tables_stand state n is =
 
 -- ---- answers
 
-module _ (state : State) (is : IsSound state) (session : ℕ) where
+module _ (state : State) (is : IsSoundState state) (session : ℕ) where
   own_sound : AreSound (session_at state session).own.changes
   own_sound = one_of HasSoundChanges state.sessions session disconnected sound_none is.sessions
 
@@ -59,7 +59,7 @@ module _ (state : State) (is : IsSound state) (session : ℕ) where
       let request = request_of state.start.schema call in
       answer_sound state.start.schema is.start.is_schema (view_of state session (table_in request)) (view_sound (table_in request)) state.next_values is.next_values state.next_row request (sound_request state.start.schema call)
 
-pub reply_shaped : (state : State) (session : ℕ) (call : Call) → IsSound state → HasGoodShape (reply_in state session call)
+pub reply_shaped : (state : State) (session : ℕ) (call : Call) → IsSoundState state → HasGoodShape (reply_in state session call)
 reply_shaped state session call is = (answered state is session call).reply
 
 -- ---- steps
@@ -76,7 +76,7 @@ pub length_moved : (draws : List Value) (sequence : ℕ) (ns : List ℕ) → len
 length_moved draws sequence [] = refl
 length_moved draws sequence (n ∷ ns) = ap suc (length_moved draws (sequence + 1) ns)
 
-pub step_sound : (state : State) (session : ℕ) (call : Call) → IsSound state → IsSound (step state session call)
+pub step_sound : (state : State) (session : ℕ) (call : Call) → IsSoundState state → IsSoundState (step state session call)
 step_sound state session call is =
     let a = answer_in state session call in
     let sound = answered state is session call in
@@ -91,7 +91,7 @@ step_sound state session call is =
 
 -- ---- runs
 
-run_shaped : (state : State) (calls : List (ℕ × Call)) → IsSound state → AllByRecursion HasGoodShape (replies_of state calls)
+run_shaped : (state : State) (calls : List (ℕ × Call)) → IsSoundState state → AllByRecursion HasGoodShape (replies_of state calls)
 run_shaped state [] is = tt
 run_shaped state (call ∷ calls) is = (reply_shaped state call.0 call.1 is, run_shaped (step state call.0 call.1) calls (step_sound state call.0 call.1 is))
 

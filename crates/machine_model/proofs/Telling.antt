@@ -29,7 +29,7 @@ use Rattle.machine_model.specs.Request.{request_of, statement, table_in, unsound
 use Rattle.machine_model.specs.Answer.{Answer, executed, reply_of, unless}
 use Rattle.machine_model.specs.Step.{after, after_made, answer_in, answer_to, committed_in, reply_in, step, view_for, with_commit}
 use Rattle.machine_model.specs.Inside.Decision.{Decides, Executes, done_so}
-use Rattle.machine_model.specs.Sound.{IsSound}
+use Rattle.machine_model.specs.Sound.{IsSoundState}
 use Rattle.machine_model.specs.Machine.{Running}
 use Rattle.machine_model.specs.Inside.Machine.{Keeps}
 use Rattle.machine_model.proofs.SoundSteps.{opening_sound, reply_shaped, step_sound}
@@ -77,10 +77,10 @@ module _ (state : State) (session : ℕ) (call : Call) (decision : Decision) (de
   pub replied : decision.reply ≡ reply_in state session call
   replied = ap (λ (a : Answer). a.reply) decides.answers
 
-  pub followed_sound : IsSound state → IsSound (after state session (done_so (plain_view (session_at state session)) decision.reply decision.deed))
-  followed_sound sound = subst IsSound (sym followed) (step_sound state session call sound)
+  pub followed_sound : IsSoundState state → IsSoundState (after state session (done_so (plain_view (session_at state session)) decision.reply decision.deed))
+  followed_sound sound = subst IsSoundState (sym followed) (step_sound state session call sound)
 
-  pub replied_well : IsSound state → HasGoodShape decision.reply
+  pub replied_well : IsSoundState state → HasGoodShape decision.reply
   replied_well sound = subst HasGoodShape (sym replied) (reply_shaped state session call sound)
 
 -- ---- what the machine keeps
@@ -101,7 +101,7 @@ latest_after : (start : List Image) (commits : List (List Image)) (current : Lis
 latest_after start commits current [] latest = rw (lay_nothing 0 current) latest
 latest_after start commits current (change ∷ changes) latest = latest_more start commits 0 current (change ∷ changes) latest
 
-pub kept : (running : Running) (current : List (List Image)) (session : ℕ) (a : Answer) → Keeps running current → running.steps < 1048576 → IsSound (after running.state session a) → Keeps (record { state = after running.state session a; steps = running.steps + 1 }) (lay_tables 0 current (committed_in a.reply.outcome))
+pub kept : (running : Running) (current : List (List Image)) (session : ℕ) (a : Answer) → Keeps running current → running.steps < 1048576 → IsSoundState (after running.state session a) → Keeps (record { state = after running.state session a; steps = running.steps + 1 }) (lay_tables 0 current (committed_in a.reply.outcome))
 kept running current session a keeps few sound = record {
   sound = sound;
   latest = latest_after running.state.start.rows running.state.commits current (committed_in a.reply.outcome) keeps.latest;

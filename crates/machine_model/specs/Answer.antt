@@ -18,7 +18,7 @@ use Rattle.sql_eval.specs.declared.faults.Faults.{Faults}
 use Rattle.sql_eval.specs.Faults.{any_fault, joined}
 use Rattle.sql_eval.specs.Totals.{total_over, values_in}
 use Rattle.machine_model.specs.declared.causes.Causes.{Causes}
-use Rattle.machine_model.specs.declared.deciding.TheConstants.{ROW_LIMIT}
+use Rattle.machine_model.specs.Limits.{row_limit}
 use Rattle.machine_model.specs.declared.effect.Effect.{Effect}
 use Rattle.machine_model.specs.declared.effect.Writing.{Writing}
 use Rattle.machine_model.specs.declared.session.Transaction.{Transaction}
@@ -41,7 +41,7 @@ pub record Answer : Type 0 where
 
 -- more rows than a statement touches or a transaction changes
 abbrev pub is_over : ℕ → Bool
-is_over count = nat_lt ROW_LIMIT count
+is_over count = nat_lt row_limit count
 
 -- too many rows for a statement, or for its transaction
 abbrev pub too_many_rows : List Image → List Image → Bool

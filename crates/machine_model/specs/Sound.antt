@@ -1,7 +1,7 @@
 -- What holds of every state that the server comes to, so that each reply has a good shape.
 use Rattle.std.specs.Prelude.{◌≡◌, true, List, length}
 use Rattle.std.specs.List.{AllByRecursion}
-use Rattle.desk_values.specs.declared.limits.TheConstants.{SESSION_LIMIT}
+use Rattle.desk_values.specs.Limits.{session_limit}
 use Rattle.desk_values.specs.declared.value.Image.{Image}
 use Rattle.desk_values.specs.Good.{IsShapedImage}
 use Rattle.desk_schema.specs.Sound.{IsSoundStart}
@@ -22,9 +22,9 @@ pub record AreStanding (rows : List Image) : Type 0 where
 abbrev pub HasSoundChanges : Session → Type 0
 HasSoundChanges session = AreSound session.own.changes
 
-pub record IsSound (state : State) : Type 0 where
+pub record IsSoundState (state : State) : Type 0 where
   pub start : IsSoundStart state.start
   pub commits : AllByRecursion AreSound state.commits
   pub next_values : length state.next_values ≡ length state.start.schema.sequences
-  pub count : length state.sessions ≡ SESSION_LIMIT
+  pub count : length state.sessions ≡ session_limit
   pub sessions : AllByRecursion HasSoundChanges state.sessions

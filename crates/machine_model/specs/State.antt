@@ -1,7 +1,7 @@
 -- The state of the server.
 use Rattle.std.specs.Prelude.{ℕ, Bool, true, ◌&&◌, ◌||◌, false, nat_le, nat_lt, List, [], take, replicate, slice_get, slice_index_or, Option, None, Some, is_some}
 use Rattle.std.specs.List.{list_any}
-use Rattle.desk_values.specs.declared.limits.TheConstants.{SESSION_LIMIT}
+use Rattle.desk_values.specs.Limits.{session_limit}
 use Rattle.desk_values.specs.declared.value.Value.{Value}
 use Rattle.desk_values.specs.declared.value.Value.TheVariants.{Row, Draw}
 use Rattle.desk_values.specs.declared.value.Image.{Image}
@@ -33,7 +33,7 @@ disconnected = record { rights = None; snapshot = None; own = nothing }
 
 -- nothing is committed, nobody is connected
 abbrev pub opening : StartView → State
-opening start = record { start = start; commits = []; next_row = start.next_row; next_values = start.next_values; sessions = replicate SESSION_LIMIT disconnected }
+opening start = record { start = start; commits = []; next_row = start.next_row; next_values = start.next_values; sessions = replicate session_limit disconnected }
 
 abbrev pub session_at : State → ℕ → Session
 session_at state session = slice_index_or state.sessions session disconnected

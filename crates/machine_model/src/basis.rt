@@ -51,7 +51,9 @@ struct Indexed<'a> {
 /// Whether the new row has the key of another, or two others have one.
 pub fn makes_twice(with: Evaluation<'_>, basis: Basis<'_>, new: &Image) -> Result<bool, Memory>
     requires { IsBasis basis }
-    ensures { IfOk result (λ b. b ≡ repeats_key with.entry.level (map row_key (new.now ∷ rows_seen basis.entry.start.now basis.entry.commits.now basis.entry.session.now basis.entry.table))) }
+    ensures { IfOk result
+        (λ b. b ≡ repeats_key with.entry.level
+        (map row_key (new.now ∷ rows_seen basis.entry.start.now basis.entry.commits.now basis.entry.session.now basis.entry.table))) }
 {
     match indexed_rows(basis, with.level) {
         Some(indexed) => makes_indexed_twice(with, indexed, new),
@@ -75,7 +77,9 @@ fn indexed_rows<'a>(basis: Basis<'a>, level: u32) -> Option<Indexed<'a>>
     requires { IsBasis basis }
     ensures indexed { IfSome result IsIndexed }
     ensures level { IfSome result (λ indexed. level ≡ 1) }
-    ensures rows { IfSome result (λ indexed. lay indexed.rows.now (of_table indexed.table indexed.changes.now) ≡ rows_seen basis.entry.start.now basis.entry.commits.now basis.entry.session.now basis.entry.table) }
+    ensures rows { IfSome result
+        (λ indexed. lay indexed.rows.now (of_table indexed.table indexed.changes.now)
+        ≡ rows_seen basis.entry.start.now basis.entry.commits.now basis.entry.session.now basis.entry.table) }
 {
     if level != 1 || basis.session.snapshot.is_some() {
         return None;
@@ -101,7 +105,9 @@ fn makes_indexed_twice(
 ) -> Result<bool, Memory>
     requires level { with.level ≡ 1 }
     requires indexed { IsIndexed indexed }
-    ensures { IfOk result (λ b. b ≡ repeats_key with.entry.level (map row_key (new.now ∷ lay indexed.entry.rows.now (of_table indexed.entry.table indexed.entry.changes.now)))) }
+    ensures { IfOk result
+        (λ b. b ≡ repeats_key with.entry.level
+        (map row_key (new.now ∷ lay indexed.entry.rows.now (of_table indexed.entry.table indexed.entry.changes.now)))) }
 {
     let changed = shown_of(with.alloc, indexed.changes, indexed.table)?;
     if makes_key_twice(with, new, &changed)? {
@@ -114,7 +120,10 @@ fn makes_indexed_twice(
 fn some_meets_staying(with: Evaluation<'_>, indexed: Indexed<'_>, images: &[&Image]) -> bool
     requires level { with.level ≡ 1 }
     requires indexed { IsIndexed indexed }
-    ensures { result ≡ list_any (λ image. list_any (same_key with.entry.level (row_key image)) (map row_key (staying indexed.entry.rows.now (of_table indexed.entry.table indexed.entry.changes.now)))) (looked_at images.now) }
+    ensures { result ≡ list_any
+        (λ image. list_any (same_key with.entry.level (row_key image))
+        (map row_key (staying indexed.entry.rows.now (of_table indexed.entry.table indexed.entry.changes.now))))
+        (looked_at images.now) }
 {
     for image in images {
         if meets_staying(with, indexed, *image) {
@@ -128,7 +137,9 @@ fn some_meets_staying(with: Evaluation<'_>, indexed: Indexed<'_>, images: &[&Ima
 fn meets_staying(with: Evaluation<'_>, indexed: Indexed<'_>, image: &Image) -> bool
     requires level { with.level ≡ 1 }
     requires indexed { IsIndexed indexed }
-    ensures { result ≡ list_any (same_key with.entry.level (row_key image.now)) (map row_key (staying indexed.entry.rows.now (of_table indexed.entry.table indexed.entry.changes.now))) }
+    ensures { result
+        ≡ list_any (same_key with.entry.level (row_key image.now))
+        (map row_key (staying indexed.entry.rows.now (of_table indexed.entry.table indexed.entry.changes.now))) }
 {
     let key = row_key(with, image);
     let Some(row) = indexed.index.row_of(print_of(key)) else {

@@ -29,7 +29,10 @@ pub fn delete(
     seen: Seen<'_>,
     condition: &Option<Checked>,
 ) -> Result<Decision, Memory>
-    ensures { let env = env_of with.entry in let view = view_of_seen seen.entry in IfOk result (λ d. Decides view (ruled seen.entry.table view [] (delete_causes env view (condition_of condition.now)) (delete_effect env view (condition_of condition.now))) d) }
+    ensures { let env = env_of with.entry in let view = view_of_seen seen.entry in
+        IfOk result (λ d. Decides view
+        (ruled seen.entry.table view [] (delete_causes env view (condition_of condition.now))
+        (delete_effect env view (condition_of condition.now))) d) }
 {
     let (found, fault) = judged(with, seen, condition)?;
     let draws = List::new(with.alloc);
@@ -48,8 +51,10 @@ fn judged<'a>(
     seen: Seen<'a>,
     condition: &Option<Checked>,
 ) -> Result<(Vec<&'a Image>, Option<Fault>), Memory>
-    ensures found { IfOk result (λ r. looked_at r.0.items ≡ matching (env_of with.entry) (condition_of condition.now) (looked_at seen.entry.rows.now)) }
-    ensures fault { IfOk result (λ r. r.1 ≡ ranked (delete_causes (env_of with.entry) (view_of_seen seen.entry) (condition_of condition.now))) }
+    ensures found { IfOk result
+        (λ r. looked_at r.0.items ≡ matching (env_of with.entry) (condition_of condition.now) (looked_at seen.entry.rows.now)) }
+    ensures fault { IfOk result
+        (λ r. r.1 ≡ ranked (delete_causes (env_of with.entry) (view_of_seen seen.entry) (condition_of condition.now))) }
 {
     let (found, faults) = sifted(with, condition, seen.rows)?;
     let too_many = touch_too_many(&seen.session.own.changes, &found);

@@ -65,7 +65,8 @@ pub fn enact(
     deed: Deed,
 ) -> Result<(), Memory>
     ensures commits { OnOk result (commits.new.items ≡ with_commit commits.old.items (committed_by (plain_view session.old) deed)) }
-    ensures current { OnOk result (stocked current.new.items ≡ lay_tables 0 (stocked current.old.items) (committed_by (plain_view session.old) deed)) }
+    ensures current { OnOk result
+        (stocked current.new.items ≡ lay_tables 0 (stocked current.old.items) (committed_by (plain_view session.old) deed)) }
     ensures session { OnOk result (session.new ≡ session_left session.old (length commits.old.items) deed) }
     ensures err_commits { OnErr result (commits.new.items ≡ commits.old.items) }
     ensures err_current { OnErr result (stocked current.new.items ≡ stocked current.old.items) }

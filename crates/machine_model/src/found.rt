@@ -52,7 +52,8 @@ pub fn matching<'a>(
     condition: &Option<Checked>,
     rows: &[&'a Image],
 ) -> Result<Vec<&'a Image>, Memory>
-    ensures { IfOk result (λ found. looked_at found.items ≡ matching (env_of with.entry) (condition_of condition.now) (looked_at rows.now)) }
+    ensures { IfOk result
+        (λ found. looked_at found.items ≡ matching (env_of with.entry) (condition_of condition.now) (looked_at rows.now)) }
 {
     let mut found = Vec::new(with.alloc);
     for image in rows {
@@ -69,7 +70,8 @@ pub fn sifted<'a>(
     condition: &Option<Checked>,
     rows: &[&'a Image],
 ) -> Result<(Vec<&'a Image>, Faults), Memory>
-    ensures rows { IfOk result (λ r. looked_at r.0.items ≡ matching (env_of with.entry) (condition_of condition.now) (looked_at rows.now)) }
+    ensures rows { IfOk result
+        (λ r. looked_at r.0.items ≡ matching (env_of with.entry) (condition_of condition.now) (looked_at rows.now)) }
     ensures faults { IfOk result (λ r. r.1 ≡ where_faults (env_of with.entry) (condition_of condition.now) (looked_at rows.now)) }
 {
     match condition {
@@ -84,7 +86,8 @@ fn sifted_by<'a>(
     condition: &Checked,
     rows: &[&'a Image],
 ) -> Result<(Vec<&'a Image>, Faults), Memory>
-    ensures rows { IfOk result (λ r. looked_at r.0.items ≡ matching (env_of with.entry) (Some (term_of condition.now)) (looked_at rows.now)) }
+    ensures rows { IfOk result
+        (λ r. looked_at r.0.items ≡ matching (env_of with.entry) (Some (term_of condition.now)) (looked_at rows.now)) }
     ensures faults { IfOk result (λ r. r.1 ≡ any_fault (truth_in (env_of with.entry) (term_of condition.now)) (looked_at rows.now)) }
 {
     let mut found = Vec::new(with.alloc);
@@ -142,7 +145,8 @@ pub fn evaluated(
     faults: Faults,
 ) -> Result<(Value, Faults), Memory>
     ensures value { IfOk result (λ r. r.0 ≡ sound (value_of with.entry.level row values.now with.entry.binds.now (term_of expr.now))) }
-    ensures faults { IfOk result (λ r. r.1 ≡ noted faults (value_of with.entry.level row values.now with.entry.binds.now (term_of expr.now))) }
+    ensures faults { IfOk result
+        (λ r. r.1 ≡ noted faults (value_of with.entry.level row values.now with.entry.binds.now (term_of expr.now))) }
 {
     match eval(with.alloc, with.level, row, values, with.binds, expr) {
         Ok(value) => Ok((value, faults)),
@@ -159,7 +163,8 @@ pub fn values_for(
     faults: Faults,
 ) -> Result<(Values, Faults), Memory>
     ensures values { IfOk result (λ r. r.0 ≡ values_for (env_of with.entry) (map term_of exprs.now) image.now) }
-    ensures faults { IfOk result (λ r. r.1 ≡ joined faults (any_fault (value_in (env_of with.entry) image.now) (map term_of exprs.now))) }
+    ensures faults { IfOk result
+        (λ r. r.1 ≡ joined faults (any_fault (value_in (env_of with.entry) image.now) (map term_of exprs.now))) }
 {
     let own = values_of(with, image);
     let mut faults = faults;
@@ -179,8 +184,10 @@ pub fn total_value(
     found: &[&Image],
     faults: Faults,
 ) -> Result<(Value, Faults), Memory>
-    ensures value { IfOk result (λ r. r.0 ≡ sound (total_over with.entry.level with.entry.binds.now (total_of agg.now) (looked_at found.now))) }
-    ensures faults { IfOk result (λ r. r.1 ≡ noted faults (total_over with.entry.level with.entry.binds.now (total_of agg.now) (looked_at found.now))) }
+    ensures value { IfOk result
+        (λ r. r.0 ≡ sound (total_over with.entry.level with.entry.binds.now (total_of agg.now) (looked_at found.now))) }
+    ensures faults { IfOk result
+        (λ r. r.1 ≡ noted faults (total_over with.entry.level with.entry.binds.now (total_of agg.now) (looked_at found.now))) }
 {
     match total(with.level, found, with.binds, agg) {
         Ok(value) => Ok((value, faults)),

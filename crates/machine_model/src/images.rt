@@ -45,7 +45,15 @@ pub fn same_row_key(with: Evaluation<'_>, a: &Image, b: &Image) -> bool
 
 /// The causes with those that new images bring, column by column.
 pub fn tested(with: Evaluation<'_>, columns: &[Column], images: &[Image], causes: Causes) -> Causes
-    ensures { result ≡ record causes { null = causes.null || any_value violates_not_null columns.now images.now; too_long = causes.too_long || any_value exceeds columns.now images.now; out_of_range = causes.out_of_range || any_value leaves columns.now images.now } }
+    ensures { result
+        ≡ record causes {
+          null = causes.null
+              || any_value violates_not_null columns.now images.now;
+          too_long = causes.too_long
+              || any_value exceeds columns.now images.now;
+          out_of_range = causes.out_of_range
+              || any_value leaves columns.now images.now;
+        } }
 {
     let mut causes = causes;
     for image in images {

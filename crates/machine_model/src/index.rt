@@ -64,7 +64,8 @@ impl KeyIndex {
     /// Notes the row of this number among these. Where another has its print, or memory is short, the index is not kept.
     pub fn note(&mut self, rows: &[Image], row: u64)
         requires { IsRising rows.now }
-        ensures { (image : AnyImage) (rest : List AnyImage) → image.row ≡ row → HasRows self.old rows.now (image ∷ rest) → HasRows self.new rows.now rest }
+        ensures { (image : AnyImage) (rest : List AnyImage) → image.row ≡ row
+            → HasRows self.old rows.now (image ∷ rest) → HasRows self.new rows.now rest }
     {
         if let Some(image) = row_among(rows, row) {
             self.note_row(rows, image);
@@ -75,7 +76,8 @@ impl KeyIndex {
     fn note_row(&mut self, rows: &[Image], image: &Image)
         requires rising { IsRising rows.now }
         requires among { row_at image.now.row rows.now ≡ Some image.now }
-        ensures { (first : AnyImage) (rest : List AnyImage) → first.row ≡ image.now.row → HasRows self.old rows.now (first ∷ rest) → HasRows self.new rows.now rest }
+        ensures { (first : AnyImage) (rest : List AnyImage) → first.row ≡ image.now.row
+            → HasRows self.old rows.now (first ∷ rest) → HasRows self.new rows.now rest }
     {
         let row = image.row;
         let print = print_of_row(image);
@@ -87,7 +89,8 @@ impl KeyIndex {
 /// Puts a row in the place of a print, and tells whether memory was there for it.
 fn put(prints: &mut HashMap<u64, u64>, print: u64, row: u64) -> bool
     ensures here { OnTrue result (get nat_eq prints.new print ≡ Some row) }
-    ensures others { OnTrue result ((other : ℕ) → (other ≡ print → ⊥) → get nat_eq prints.new other ≡ get nat_eq prints.old other) }
+    ensures others { OnTrue result
+        ((other : ℕ) → (other ≡ print → ⊥) → get nat_eq prints.new other ≡ get nat_eq prints.old other) }
 {
     prints.insert(print, row).is_ok()
 }
@@ -160,7 +163,8 @@ pub fn indexes_of(alloc: Global, tables: &[TableRows]) -> Result<Vec<KeyIndex>, 
 
 /// Notes the rows that a reply commits, where these are the rows of the tables with them.
 pub fn note_commit(tables: &[TableRows], indexes: &mut Vec<KeyIndex>, outcome: &Outcome)
-    ensures { AreIndexes indexes.old.items (stocked tables.now) (committed_in outcome.now) → AreIndexes indexes.new.items (stocked tables.now) [] }
+    ensures { AreIndexes indexes.old.items (stocked tables.now) (committed_in outcome.now)
+        → AreIndexes indexes.new.items (stocked tables.now) [] }
 {
     if let Outcome::Committed(images) = outcome {
         note_images(tables, indexes, images.as_slice());
@@ -177,7 +181,8 @@ fn note_images(tables: &[TableRows], indexes: &mut Vec<KeyIndex>, images: &[Imag
 
 /// Notes the row that this is an image of.
 fn note_image(tables: &[TableRows], indexes: &mut Vec<KeyIndex>, image: &Image)
-    ensures { (rest : List AnyImage) → AreIndexes indexes.old.items (stocked tables.now) (image.now ∷ rest) → AreIndexes indexes.new.items (stocked tables.now) rest }
+    ensures { (rest : List AnyImage) → AreIndexes indexes.old.items (stocked tables.now) (image.now ∷ rest)
+        → AreIndexes indexes.new.items (stocked tables.now) rest }
 {
     let table = image.table as usize;
     if table < tables.len() && table < indexes.len() {

@@ -49,7 +49,11 @@ pub fn insert(
     inputs: &ReadyInputs,
 ) -> Result<Decision, Memory>
     requires { IsBasis basis }
-    ensures { let env = env_of with.entry in let view = view_of_basis basis.entry in let entries = map entry_of inputs.now in let new = new_row env columns.now draws row basis.entry.table named.now entries in IfOk result (λ d. Decides view (ruled basis.entry.table view draws (insert_causes env columns.now view draws new entries) (insert_effect new)) d) }
+    ensures { let env = env_of with.entry in let view = view_of_basis basis.entry in
+        let entries = map entry_of inputs.now in
+        let new = new_row env columns.now draws row basis.entry.table named.now entries in
+        IfOk result (λ d. Decides view
+        (ruled basis.entry.table view draws (insert_causes env columns.now view draws new entries) (insert_effect new)) d) }
 {
     let given = Given {
         columns,
@@ -74,8 +78,11 @@ fn new_row(
     row: u64,
     table: u32,
 ) -> Result<(Image, Faults), Memory>
-    ensures image { IfOk result (λ r. r.0 ≡ new_row (env_of with.entry) given.entry.columns.now draws.now row table given.entry.named.now (map entry_of given.entry.inputs.now)) }
-    ensures faults { IfOk result (λ r. r.1 ≡ any_fault (input_value (env_of with.entry) draws.now) (map entry_of given.entry.inputs.now)) }
+    ensures image { IfOk result
+        (λ r. r.0 ≡ new_row (env_of with.entry) given.entry.columns.now draws.now row table given.entry.named.now
+        (map entry_of given.entry.inputs.now)) }
+    ensures faults { IfOk result
+        (λ r. r.1 ≡ any_fault (input_value (env_of with.entry) draws.now) (map entry_of given.entry.inputs.now)) }
 {
     let (values, faults) = input_values(with, draws, given.inputs)?;
     let values = row_values(with.alloc, given.named, values.as_slice(), given.columns)?;
@@ -179,7 +186,8 @@ fn insert_fault(
     faults: Faults,
 ) -> Result<Option<Fault>, Memory>
     requires { IsBasis basis }
-    ensures { let view = view_of_basis basis.entry in IfOk result (λ fault. fault ≡ ranked (new_causes (env_of with.entry) columns.now view faults new.now)) }
+    ensures { let view = view_of_basis basis.entry in
+        IfOk result (λ fault. fault ≡ ranked (new_causes (env_of with.entry) columns.now view faults new.now)) }
 {
     let first = Causes::first(faults, is_full(&basis.session.own.changes));
     if let Some(fault) = first.ranked() {

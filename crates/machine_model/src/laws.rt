@@ -12,35 +12,37 @@ ghost use Rattle.sql_tree.specs.declared.tree.Key.{Key};
 ghost use Rattle.machine_model.specs.Found.{ordered, row_order};
 ghost use Rattle.machine_model.specs.State.{State, opening, tables};
 ghost use Rattle.machine_model.specs.Step.{replies_of, reply_in, step};
-ghost use Rattle.machine_model.specs.Sound.{AreStanding, IsSound};
+ghost use Rattle.machine_model.specs.Sound.{AreStanding, IsSoundState};
 
 /// The rows of an ORDER BY are the rows, and none comes before the one in front of it.
 pub fn rows_are_ordered()
     ensures rows { (level : ℕ) (keys : List (Key ℕ)) (rows : List Image) → IsPermutation rows (ordered level keys rows) }
-    ensures order { (level : ℕ) (keys : List (Key ℕ)) (rows : List Image) → IsSorted (row_order level keys) (ordered level keys rows) }
+    ensures order { (level : ℕ) (keys : List (Key ℕ)) (rows : List Image)
+        → IsSorted (row_order level keys) (ordered level keys rows) }
 {}
 
 /// The server is sound at first.
 pub fn openings_are_sound()
-    ensures { (start : StartView) → IsStart start → IsSound (opening start) }
+    ensures { (start : StartView) → IsStart start → IsSoundState (opening start) }
 {}
 
 /// Each step of a sound server leaves it sound.
 pub fn steps_stay_sound()
-    ensures { (state : State) (session : ℕ) (call : Call) → IsSound state → IsSound (step state session call) }
+    ensures { (state : State) (session : ℕ) (call : Call) → IsSoundState state → IsSoundState (step state session call) }
 {}
 
 /// Each reply of a sound server has a good shape.
 pub fn replies_have_shape()
-    ensures { (state : State) (session : ℕ) (call : Call) → IsSound state → HasGoodShape (reply_in state session call) }
+    ensures { (state : State) (session : ℕ) (call : Call) → IsSoundState state → HasGoodShape (reply_in state session call) }
 {}
 
 /// Of the tables of a sound server no row is gone, and the rows ascend.
 pub fn tables_stand()
-    ensures { (state : State) (n : ℕ) → IsSound state → AreStanding (tables state n) }
+    ensures { (state : State) (n : ℕ) → IsSoundState state → AreStanding (tables state n) }
 {}
 
 /// Each reply to calls from the first one on has a good shape.
 pub fn runs_have_shape()
-    ensures { (start : StartView) (calls : List (ℕ × Call)) → IsStart start → AllByRecursion HasGoodShape (replies_of (opening start) calls) }
+    ensures { (start : StartView) (calls : List (ℕ × Call)) → IsStart start
+        → AllByRecursion HasGoodShape (replies_of (opening start) calls) }
 {}

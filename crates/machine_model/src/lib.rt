@@ -35,6 +35,6 @@ mod session;
 mod tables;
 mod updating;
 
-pub use machine::{Copies, PlainMachine, STEP_LIMIT};
+pub use machine::{Copies, PlainMachine};
 pub use rows::Rows;
 pub use session::{HeldKey, Session, Transaction};

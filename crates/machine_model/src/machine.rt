@@ -15,7 +15,7 @@ ghost use Rattle.machine_model.specs.Inside.Decision.{Decides, Executes, committ
 ghost use Rattle.desk_values.specs.Good.{IsGoodReply};
 ghost use Rattle.machine_model.specs.Inside.Evaluation.{env_of};
 ghost use Rattle.machine_model.specs.Inside.Index.{IsBasis};
-ghost use Rattle.machine_model.specs.Sound.{AreStanding, IsSound};
+ghost use Rattle.machine_model.specs.Sound.{AreStanding, IsSoundState};
 ghost use Rattle.machine_model.specs.Rows.{IsRising, lay_all};
 
 use crate::answering::{answered, refused};
@@ -49,9 +49,6 @@ use sql_eval::{
 use sql_reader::{SqlErr, Statement, read_statement};
 use std::alloc::Global;
 use std::marker::Model;
-
-/// How many steps a machine takes at most.
-pub const STEP_LIMIT: u64 = 1_048_576;
 
 /// A reply three times.
 #[derive(Drop)]
@@ -90,9 +87,31 @@ impl Model for PlainMachine {
 
     ghost Value = { Running };
 
-    ghost view = { λ a. record { state = record { start = a.start; commits = a.commits.items; next_row = a.next_row; next_values = a.next_values.items; sessions = a.sessions.items }; steps = a.steps } };
+    ghost view = { λ a.
+        record {
+          state = record {
+            start = a.start;
+            commits = a.commits.items;
+            next_row = a.next_row;
+            next_values = a.next_values.items;
+            sessions = a.sessions.items;
+          };
+          steps = a.steps;
+        } };
 
-    ghost invariant = { λ a. Keeps (record { state = record { start = a.start; commits = a.commits.items; next_row = a.next_row; next_values = a.next_values.items; sessions = a.sessions.items }; steps = a.steps }) (stocked a.current.items) × (a.no_values ≡ []) × (a.null ≡ NoValue) × AreIndexes a.indexes.items (stocked a.current.items) [] };
+    ghost invariant = { λ a. Keeps
+        (record {
+          state = record {
+            start = a.start;
+            commits = a.commits.items;
+            next_row = a.next_row;
+            next_values = a.next_values.items;
+            sessions = a.sessions.items;
+          };
+          steps = a.steps;
+        })
+        (stocked a.current.items)
+        × (a.no_values ≡ []) × (a.null ≡ NoValue) × AreIndexes a.indexes.items (stocked a.current.items) [] };
 }
 
 impl PlainMachine {
@@ -219,7 +238,7 @@ impl PlainMachine {
 
     /// A machine's state is sound. It costs nothing.
     fn know_sound(&self)
-        ensures { IsSound self.now.state }
+        ensures { IsSoundState self.now.state }
     {
         let _steps = self.steps;
     }
@@ -259,7 +278,9 @@ impl PlainMachine {
     /// What a call is answered, and what it does.
     fn decision(&self, session: usize, call: &Call) -> Result<Decision, Memory>
         requires { session < 64 }
-        ensures { IfOk result (λ decision. Decides (view_for self.now.state session (request_of self.now.state.start.schema call.now)) (answer_in self.now.state session call.now) decision) }
+        ensures { IfOk result
+            (λ decision. Decides (view_for self.now.state session (request_of self.now.state.start.schema call.now))
+            (answer_in self.now.state session call.now) decision) }
     {
         match call {
             Call::Connect(service) => Ok(self.connect(session, service)),
@@ -270,7 +291,10 @@ impl PlainMachine {
 
     fn connect(&self, session: usize, service: &Txt) -> Decision
         requires { session < 64 }
-        ensures { Decides (view_of self.now.state session None) (answer self.now.state.start.schema (view_of self.now.state session None) self.now.state.next_values self.now.state.next_row (connect_request (rights_of self.now.state.start.schema.services service.now))) result }
+        ensures { Decides (view_of self.now.state session None)
+            (answer self.now.state.start.schema
+            (view_of self.now.state session None) self.now.state.next_values self.now.state.next_row
+            (connect_request (rights_of self.now.state.start.schema.services service.now))) result }
     {
         let mine = self.session(session);
         if mine.rights.is_some() {
@@ -284,7 +308,9 @@ impl PlainMachine {
 
     fn disconnect(&self, session: usize) -> Decision
         requires { session < 64 }
-        ensures { Decides (view_of self.now.state session None) (answer self.now.state.start.schema (view_of self.now.state session None) self.now.state.next_values self.now.state.next_row disconnect_request) result }
+        ensures { Decides (view_of self.now.state session None)
+            (answer self.now.state.start.schema
+            (view_of self.now.state session None) self.now.state.next_values self.now.state.next_row disconnect_request) result }
     {
         let mine = self.session(session);
         match mine.rights {
@@ -296,7 +322,10 @@ impl PlainMachine {
     /// What a text of SQL is answered, and what it does.
     fn sql(&self, session: usize, text: &Txt, binds: &Binds) -> Result<Decision, Memory>
         requires { session < 64 }
-        ensures { IfOk result (λ decision. Decides (view_for self.now.state session (read self.now.state.start.schema binds.now (statement_of text.now))) (answer_to self.now.state session (read self.now.state.start.schema binds.now (statement_of text.now))) decision) }
+        ensures { IfOk result
+            (λ decision. Decides
+            (view_for self.now.state session (read self.now.state.start.schema binds.now (statement_of text.now)))
+            (answer_to self.now.state session (read self.now.state.start.schema binds.now (statement_of text.now))) decision) }
     {
         match read_statement(self.alloc, text) {
             Ok(statement) => self.parsed(session, &statement, binds),
@@ -313,7 +342,10 @@ impl PlainMachine {
         binds: &Binds,
     ) -> Result<Decision, Memory>
         requires { session < 64 }
-        ensures { IfOk result (λ decision. Decides (view_for self.now.state session (read self.now.state.start.schema binds.now (Some (plan_of statement.now)))) (answer_to self.now.state session (read self.now.state.start.schema binds.now (Some (plan_of statement.now)))) decision) }
+        ensures { IfOk result
+            (λ decision. Decides
+            (view_for self.now.state session (read self.now.state.start.schema binds.now (Some (plan_of statement.now))))
+            (answer_to self.now.state session (read self.now.state.start.schema binds.now (Some (plan_of statement.now)))) decision) }
     {
         match check(self.alloc, self.start.schema(), statement, binds) {
             Ok(ready) => self.checked(session, &ready, binds),
@@ -325,7 +357,9 @@ impl PlainMachine {
     /// A statement that a check refuses.
     fn unsound(&self, session: usize, fault: Fault) -> Decision
         requires { session < 64 }
-        ensures { (table : Option ℕ) → Decides (view_for self.now.state session (unsound table fault)) (answer_to self.now.state session (unsound table fault)) result }
+        ensures { (table : Option ℕ)
+            → Decides (view_for self.now.state session (unsound table fault))
+            (answer_to self.now.state session (unsound table fault)) result }
     {
         match self.session(session).rights {
             Some(_) => refused(self.alloc, fault),
@@ -336,7 +370,9 @@ impl PlainMachine {
     /// What a checked statement is answered, and what it does.
     fn checked(&self, session: usize, ready: &Ready, binds: &Binds) -> Result<Decision, Memory>
         requires { session < 64 }
-        ensures { IfOk result (λ decision. Decides (view_for self.now.state session (statement_request (plan_of ready.now) binds.now)) (answer_to self.now.state session (statement_request (plan_of ready.now) binds.now)) decision) }
+        ensures { IfOk result
+            (λ decision. Decides (view_for self.now.state session (statement_request (plan_of ready.now) binds.now))
+            (answer_to self.now.state session (statement_request (plan_of ready.now) binds.now)) decision) }
     {
         match statement_fault(self.session(session), ready) {
             Some(fault) => Ok(refused(self.alloc, fault)),
@@ -379,7 +415,9 @@ impl PlainMachine {
         binds: &Binds,
     ) -> Result<Decision, Memory>
         requires { session < 64 }
-        ensures { IfOk result (λ decision. Executes self.now.state session binds.now (select_plan table (asked_of items.now) (condition_of condition.now) keys.now for_update) decision) }
+        ensures { IfOk result
+            (λ decision. Executes self.now.state session binds.now
+            (select_plan table (asked_of items.now) (condition_of condition.now) keys.now for_update) decision) }
     {
         let rows = self.rows(session, table)?;
         let seen = self.seen(session, table, &rows);
@@ -404,7 +442,8 @@ impl PlainMachine {
     ) -> Result<Decision, Memory>
         requires session { session < 64 }
         requires draws { draws ≡ draws_of (insert_plan table named.now (map entry_of inputs.now)) self.now.state.next_values }
-        ensures { IfOk result (λ decision. Executes self.now.state session binds.now (insert_plan table named.now (map entry_of inputs.now)) decision) }
+        ensures { IfOk result
+            (λ decision. Executes self.now.state session binds.now (insert_plan table named.now (map entry_of inputs.now)) decision) }
     {
         let columns = self.columns(table);
         insert(
@@ -427,7 +466,9 @@ impl PlainMachine {
         binds: &Binds,
     ) -> Result<Decision, Memory>
         requires { session < 64 }
-        ensures { IfOk result (λ decision. Executes self.now.state session binds.now (update_plan table (map change_of settings.now) (condition_of condition.now)) decision) }
+        ensures { IfOk result
+            (λ decision. Executes self.now.state session binds.now
+            (update_plan table (map change_of settings.now) (condition_of condition.now)) decision) }
     {
         let rows = self.rows(session, table)?;
         let seen = self.seen(session, table, &rows);
@@ -443,7 +484,8 @@ impl PlainMachine {
         binds: &Binds,
     ) -> Result<Decision, Memory>
         requires { session < 64 }
-        ensures { IfOk result (λ decision. Executes self.now.state session binds.now (delete_plan table (condition_of condition.now)) decision) }
+        ensures { IfOk result
+            (λ decision. Executes self.now.state session binds.now (delete_plan table (condition_of condition.now)) decision) }
     {
         let rows = self.rows(session, table)?;
         let seen = self.seen(session, table, &rows);
@@ -467,7 +509,9 @@ impl PlainMachine {
     /// A table's rows as a session sees them.
     fn rows(&self, session: usize, table: u32) -> Result<Vec<&Image>, Memory>
         requires { session < 64 }
-        ensures { IfOk result (λ seen. looked_at seen.items ≡ rows_seen self.now.state.start.rows self.now.state.commits (session_at self.now.state session) table) }
+        ensures { IfOk result
+            (λ seen. looked_at seen.items
+            ≡ rows_seen self.now.state.start.rows self.now.state.commits (session_at self.now.state session) table) }
     {
         rows_seen(
             self.alloc,
@@ -482,7 +526,8 @@ impl PlainMachine {
     /// What a statement on a table can depend on.
     fn seen<'a>(&'a self, session: usize, table: u32, rows: &'a [&'a Image]) -> Seen<'a>
         requires session { session < 64 }
-        requires rows { looked_at rows.now ≡ rows_seen self.now.state.start.rows self.now.state.commits (session_at self.now.state session) table }
+        requires rows { looked_at rows.now
+            ≡ rows_seen self.now.state.start.rows self.now.state.commits (session_at self.now.state session) table }
         ensures view { view_of_seen result ≡ view_of self.now.state session (Some table) }
         ensures table { result.table ≡ table }
     {
@@ -514,7 +559,13 @@ impl PlainMachine {
 
     /// The next value of a sequence.
     fn next(&self, ready: &Ready) -> Result<Decision, Memory>
-        ensures reply { IfOk result (λ decision. decision.reply ≡ record { outcome = Outcome.Rows (draws_of (plan_of ready.now) self.now.state.next_values ∷ []); draws = draws_of (plan_of ready.now) self.now.state.next_values; made = None }) }
+        ensures reply { IfOk result
+            (λ decision. decision.reply
+            ≡ record {
+              outcome = Outcome.Rows (draws_of (plan_of ready.now) self.now.state.next_values ∷ []);
+              draws = draws_of (plan_of ready.now) self.now.state.next_values;
+              made = None;
+            }) }
         ensures deed { IfOk result (λ decision. decision.deed ≡ Deed.Nothing) }
     {
         let draws = draws_of(self.alloc, ready, &self.next_values)?;
@@ -533,7 +584,12 @@ impl PlainMachine {
     /// The session's changes are committed.
     fn commit(&self, session: usize) -> Result<Decision, Memory>
         requires { session < 64 }
-        ensures { IfOk result (λ decision. decision ≡ record { reply = reply_of (Outcome.Committed (session_at self.now.state session).own.changes) [] None; deed = Deed.Commits }) }
+        ensures { IfOk result
+            (λ decision. decision
+            ≡ record {
+              reply = reply_of (Outcome.Committed (session_at self.now.state session).own.changes) [] None;
+              deed = Deed.Commits;
+            }) }
     {
         let changes = self.session(session).own.changes.images(self.alloc)?;
         Ok(answered(
@@ -547,10 +603,17 @@ impl PlainMachine {
     fn follow(&mut self, session: usize, decision: Decision) -> Result<Reply, Memory>
         requires session { session < 64 }
         requires steps { self.old.steps < 1048576 }
-        requires commits { committed_in decision.reply.outcome ≡ committed_by (plain_view (session_at self.old.state session)) decision.deed }
-        requires sound { IsSound (after self.old.state session (done_so (plain_view (session_at self.old.state session)) decision.reply decision.deed)) }
+        requires commits { committed_in decision.reply.outcome
+            ≡ committed_by (plain_view (session_at self.old.state session)) decision.deed }
+        requires sound { IsSoundState
+            (after self.old.state session (done_so (plain_view (session_at self.old.state session)) decision.reply decision.deed)) }
         ensures reply { IfOk result (λ reply. reply ≡ decision.reply) }
-        ensures ok { OnOk result (self.new ≡ record { state = after self.old.state session (done_so (plain_view (session_at self.old.state session)) decision.reply decision.deed); steps = self.old.steps + 1 }) }
+        ensures ok { OnOk result
+            (self.new ≡ record {
+              state = after self.old.state session
+                  (done_so (plain_view (session_at self.old.state session)) decision.reply decision.deed);
+              steps = self.old.steps + 1;
+            }) }
         ensures err { OnErr result (self.new ≡ self.old) }
     {
         let Decision { reply, deed } = decision;

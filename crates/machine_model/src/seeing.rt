@@ -131,7 +131,8 @@ fn base<'a>(
 ) -> Result<Vec<&'a Image>, Memory>
     requires rising { IsRising start.now }
     requires latest { AreLatest start.now commits.now 0 (stocked current.now) }
-    ensures { IfOk result (λ seen. looked_at seen.items ≡ lay_all (of_table table start.now) (map (of_table table) (commits_seen snapshot commits.now))) }
+    ensures { IfOk result
+        (λ seen. looked_at seen.items ≡ lay_all (of_table table start.now) (map (of_table table) (commits_seen snapshot commits.now))) }
 {
     match snapshot {
         None => latest(alloc, start, commits, current, table),

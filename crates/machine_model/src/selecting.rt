@@ -32,7 +32,11 @@ pub fn select(
     keys: &ReadyKeys,
     for_update: bool,
 ) -> Result<Decision, Memory>
-    ensures { let env = env_of with.entry in let view = view_of_seen seen.entry in IfOk result (λ d. Decides view (ruled seen.entry.table view [] (select_causes env view (asked_of items.now) (condition_of condition.now) for_update) (select_effect env view (asked_of items.now) (condition_of condition.now) keys.now for_update)) d) }
+    ensures { let env = env_of with.entry in let view = view_of_seen seen.entry in
+        IfOk result (λ d. Decides view
+        (ruled seen.entry.table view []
+        (select_causes env view (asked_of items.now) (condition_of condition.now) for_update)
+        (select_effect env view (asked_of items.now) (condition_of condition.now) keys.now for_update)) d) }
 {
     let (found, fault) = judged(with, seen, items, condition, for_update)?;
     let draws = List::new(with.alloc);
@@ -54,8 +58,11 @@ fn judged<'a>(
     condition: &Option<Checked>,
     for_update: bool,
 ) -> Result<(Vec<&'a Image>, Option<Fault>), Memory>
-    ensures found { IfOk result (λ r. looked_at r.0.items ≡ matching (env_of with.entry) (condition_of condition.now) (looked_at seen.entry.rows.now)) }
-    ensures fault { IfOk result (λ r. r.1 ≡ ranked (select_causes (env_of with.entry) (view_of_seen seen.entry) (asked_of items.now) (condition_of condition.now) for_update)) }
+    ensures found { IfOk result
+        (λ r. looked_at r.0.items ≡ matching (env_of with.entry) (condition_of condition.now) (looked_at seen.entry.rows.now)) }
+    ensures fault { IfOk result
+        (λ r. r.1 ≡ ranked
+        (select_causes (env_of with.entry) (view_of_seen seen.entry) (asked_of items.now) (condition_of condition.now) for_update)) }
 {
     let (found, faults) = sifted(with, condition, seen.rows)?;
     let faults = faults.joined(asked_faults(with, items, &found)?);
@@ -71,7 +78,9 @@ fn judged<'a>(
 
 /// Whether more than 1,000 rows would be answered, or the transaction has changed more than that.
 fn are_too_many(seen: Seen<'_>, items: &ReadyItems, found: &[&Image]) -> bool
-    ensures { result ≡ ((not (are_totals (asked_of items.now)) && is_over (length (looked_at found.now))) || is_over (length seen.entry.session.now.own.changes)) }
+    ensures { result
+        ≡ ((not (are_totals (asked_of items.now)) && is_over (length (looked_at found.now)))
+        || is_over (length seen.entry.session.now.own.changes)) }
 {
     let one_row = matches!(items, ReadyItems::Aggs(_));
     (!one_row && found.len() > ROW_LIMIT) || seen.session.own.changes.len() > ROW_LIMIT
@@ -79,7 +88,8 @@ fn are_too_many(seen: Seen<'_>, items: &ReadyItems, found: &[&Image]) -> bool
 
 /// Whether the rows are to be held, and another session holds one.
 fn are_locked(seen: Seen<'_>, for_update: bool, found: &[&Image]) -> bool
-    ensures { result ≡ (for_update && list_any (is_held (seen.entry.others.before.now ++ seen.entry.others.after.now)) (looked_at found.now)) }
+    ensures { result
+        ≡ (for_update && list_any (is_held (seen.entry.others.before.now ++ seen.entry.others.after.now)) (looked_at found.now)) }
 {
     for_update && hold_some_row(seen.others, found)
 }
@@ -133,7 +143,8 @@ fn selection(
     for_update: bool,
     found: Vec<&Image>,
 ) -> Result<Effect, Memory>
-    ensures { IfOk result (λ effect. effect ≡ selection (env_of with.entry) (asked_of items.now) keys.now for_update (looked_at found.entry.items)) }
+    ensures { IfOk result
+        (λ effect. effect ≡ selection (env_of with.entry) (asked_of items.now) keys.now for_update (looked_at found.entry.items)) }
 {
     let rows = if for_update {
         row_numbers(with.alloc, &found)?

@@ -46,7 +46,8 @@ fn reserve_each(tables: &mut [TableRows], more: usize) -> Result<(), Memory>
 /// Lays a change over the rows of its table, where there is room for it.
 fn lay_into(tables: &mut [TableRows], image: Image)
     requires { HaveRoom 1 tables.old }
-    ensures laid { (rest : List AnyImage) → lay_tables 0 (stocked tables.new) rest ≡ lay_tables 0 (stocked tables.old) (image ∷ rest) }
+    ensures laid { (rest : List AnyImage)
+        → lay_tables 0 (stocked tables.new) rest ≡ lay_tables 0 (stocked tables.old) (image ∷ rest) }
     ensures room { (more : ℕ) → HaveRoom (more + 1) tables.old → HaveRoom more tables.new }
 {
     let at = image.table as usize;

@@ -58,7 +58,11 @@ pub fn update(
     settings: &ReadySets,
     condition: &Option<Checked>,
 ) -> Result<Decision, Memory>
-    ensures { let env = env_of with.entry in let view = view_of_seen seen.entry in let changes = map change_of settings.now in IfOk result (λ d. Decides view (ruled seen.entry.table view [] (update_causes env columns.now view changes (condition_of condition.now)) (update_effect env view changes (condition_of condition.now))) d) }
+    ensures { let env = env_of with.entry in let view = view_of_seen seen.entry in
+        let changes = map change_of settings.now in
+        IfOk result (λ d. Decides view
+        (ruled seen.entry.table view [] (update_causes env columns.now view changes (condition_of condition.now))
+        (update_effect env view changes (condition_of condition.now))) d) }
 {
     let says = Says {
         columns,
@@ -86,8 +90,12 @@ fn first_causes<'a>(
     seen: Seen<'a>,
     says: Says<'_>,
 ) -> Result<(Vec<&'a Image>, Causes), Memory>
-    ensures found { IfOk result (λ r. looked_at r.0.items ≡ matching (env_of with.entry) (condition_of says.entry.condition.now) (looked_at seen.entry.rows.now)) }
-    ensures first { IfOk result (λ r. r.1 ≡ update_first (env_of with.entry) (view_of_seen seen.entry) (map change_of says.entry.settings.now) (condition_of says.entry.condition.now) (looked_at r.0.items)) }
+    ensures found { IfOk result
+        (λ r. looked_at r.0.items
+        ≡ matching (env_of with.entry) (condition_of says.entry.condition.now) (looked_at seen.entry.rows.now)) }
+    ensures first { IfOk result
+        (λ r. r.1 ≡ update_first (env_of with.entry) (view_of_seen seen.entry)
+        (map change_of says.entry.settings.now) (condition_of says.entry.condition.now) (looked_at r.0.items)) }
 {
     let (found, faults) = sifted(with, says.condition, seen.rows)?;
     let faults = all_faults(with, says.settings, &found, faults)?;
@@ -102,7 +110,8 @@ fn all_faults(
     found: &[&Image],
     faults: Faults,
 ) -> Result<Faults, Memory>
-    ensures { IfOk result (λ all. all ≡ joined faults (row_faults (env_of with.entry) (sources (map change_of settings.now)) (looked_at found.now))) }
+    ensures { IfOk result
+        (λ all. all ≡ joined faults (row_faults (env_of with.entry) (sources (map change_of settings.now)) (looked_at found.now))) }
 {
     let mut faults = faults;
     for image in found {
@@ -119,10 +128,21 @@ fn update_fault(
     changed: &Changed,
     first: Causes,
 ) -> Result<Option<Fault>, Memory>
-    requires first { let env = env_of with in let view = view_of_seen seen in let condition = condition_of says.condition.now in first ≡ update_first env view (map change_of says.settings.now) condition (matching env condition view.rows) }
-    requires images { let env = env_of with in changed.now.images.items ≡ map (updated env (map change_of says.settings.now)) (matching env (condition_of says.condition.now) (view_of_seen seen).rows) }
-    requires locked { let env = env_of with in let view = view_of_seen seen in changed.now.locked ≡ meets_hold (seen.others.before.now ++ seen.others.after.now) env view (map change_of says.settings.now) (matching env (condition_of says.condition.now) view.rows) }
-    ensures { IfOk result (λ fault. fault ≡ ranked (update_causes (env_of with.entry) says.entry.columns.now (view_of_seen seen.entry) (map change_of says.entry.settings.now) (condition_of says.entry.condition.now))) }
+    requires first { let env = env_of with in let view = view_of_seen seen in
+        let condition = condition_of says.condition.now in
+        first ≡ update_first env view (map change_of says.settings.now) condition (matching env condition view.rows) }
+    requires images { let env = env_of with in
+        changed.now.images.items
+        ≡ map (updated env (map change_of says.settings.now))
+        (matching env (condition_of says.condition.now) (view_of_seen seen).rows) }
+    requires locked { let env = env_of with in let view = view_of_seen seen in
+        changed.now.locked
+        ≡ meets_hold (seen.others.before.now ++ seen.others.after.now) env view
+        (map change_of says.settings.now) (matching env (condition_of says.condition.now) view.rows) }
+    ensures { IfOk result
+        (λ fault. fault
+        ≡ ranked (update_causes (env_of with.entry) says.entry.columns.now (view_of_seen seen.entry)
+        (map change_of says.entry.settings.now) (condition_of says.entry.condition.now))) }
 {
     let images = changed.images.as_slice();
     let duplicate = leave_key_twice(with, says.condition, seen.rows, images)?;
@@ -142,7 +162,8 @@ fn setting_faults(
     image: &Image,
     faults: Faults,
 ) -> Result<Faults, Memory>
-    ensures { IfOk result (λ all. all ≡ joined faults (any_fault (value_in (env_of with.entry) image.now) (sources (map change_of settings.now)))) }
+    ensures { IfOk result
+        (λ all. all ≡ joined faults (any_fault (value_in (env_of with.entry) image.now) (sources (map change_of settings.now)))) }
 {
     let own = values_of(with, image);
     let mut faults = faults;
@@ -180,9 +201,14 @@ fn changed_rows(
     settings: &[ReadySetting],
     found: &[&Image],
 ) -> Result<Changed, Memory>
-    ensures images { IfOk result (λ changed. changed.images.items ≡ map (updated (env_of with.entry) (map change_of settings.now)) (looked_at found.now)) }
-    ensures keys { IfOk result (λ changed. changed.keys ≡ moved_keys (env_of with.entry) (map change_of settings.now) (looked_at found.now)) }
-    ensures locked { IfOk result (λ changed. changed.locked ≡ meets_hold (seen.entry.others.before.now ++ seen.entry.others.after.now) (env_of with.entry) (view_of_seen seen.entry) (map change_of settings.now) (looked_at found.now)) }
+    ensures images { IfOk result
+        (λ changed. changed.images.items ≡ map (updated (env_of with.entry) (map change_of settings.now)) (looked_at found.now)) }
+    ensures keys { IfOk result
+        (λ changed. changed.keys ≡ moved_keys (env_of with.entry) (map change_of settings.now) (looked_at found.now)) }
+    ensures locked { IfOk result
+        (λ changed. changed.locked
+        ≡ meets_hold (seen.entry.others.before.now ++ seen.entry.others.after.now) (env_of with.entry)
+        (view_of_seen seen.entry) (map change_of settings.now) (looked_at found.now)) }
 {
     let mut changed = Changed {
         images: Vec::new(with.alloc),
@@ -203,9 +229,14 @@ fn change_row(
     image: &Image,
     changed: &mut Changed,
 ) -> Result<(), Memory>
-    ensures images { OnOk result (changed.new.images.items ≡ changed.old.images.items ++ updated (env_of with.entry) (map change_of settings.now) image.now ∷ []) }
-    ensures keys { OnOk result (changed.new.keys ≡ changed.old.keys ++ keys_moved (env_of with.entry) (map change_of settings.now) image.now) }
-    ensures locked { OnOk result (changed.new.locked ≡ (changed.old.locked || meets_lock (env_of with.entry) (view_of_seen seen.entry) (map change_of settings.now) image.now)) }
+    ensures images { OnOk result
+        (changed.new.images.items ≡ changed.old.images.items
+        ++ updated (env_of with.entry) (map change_of settings.now) image.now ∷ []) }
+    ensures keys { OnOk result
+        (changed.new.keys ≡ changed.old.keys ++ keys_moved (env_of with.entry) (map change_of settings.now) image.now) }
+    ensures locked { OnOk result
+        (changed.new.locked
+        ≡ (changed.old.locked || meets_lock (env_of with.entry) (view_of_seen seen.entry) (map change_of settings.now) image.now)) }
 {
     let new = updated(with, settings, image)?;
     if !same_row_key(with, image, &new) {
@@ -225,7 +256,9 @@ fn leave_key_twice(
     rows: &[&Image],
     images: &[Image],
 ) -> Result<bool, Memory>
-    ensures { IfOk result (λ b. b ≡ repeats_key with.entry.level (map row_key (replaced (matches (env_of with.entry) (condition_of condition.now)) (looked_at rows.now) images.now))) }
+    ensures { IfOk result
+        (λ b. b ≡ repeats_key with.entry.level
+        (map row_key (replaced (matches (env_of with.entry) (condition_of condition.now)) (looked_at rows.now) images.now))) }
 {
     let after = rows_after(with, condition, rows, images)?;
     repeats_key(with, &after)
@@ -238,7 +271,9 @@ fn rows_after<'a>(
     rows: &[&'a Image],
     images: &'a [Image],
 ) -> Result<Vec<&'a Image>, Memory>
-    ensures { IfOk result (λ after. looked_at after.items ≡ replaced (matches (env_of with.entry) (condition_of condition.now)) (looked_at rows.now) images.now) }
+    ensures { IfOk result
+        (λ after. looked_at after.items
+        ≡ replaced (matches (env_of with.entry) (condition_of condition.now)) (looked_at rows.now) images.now) }
 {
     let mut after = Vec::new(with.alloc);
     let mut left = images;
@@ -257,7 +292,13 @@ fn rows_after<'a>(
 
 /// These rows are changed so.
 fn changing(alloc: Global, found: &[&Image], changed: Changed) -> Result<Effect, Memory>
-    ensures { IfOk result (λ effect. effect ≡ record { outcome = Count (length (looked_at found.now)); made = None; writing = record { images = changed.images.items; rows = row_numbers (looked_at found.now); keys = changed.keys } }) }
+    ensures { IfOk result
+        (λ effect. effect
+        ≡ record {
+          outcome = Count (length (looked_at found.now));
+          made = None;
+          writing = record { images = changed.images.items; rows = row_numbers (looked_at found.now); keys = changed.keys };
+        }) }
 {
     Ok(Effect {
         outcome: Outcome::Count(found.len() as u64),

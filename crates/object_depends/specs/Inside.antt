@@ -35,7 +35,8 @@ group_at groups i = slice_index_or groups i no_group
 
 -- each group has the tally of what its call waits for below n
 abbrev pub AreTallied : Mode → List Fact → List Group → ℕ → Type 0
-AreTallied mode facts groups n = (i : ℕ) → i < length groups → (group_at groups i).tally ≡ tally_of (awaited mode facts (group_at groups i).call n)
+AreTallied mode facts groups n = (i : ℕ) → i < length groups
+    → (group_at groups i).tally ≡ tally_of (awaited mode facts (group_at groups i).call n)
 
 abbrev pub tally_at : List Tally → ℕ → Tally
 tally_at tallies k = slice_index_or tallies k no_tally

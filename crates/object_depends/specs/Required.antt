@@ -4,7 +4,7 @@ use Rattle.replay_history.specs.declared.mode.Mode.{Mode}
 use Rattle.replay_history.specs.declared.mode.Mode.TheVariants.{Off, Scn, Object, Order}
 use Rattle.object_depends.specs.declared.fact.Fact.{Fact}
 use Rattle.object_depends.specs.Facts.{fact_at, has_table, is_commit}
-use Rattle.desk_values.specs.declared.value.TheConstants.{TABLE_LIMIT}
+use Rattle.desk_values.specs.Limits.{table_limit}
 
 -- whether some table below the limit stands in both sets
 unfoldable pub shares_to : ℕ → ℕ → ℕ → Bool
@@ -13,7 +13,7 @@ shares_to left right (suc n) = shares_to left right n || has_table left n && has
 
 -- whether some table stands in both sets
 abbrev pub shares_table : ℕ → ℕ → Bool
-shares_table left right = shares_to left right TABLE_LIMIT
+shares_table left right = shares_to left right table_limit
 
 -- whether a call saw another, which is a numbered commit
 abbrev pub has_seen : Fact → Fact → Bool

@@ -44,7 +44,8 @@ fn append_call(
     order: Tally,
     to: &mut Bytes,
 ) -> Result<(), Memory>
-    ensures { OnOk result (to.new ≡ to.old ++ (need_line k Off off ++ (need_line k Scn scn ++ (need_line k Object object ++ need_line k Order order)))) }
+    ensures { OnOk result
+        (to.new ≡ to.old ++ (need_line k Off off ++ (need_line k Scn scn ++ (need_line k Object object ++ need_line k Order order)))) }
 {
     append_need(k, Mode::Off, off, to)?;
     append_need(k, Mode::Scn, scn, to)?;

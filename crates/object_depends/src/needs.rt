@@ -25,7 +25,8 @@ impl Model for Needs {
 
     ghost view = { λ a. record { facts = a.facts; mode = a.mode } };
 
-    ghost invariant = { λ a. (length a.facts ≤ 100000) × (length a.tallies.items ≡ length a.facts) × AreTallies a.mode a.facts a.tallies.items (length a.facts) };
+    ghost invariant = { λ a. (length a.facts ≤ 100000) × (length a.tallies.items ≡ length a.facts)
+        × AreTallies a.mode a.facts a.tallies.items (length a.facts) };
 }
 
 impl Needs {

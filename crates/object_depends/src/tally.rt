@@ -130,7 +130,8 @@ fn place_for(groups: &mut Vec<Group>, mode: Mode, facts: &[Fact], k: usize) -> R
     requires few { length facts.now ≤ 100000 }
     requires k { k < length facts.now }
     requires tallied { AreTallied mode facts.now groups.old.items k }
-    ensures place { IfOk result (λ place. (place < vec_len groups.new) × WaitAlike mode (group_at groups.new.items place).call (fact_at facts.now k)) }
+    ensures place { IfOk result
+        (λ place. (place < vec_len groups.new) × WaitAlike mode (group_at groups.new.items place).call (fact_at facts.now k)) }
     ensures tallied { OnOk result (AreTallied mode facts.now groups.new.items k) }
 {
     let call = facts[k];

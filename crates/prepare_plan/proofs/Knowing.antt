@@ -15,12 +15,12 @@ use Rattle.desk_values.specs.declared.value.Value.TheVariants.{Row}
 use Rattle.desk_values.specs.declared.value.Image.{Image}
 use Rattle.desk_values.specs.declared.capture.Captured.{Captured}
 use Rattle.desk_values.specs.declared.call.Reply.{Reply}
-use Rattle.capture_laws.specs.Known.{given_by, ids_known}
-use Rattle.capture_laws.specs.Same.{same_value}
-use Rattle.capture_laws.proofs.Sameness.{value_decided}
+use Rattle.captured_calls.specs.Known.{given_by, ids_known}
+use Rattle.captured_calls.specs.Same.{same_value}
+use Rattle.captured_calls.proofs.Sameness.{value_decided}
 use Rattle.prepare_plan.specs.Inside.{pair_cmp, KnowsAll}
 use Rattle.prepare_plan.specs.declared.known.KnownIds.{KnownIds}
-use Rattle.capture_laws.proofs.Scanning.{taken}
+use Rattle.captured_calls.proofs.Scanning.{taken}
 
 -- ---- pairs
 

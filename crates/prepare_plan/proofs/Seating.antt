@@ -8,13 +8,13 @@ use Rattle.std.proofs.lemmas.List.Elements.{filter-append}
 use Rattle.std.proofs.lemmas.List.Sums.{length-filter}
 use denote.Ref.{Bor}
 use Rattle.desk_values.specs.declared.capture.Captured.{Captured}
-use Rattle.capture_laws.specs.Stamps.{HasEach, has_stamp, count_at, call_at, by_stamp, stamps_for}
-use Rattle.capture_laws.proofs.Scanning.{taken}
-use Rattle.capture_laws.proofs.Stamping.{has_each}
+use Rattle.captured_calls.specs.Stamps.{HasEach, has_stamp, count_at, call_at, by_stamp, stamps_for}
+use Rattle.captured_calls.proofs.Scanning.{taken}
+use Rattle.captured_calls.proofs.Stamping.{has_each}
 use Rattle.prepare_plan.specs.declared.seats.Seat.{Seat}
 use Rattle.prepare_plan.specs.declared.seats.Seat.TheVariants.{Empty, Taken, Crowded}
 use Rattle.prepare_plan.specs.Inside.{shown, calls_at, IsSeat, AreSeatsOf, is_taken, taken_call, ordered, ordered_or}
-use Rattle.capture_verdict.specs.declared.refusal.Refusal.TheVariants.{Stamp}
+use Rattle.captured_calls.specs.declared.refusal.Refusal.TheVariants.{Stamp}
 
 -- ---- one more call
 

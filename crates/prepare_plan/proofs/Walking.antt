@@ -4,17 +4,17 @@ use Rattle.std.specs.Prelude.{None, Some, nat_eq, if◌then◌else◌, nat_le, s
 use Rattle.std.proofs.lemmas.Bool.{eq-eqb, eqb-true, ne_eqb, true≢false}
 use Rattle.std.proofs.lemmas.List.{get_or-set_same, get_or-set_other, map-append}
 use Rattle.desk_values.specs.declared.capture.Captured.{Captured}
-use Rattle.capture_laws.specs.Moments.{ended_in}
-use Rattle.capture_laws.proofs.Following.{ended_more}
-use Rattle.capture_verdict.specs.declared.refusal.Refusal.TheVariants.{Number, Times, Reply as OtherReply}
-use Rattle.capture_verdict.specs.Tests.{unless, bad_number, bad_times, right_number, asked, bad_reply, right_reply}
+use Rattle.captured_calls.specs.Moments.{ended_in}
+use Rattle.captured_calls.proofs.Following.{ended_more}
+use Rattle.captured_calls.specs.declared.refusal.Refusal.TheVariants.{Number, Times, Reply as OtherReply}
+use Rattle.captured_calls.specs.Tests.{unless, bad_number, bad_times, right_number, asked, bad_reply, right_reply}
 use Rattle.desk_values.specs.declared.call.Reply.{Reply}
 use Rattle.desk_schema.specs.Start.{StartView}
 use Rattle.machine_model.specs.State.{State, opening}
 use Rattle.machine_model.specs.Step.{reply_in, run, step}
-use Rattle.capture_laws.specs.Same.{same_reply}
-use Rattle.capture_laws.proofs.Scanning.{taken}
-use Rattle.capture_verdict.proofs.Legality.{run_more}
+use Rattle.captured_calls.specs.Same.{same_reply}
+use Rattle.captured_calls.proofs.Scanning.{taken}
+use Rattle.captured_calls.proofs.Legality.{run_more}
 
 pub number_fails : (before : List Captured) (call : Captured) (right : ℕ) → right ≡ right_number before call → call.number ≢ right → bad_number before call ≡ Some (Number call.stamp call.number right)
 number_fails before call right is wrong = rw (is, ne_eqb call.number (right_number before call) (λ same. wrong (same ∙ sym is))) refl

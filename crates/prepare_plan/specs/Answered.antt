@@ -1,12 +1,12 @@
 -- What an answer tells of the verdict.
 use Rattle.std.specs.Prelude.{Option, None, Some, Result, Ok, Err}
-use Rattle.capture_verdict.specs.declared.refusal.Refusal.{Refusal}
-use Rattle.capture_verdict.specs.declared.refusal.Refusal.TheVariants.{Memory}
-use Rattle.capture_verdict.specs.Verdict.{Plan}
+use Rattle.captured_calls.specs.declared.refusal.Refusal.{Refusal}
+use Rattle.captured_calls.specs.declared.refusal.Refusal.TheVariants.{Memory}
+use Rattle.captured_calls.specs.Verdict.{Preparation}
 use Rattle.prepare_plan.specs.declared.prepared.Prepared.{Prepared}
 
 -- what is seen of an answer
-abbrev pub plan_seen : Prepared → Result Plan Refusal
+abbrev pub plan_seen : Prepared → Result Preparation Refusal
 plan_seen prepared = Ok (record { calls = prepared.calls.items; facts = prepared.facts })
 
 -- what a refusal tells of what was to be answered, where the answer with it is this; want of memory tells nothing

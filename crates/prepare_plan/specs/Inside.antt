@@ -7,16 +7,16 @@ use Rattle.std.specs.List.{filter, list_any}
 use denote.Ref.{Bor}
 use Rattle.desk_values.specs.Room.{Room}
 use Rattle.desk_values.specs.Ids.{is_id}
-use Rattle.capture_laws.specs.Same.{same_value}
-use Rattle.capture_laws.specs.Stamps.{has_stamp, by_stamp}
+use Rattle.captured_calls.specs.Same.{same_value}
+use Rattle.captured_calls.specs.Stamps.{has_stamp, by_stamp}
 use Rattle.desk_values.specs.declared.value.Value.{Value}
 use Rattle.desk_values.specs.declared.value.Value.TheVariants.{Row, Draw}
 use Rattle.desk_values.specs.declared.capture.Captured.{Captured}
-use Rattle.capture_verdict.specs.declared.refusal.Refusal.{Refusal}
+use Rattle.captured_calls.specs.declared.refusal.Refusal.{Refusal}
 use Rattle.prepare_plan.specs.declared.seats.Seat.{Seat}
 use Rattle.prepare_plan.specs.declared.seats.Seat.TheVariants.{Empty, Taken, Crowded}
 use Rattle.prepare_plan.specs.declared.known.KnownIds.{KnownIds}
-use Rattle.capture_verdict.specs.Tests.{bad_stamp}
+use Rattle.captured_calls.specs.Tests.{bad_stamp}
 use Rattle.prepare_plan.specs.Answered.{told_as}
 
 -- the calls that are looked at

@@ -7,10 +7,10 @@ ghost use Rattle.desk_values.specs.Good.{IsGoodImage};
 ghost use Rattle.sql_tree.specs.Plain.{plan_of};
 ghost use Rattle.sql_eval.specs.SchemaNames.{table_of};
 ghost use Rattle.sql_reader.specs.Reading.{statement_of};
-ghost use Rattle.capture_verdict.specs.Facts.{facts_of, fact_of, refs_of, refs_of_call, only_table, refs_of_statement, tables_of_images, writes_of};
+ghost use Rattle.captured_calls.specs.Facts.{facts_of, fact_of, refs_of, refs_of_call, only_table, refs_of_statement, tables_of_images, writes_of};
 ghost use Rattle.std.specs.Prelude.{Some};
 ghost use Rattle.desk_schema.specs.Schema.{place_ignoring_case, table_names};
-ghost use Rattle.capture_verdict.specs.Inside.{IsFit};
+ghost use Rattle.captured_calls.specs.Inside.{IsFit};
 
 use crate::recorded::is_numbered;
 use desk_schema::Schema;
@@ -21,7 +21,7 @@ use sql_tree::Statement;
 use std::alloc::Global;
 
 /// The facts of the calls.
-#[tactic(auto, unfolding(capture_verdict::specs::Facts::facts_of))]
+#[tactic(auto, unfolding(captured_calls::specs::Facts::facts_of))]
 pub(crate) fn facts_of(
     alloc: Global,
     schema: &Schema,

@@ -1,7 +1,7 @@
 //! The calls of all sessions as one list; no call is copied.
 
 ghost use Rattle.std.specs.Prelude.{◌≡◌, ◌++◌, IfOk, OnOk};
-ghost use Rattle.capture_laws.specs.Stamps.{all_calls};
+ghost use Rattle.captured_calls.specs.Stamps.{all_calls};
 ghost use Rattle.prepare_plan.specs.Lists.{lists_of};
 ghost use Rattle.prepare_plan.specs.Inside.{shown};
 

@@ -6,13 +6,13 @@ ghost use Rattle.desk_values.specs.Answers.{Answers};
 ghost use Rattle.desk_values.specs.Ids.{ids_of_image, is_id};
 ghost use Rattle.desk_values.specs.declared.value.Value.{Value as AnyValue};
 ghost use Rattle.desk_values.specs.declared.value.Value.TheVariants.{Row as RowId, Draw as DrawId};
-ghost use Rattle.capture_laws.specs.Same.{same_value};
+ghost use Rattle.captured_calls.specs.Same.{same_value};
 ghost use Rattle.replay_history.specs.Capture.{binds_of};
-ghost use Rattle.capture_laws.specs.Known.{given_by, is_stranger};
-ghost use Rattle.capture_verdict.specs.Tests.{bad_ids, first_refused};
+ghost use Rattle.captured_calls.specs.Known.{given_by, is_stranger};
+ghost use Rattle.captured_calls.specs.Tests.{bad_ids, first_refused};
 ghost use Rattle.prepare_plan.specs.Inside.{passed, told, knows, KnowsAll};
 
-use capture_verdict::Refusal;
+use captured_calls::Refusal;
 use desk_values::{Call, Captured, Image, Memory, Reply, Value};
 use std::alloc::Global;
 use std::collections::BTreeSet;
@@ -36,7 +36,9 @@ impl KnownIds {
 
     /// Adds the number of a row.
     fn add_row(&mut self, row: u64) -> Result<(), Memory>
-        ensures { OnOk result ((value : AnyValue) → is_id value ≡ true → knows self.new value ≡ (same_value value (RowId row) || knows self.old value)) }
+        ensures { OnOk result
+            ((value : AnyValue) → is_id value ≡ true
+            → knows self.new value ≡ (same_value value (RowId row) || knows self.old value)) }
     {
         self.rows.insert(row)?;
         Ok(())
@@ -44,7 +46,9 @@ impl KnownIds {
 
     /// Adds a value that was drawn.
     fn add_draw(&mut self, sequence: u32, number: u64) -> Result<(), Memory>
-        ensures { OnOk result ((value : AnyValue) → is_id value ≡ true → knows self.new value ≡ (same_value value (DrawId sequence number) || knows self.old value)) }
+        ensures { OnOk result
+            ((value : AnyValue) → is_id value ≡ true
+            → knows self.new value ≡ (same_value value (DrawId sequence number) || knows self.old value)) }
     {
         self.draws.insert((sequence, number))?;
         Ok(())
@@ -73,7 +77,8 @@ impl KnownIds {
 
     /// Adds the ids of a row.
     fn add_image(&mut self, image: &Image) -> Result<(), Memory>
-        ensures { OnOk result ((known : List AnyValue) → KnowsAll self.old known → KnowsAll self.new (known ++ ids_of_image image.now)) }
+        ensures { OnOk result
+            ((known : List AnyValue) → KnowsAll self.old known → KnowsAll self.new (known ++ ids_of_image image.now)) }
     {
         self.add(&Value::Row(image.row))?;
         if let Some(values) = &image.left {

@@ -15,6 +15,6 @@ mod recorded;
 mod replies;
 mod seats;
 
-pub use capture_verdict::Refusal;
+pub use captured_calls::Refusal;
 pub use prepared::{Prepared, prepare};
 pub use replay_history::CALL_LIMIT;

@@ -2,11 +2,11 @@ ghost use Rattle.std.specs.Prelude.{◌≡◌, ◌≤◌, length, IfOk};
 ghost use Rattle.std.specs.List.{AllByRecursion};
 ghost use Rattle.desk_values.specs.Answers.{Answers};
 ghost use Rattle.object_depends.specs.Facts.{AreSound};
-ghost use Rattle.capture_laws.specs.Sessions.{AreSessionsFrom};
+ghost use Rattle.captured_calls.specs.Sessions.{AreSessionsFrom};
 ghost use Rattle.prepare_plan.specs.Lists.{lists_of};
-ghost use Rattle.capture_verdict.specs.Verdict.{verdict, verdict_of, fault_of, IsLegal};
+ghost use Rattle.captured_calls.specs.Verdict.{verdict, verdict_of, fault_of, IsLegal};
 ghost use Rattle.prepare_plan.specs.Answered.{plan_seen, refusal_told};
-ghost use Rattle.capture_verdict.specs.Inside.{IsFit};
+ghost use Rattle.captured_calls.specs.Inside.{IsFit};
 ghost use Rattle.prepare_plan.specs.Inside.{passed, told};
 
 use crate::facts::facts_of;
@@ -15,7 +15,7 @@ use crate::known::judge_ids;
 use crate::recorded::{judge_numbers, judge_seen, judge_times};
 use crate::replies::judge_replies;
 use crate::seats::ordered;
-use capture_verdict::Refusal;
+use captured_calls::Refusal;
 use desk_schema::Start;
 use desk_values::{CallList, Captured, SessionLists};
 use object_depends::FactList;
@@ -47,7 +47,7 @@ pub fn prepare(alloc: Global, start: &Start, sessions: &SessionLists) -> Result<
 }
 
 /// What becomes of the calls.
-#[tactic(auto, unfolding(capture_verdict::specs::Verdict::verdict))]
+#[tactic(auto, unfolding(captured_calls::specs::Verdict::verdict))]
 fn judged(alloc: Global, start: &Start, sessions: &SessionLists) -> Result<Prepared, Refusal>
     requires sessions { length sessions.now ≤ 64 }
     requires lists { AreSessionsFrom 0 (lists_of sessions.now) }

@@ -5,11 +5,11 @@ ghost use Rattle.std.specs.List.{AllByRecursion};
 ghost use Rattle.desk_values.specs.Answers.{Answers};
 ghost use Rattle.desk_values.specs.declared.capture.Captured.{Captured as Call};
 ghost use Rattle.replay_history.specs.Capture.{commits, commits_in};
-ghost use Rattle.capture_verdict.specs.Tests.{bad_number, bad_seen, bad_times, first_refused, right_number};
-ghost use Rattle.capture_verdict.specs.Inside.{IsFit};
+ghost use Rattle.captured_calls.specs.Tests.{bad_number, bad_seen, bad_times, first_refused, right_number};
+ghost use Rattle.captured_calls.specs.Inside.{IsFit};
 ghost use Rattle.prepare_plan.specs.Inside.{passed, told};
 
-use capture_verdict::Refusal;
+use captured_calls::Refusal;
 use desk_values::Captured;
 use replay_history::commits;
 

@@ -3,12 +3,12 @@
 ghost use Rattle.std.specs.Prelude.{◌≡◌, ◌≤◌, [], length};
 ghost use Rattle.std.specs.List.{AllByRecursion};
 ghost use Rattle.desk_values.specs.Answers.{Answers};
-ghost use Rattle.capture_laws.specs.Same.{same_reply};
-ghost use Rattle.capture_verdict.specs.Tests.{bad_reply, first_refused};
-ghost use Rattle.capture_verdict.specs.Inside.{IsFit};
+ghost use Rattle.captured_calls.specs.Same.{same_reply};
+ghost use Rattle.captured_calls.specs.Tests.{bad_reply, first_refused};
+ghost use Rattle.captured_calls.specs.Inside.{IsFit};
 ghost use Rattle.prepare_plan.specs.Inside.{passed, told};
 
-use capture_verdict::Refusal;
+use captured_calls::Refusal;
 use desk_schema::Start;
 use desk_values::{Captured, Copied, Reply, Same};
 use std::alloc::Global;

@@ -8,7 +8,7 @@ ghost use Rattle.prepare_plan.specs.declared.seats.Seat.TheVariants.{Empty as No
 ghost use Rattle.prepare_plan.specs.Inside.{shown, IsSeat, AreSeatsOf, is_taken, taken_call, ordered, ordered_seen};
 ghost use Rattle.prepare_plan.specs.Answered.{refusal_told};
 
-use capture_verdict::Refusal;
+use captured_calls::Refusal;
 use desk_values::{CallList, Captured, Copied, Memory, Reserved};
 use std::alloc::Global;
 
@@ -68,7 +68,8 @@ fn seated<'a>(alloc: Global, calls: &[&'a Captured]) -> Result<Vec<Seat<'a>>, Me
 
 /// Gives a call its seat; a call whose stamp has none is left out.
 fn take_seat<'a>(seats: &mut Vec<Seat<'a>>, call: &'a Captured)
-    ensures { (calls : List Call) → AreSeatsOf calls (length seats.old.items) seats.old.items → AreSeatsOf (calls ++ call.now ∷ []) (length seats.old.items) seats.new.items }
+    ensures { (calls : List Call) → AreSeatsOf calls (length seats.old.items) seats.old.items
+        → AreSeatsOf (calls ++ call.now ∷ []) (length seats.old.items) seats.new.items }
 {
     let stamp = call.stamp as usize;
     if stamp < seats.len() {

@@ -1,3 +1,4 @@
+pub mod Limits
 pub mod Services
 pub mod IdMap
 pub mod Sent

@@ -10,13 +10,13 @@ use Rattle.id_pairs.specs.declared.Id.{Id}
 use Rattle.id_pairs.specs.declared.Id.TheVariants.{Row, Draw}
 use Rattle.id_pairs.specs.Ids.{id_of, id_value}
 use Rattle.id_pairs.specs.Pairs.{IdPair, image_in}
-use Rattle.remap_ids.specs.declared.low_ids.TheConstants.{UNKNOWN_FROM}
+use Rattle.remap_ids.specs.Limits.{unknown_from}
 use Rattle.remap_ids.specs.Services.{ServicePair, sent_for}
 
--- below `UNKNOWN_FROM`, where the ids are that a server gives out
+-- below `unknown_from`, where the ids are that a server gives out
 abbrev pub IsLow : Value → Type 0
-IsLow (value.Row n) = n < UNKNOWN_FROM
-IsLow (value.Draw sequence n) = n < UNKNOWN_FROM
+IsLow (value.Row n) = n < unknown_from
+IsLow (value.Draw sequence n) = n < unknown_from
 IsLow other = Unit {0}
 
 abbrev pub HasLowIds : Call → Type 0
@@ -25,8 +25,8 @@ HasLowIds other = Unit {0}
 
 -- the same kind of id, where no server ever gives one out
 abbrev pub unknown : Id → Id
-unknown (Row n) = Row (n + UNKNOWN_FROM)
-unknown (Draw sequence n) = Draw sequence (n + UNKNOWN_FROM)
+unknown (Row n) = Row (n + unknown_from)
+unknown (Draw sequence n) = Draw sequence (n + unknown_from)
 
 -- the id's image; where it has none, an id that no server knows
 abbrev pub sent_id : List IdPair → Id → Id

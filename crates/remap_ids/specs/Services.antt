@@ -39,7 +39,8 @@ with_pair services None = Err (BadRow (length services + 1))
 with_pair services (Some pair) = if is_some (sent_for services pair.0) then Err (TwiceFrom (length services + 1)) else Ok (services ++ pair ∷ [])
 
 -- what comes next after services, but after an error nothing
-abbrev pub goes_on : (List ServicePair → Result (List ServicePair) RemapErr) → Result (List ServicePair) RemapErr → Result (List ServicePair) RemapErr
+abbrev pub goes_on : (List ServicePair → Result (List ServicePair) RemapErr) → Result (List ServicePair) RemapErr
+    → Result (List ServicePair) RemapErr
 goes_on next (Ok services) = next services
 goes_on next (Err error) = Err error
 

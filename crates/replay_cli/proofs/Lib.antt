@@ -4,6 +4,9 @@ pub mod Made
 pub mod Unique
 pub mod Endings
 pub mod Pairing
-pub mod Replaying
 pub mod Steps
 pub mod Written
+pub mod Refusals
+pub mod Sound
+pub mod Causes
+pub mod TheWords

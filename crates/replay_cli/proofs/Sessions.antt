@@ -6,13 +6,13 @@ use Rattle.std.proofs.lemmas.Fmt.{length-decimal-le}
 use Rattle.std.proofs.lemmas.List.{drop_all, length-map}
 use Rattle.std.proofs.Math.Seq.{drop-cons}
 use Rattle.desk_files.specs.declared.writes.Write.{Write}
-use Rattle.capture_laws.specs.Sessions.{AreSessionsFrom}
+use Rattle.captured_calls.specs.Sessions.{AreSessionsFrom}
 use Rattle.desk_values.specs.Room.{Room}
 use Rattle.desk_values.specs.declared.capture.Captured.{Captured}
 use Rattle.file_lines.specs.File.{ReadsFile}
 use Rattle.file_lines.specs.declared.reader.FormErr.TheVariants.{Bad}
 use Rattle.capture_format.specs.SessionFile.{AreCallsOf, IsBadSession, IsSessionFile, session_text}
-use Rattle.capture_laws.specs.Sessions.{AreSessionsFrom}
+use Rattle.captured_calls.specs.Sessions.{AreSessionsFrom}
 use Rattle.prepare_plan.specs.Lists.{lists_of}
 use Rattle.replay_cli.specs.declared.failure.Refusal.TheVariants.{BadLine}
 use Rattle.replay_cli.specs.declared.failure.Failure.{Failure}

@@ -1,7 +1,7 @@
 -- The steps of a run and of a preparation.
 use Rattle.std.proofs.Common.{ℕ, List, Option, Result, Ok, Err}
 use Rattle.desk_files.specs.Outside.{FileMap}
-use Rattle.capture_verdict.specs.Verdict.{verdict}
+use Rattle.captured_calls.specs.Verdict.{verdict}
 use Rattle.remap_ids.specs.Services.{ServicePair}
 use Rattle.replay_cli.specs.declared.failure.Failure.{Failure}
 use Rattle.replay_cli.specs.declared.failure.Refusal.{Refusal}

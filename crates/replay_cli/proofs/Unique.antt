@@ -8,9 +8,9 @@ use Rattle.capture_format.specs.StartFile.{IsBadStart, IsStartFile}
 use Rattle.capture_format.specs.SessionFile.{IsBadSession, IsSessionFile}
 use Rattle.capture_format.proofs.StartFiles as start
 use Rattle.capture_format.proofs.SessionFiles as session
-use Rattle.capture_verdict.specs.Verdict.{verdict}
+use Rattle.captured_calls.specs.Verdict.{verdict}
 use Rattle.replay_cli.specs.declared.capture.Opened.{Opened}
-use Rattle.replay_cli.specs.declared.capture.TheConstants.{ROOM}
+use Rattle.replay_cli.specs.Limits.{capture_limit}
 use Rattle.replay_cli.specs.declared.failure.Refusal.{Refusal}
 use Rattle.replay_cli.specs.declared.failure.Refusal.TheVariants.{BadLine}
 use Rattle.replay_cli.specs.declared.failure.Failure.{Failure}
@@ -19,7 +19,7 @@ use Rattle.replay_cli.specs.declared.words.Command.{Command}
 use Rattle.replay_cli.specs.declared.words.Command.TheVariants.{Run, Prepare, Generate, Trial}
 use Rattle.replay_cli.specs.Command.{command_of}
 use Rattle.replay_cli.specs.FileNames.{session_names, start_name}
-use Rattle.desk_files.specs.declared.files.TheConstants.{FILE_LIMIT}
+use Rattle.desk_files.specs.Limits.{file_limit}
 use Rattle.remap_ids.specs.Services.{ServicePair, services_of}
 use Rattle.replay_cli.specs.declared.options.Ways.{Ways}
 use Rattle.replay_cli.specs.Decision.{Decides, Failing, Legal, OpenedIn, PrepareIn, Read, ReadIn, Reads, RemapIn, RunIn, SessionOf, StartOf, Task, ToMake, ToReplay, ToTell, ToTry, Verdict, VerdictOf, legal_from, remap_of, run_job}
@@ -80,15 +80,15 @@ reading_one files room place (name ∷ names) =
 -- ---- a capture
 
 abbrev opened_of : List ℕ → StartFile → Result Opened Refusal → Type 0
-opened_of bytes file = Is (Ok (record { file = file; left = ROOM - length bytes }))
+opened_of bytes file = Is (Ok (record { file = file; left = capture_limit - length bytes }))
 
 abbrev start_in : List ℕ → List ℕ → Result Opened Refusal → Type 0
 start_in capture bytes = Then (StartOf (start_name capture) bytes) (opened_of bytes)
 
 opened_one : (files : FileMap) (capture : List ℕ) → IsOne (OpenedIn files capture)
 opened_one files capture =
-    then_one (Is (file_in files ROOM (start_name capture))) (start_in capture) (is_one (file_in files ROOM (start_name capture))) (λ bytes held.
-    then_one (StartOf (start_name capture) bytes) (opened_of bytes) (start_one (start_name capture) bytes) (λ file read. is_one (Ok (record { file = file; left = ROOM - length bytes }))))
+    then_one (Is (file_in files capture_limit (start_name capture))) (start_in capture) (is_one (file_in files capture_limit (start_name capture))) (λ bytes held.
+    then_one (StartOf (start_name capture) bytes) (opened_of bytes) (start_one (start_name capture) bytes) (λ file read. is_one (Ok (record { file = file; left = capture_limit - length bytes }))))
 
 legal_one : (start : StartView) (sessions : List (List Captured)) → IsOne (Is (legal_from start (verdict start sessions)))
 legal_one start sessions = is_one (legal_from start (verdict start sessions))
@@ -106,7 +106,7 @@ read_one files capture = then_one (OpenedIn files capture) (sessions_in files ca
 remap_one : (files : FileMap) (name : Option (List ℕ)) → IsOne (RemapIn files name)
 remap_one files None = is_one (Ok [])
 remap_one files (Some name) =
-    then_one (Is (file_in files FILE_LIMIT name)) (λ bytes. Is (remap_of (services_of bytes))) (is_one (file_in files FILE_LIMIT name)) (λ bytes held. is_one (remap_of (services_of bytes)))
+    then_one (Is (file_in files file_limit name)) (λ bytes. Is (remap_of (services_of bytes))) (is_one (file_in files file_limit name)) (λ bytes held. is_one (remap_of (services_of bytes)))
 
 -- ---- a command
 

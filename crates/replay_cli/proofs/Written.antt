@@ -7,7 +7,7 @@ use Rattle.remap_ids.specs.MapsText.{maps_text}
 use Rattle.replay_job.specs.Job.{JobView}
 use Rattle.replay_job.specs.Replays.{IsReplay}
 use Rattle.replay_job.specs.Runs.{Stage, learnt_in}
-use Rattle.pairs_law.proofs.Learnt.{pairs_learnt}
+use Rattle.law_ids.proofs.Replays.Learnt.{pairs_learnt}
 
 drop_front : {X : Type 0} (xs ys : List X) → drop (length xs) (xs ++ ys) ≡ ys
 drop_front [] ys = refl

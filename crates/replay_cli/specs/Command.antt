@@ -7,11 +7,11 @@ use Rattle.replay_cli.specs.declared.words.Command.{Command}
 use Rattle.replay_cli.specs.declared.words.Command.TheVariants.{Run, Prepare, Generate, Trial}
 use Rattle.replay_cli.specs.Options.{ways_of}
 use Rattle.replay_cli.specs.Path.{is_path}
-use Rattle.replay_cli.specs.declared.words.TheConstants.{GENERATED_LIMIT}
+use Rattle.replay_cli.specs.Limits.{generated_limit}
 
 abbrev pub within_limits : Option ℕ → Option ℕ
 within_limits None = None
-within_limits (Some n) = if nat_le 1 n && nat_le n GENERATED_LIMIT then Some n else None
+within_limits (Some n) = if nat_le 1 n && nat_le n generated_limit then Some n else None
 
 -- how many calls a word says: 1 to 10,000 in digits, without a leading zero
 abbrev pub calls_of : List ℕ → Option ℕ

@@ -1,8 +1,9 @@
 -- What the words and the files come to: a list of steps, of which the first that refuses decides.
-use Rattle.std.specs.Prelude.{◌≡◌, ℕ, ◌-◌, List, [], length, Option, None, Some, IsSome, Result, Ok, Err}
+use Rattle.std.specs.Prelude.{◌≡◌, ℕ, ◌-◌, ◌<◌, ◌⊎◌, List, [], length, Option, None, Some, Result, Ok, Err}
 use Rattle.desk_values.specs.declared.capture.Captured.{Captured}
+use Rattle.desk_values.specs.Limits.{session_limit}
 use Rattle.desk_files.specs.Outside.{FileMap}
-use Rattle.desk_files.specs.declared.files.TheConstants.{FILE_LIMIT}
+use Rattle.desk_files.specs.Limits.{file_limit}
 use Rattle.desk_schema.specs.Start.{StartView}
 use Rattle.file_lines.specs.File.{ReadsFile}
 use Rattle.file_lines.specs.declared.reader.FormErr.TheVariants.{Bad}
@@ -10,12 +11,12 @@ use Rattle.capture_format.specs.declared.start.StartFile.{StartFile}
 use Rattle.capture_format.specs.StartFile.{IsBadStart, IsStartFile}
 use Rattle.capture_format.specs.SessionFile.{IsBadSession, IsSessionFile}
 use Rattle.object_depends.specs.declared.fact.Fact.{Fact}
-use Rattle.capture_verdict.specs.declared.refusal.Refusal.{Refusal as Illegal}
-use Rattle.capture_verdict.specs.Verdict as plan
+use Rattle.captured_calls.specs.declared.refusal.Refusal.{Refusal as Illegal}
+use Rattle.captured_calls.specs.Verdict as plan
 use Rattle.replay_cli.specs.declared.capture.Opened.{Opened}
-use Rattle.replay_cli.specs.declared.capture.TheConstants.{ROOM}
+use Rattle.replay_cli.specs.Limits.{capture_limit}
 use Rattle.replay_cli.specs.declared.failure.Refusal.{Refusal}
-use Rattle.replay_cli.specs.declared.failure.Refusal.TheVariants.{BadLine, BadRemap, NotLegal}
+use Rattle.replay_cli.specs.declared.failure.Refusal.TheVariants.{Missing, TooLong, BadLine, BadRemap, NotLegal}
 use Rattle.replay_cli.specs.declared.failure.Failure.{Failure}
 use Rattle.replay_cli.specs.declared.failure.Failure.TheVariants.{BadCommand, Refused, DeviceFault, OutOfMemory}
 use Rattle.replay_cli.specs.declared.words.Command.{Command}
@@ -24,10 +25,10 @@ use Rattle.remap_ids.specs.Services.{ServicePair, services_of}
 use Rattle.remap_ids.specs.declared.remap.RemapErr.{RemapErr}
 use Rattle.remap_ids.specs.declared.remap.RemapErr.TheVariants.{BadRow, TwiceFrom, Memory}
 use Rattle.replay_job.specs.Job.{JobView}
-use Rattle.job_laws.specs.Jobs.{job_of}
+use Rattle.replay_job.specs.Jobs.{job_of}
 use Rattle.replay_cli.specs.declared.options.Ways.{Ways}
 use Rattle.replay_cli.specs.Command.{command_of}
-use Rattle.replay_cli.specs.FileNames.{session_names, start_name}
+use Rattle.replay_cli.specs.FileNames.{session_name, session_names, start_name}
 use Rattle.replay_cli.specs.Steps.{Is, Reading, Then, file_in}
 
 -- ---- a capture
@@ -46,9 +47,9 @@ SessionOf session name bytes = Reads name (IsSessionFile session bytes) (IsBadSe
 -- the start of a capture, and how many bytes its other files may have
 abbrev pub OpenedIn : FileMap → List ℕ → Result Opened Refusal → Type 0
 OpenedIn files capture =
-    Then (Is (file_in files ROOM (start_name capture))) (λ bytes.
+    Then (Is (file_in files capture_limit (start_name capture))) (λ bytes.
     Then (StartOf (start_name capture) bytes) (λ file.
-    Is (Ok (record { file = file; left = ROOM - length bytes }))))
+    Is (Ok (record { file = file; left = capture_limit - length bytes }))))
 
 -- a legal capture: its start, and its calls by stamp with their facts
 pub record Legal : Type 0 where
@@ -88,7 +89,7 @@ remap_of (Err error) = Err (BadRemap (record_of error))
 -- what the file of this name says, if one is named
 abbrev pub RemapIn : FileMap → Option (List ℕ) → Result (List ServicePair) Refusal → Type 0
 RemapIn files None = Is (Ok [])
-RemapIn files (Some name) = Then (Is (file_in files FILE_LIMIT name)) (λ bytes. Is (remap_of (services_of bytes)))
+RemapIn files (Some name) = Then (Is (file_in files file_limit name)) (λ bytes. Is (remap_of (services_of bytes)))
 
 -- ---- a command
 
@@ -123,30 +124,55 @@ Decides (Prepare capture out) files = PrepareIn files capture out
 Decides (Generate n out) files = Is (Ok (ToMake n out))
 Decides (Trial n) files = Is (Ok (ToTry n))
 
--- the command reads files, which may be refused
-abbrev pub ReadsFiles : Command → Type 0
-ReadsFiles (Run capture out ways) = Unit {0}
-ReadsFiles (Prepare capture out) = Unit {0}
-ReadsFiles (Generate n out) = ⊥
-ReadsFiles (Trial n) = ⊥
+-- ---- by the words alone
 
--- the command names a remap file
-abbrev pub NamesRemap : Command → Type 0
-NamesRemap (Run capture out ways) = IsSome ways.remap
-NamesRemap (Prepare capture out) = ⊥
-NamesRemap (Generate n out) = ⊥
-NamesRemap (Trial n) = ⊥
+-- the name is that of a file of the capture in a folder: of its start, or of one of the sessions that there may be
+abbrev pub IsFileIn : List ℕ → List ℕ → Type 0
+IsFileIn folder name = (name ≡ start_name folder) ⊎ ((session : ℕ) × (session < session_limit) × (name ≡ session_name folder session))
 
--- only such commands are refused so
+-- the line of this number is the first bad one of some file of a capture
+abbrev pub IsBadOfSome : ℕ → Type 0
+IsBadOfSome line = (bytes : List ℕ) × (IsBadStart bytes line ⊎ ((session : ℕ) × IsBadSession session bytes line))
+
+-- how the capture in a folder may be refused, whatever its files are: by one that is not there or too long, by a first bad line, or
+-- by the cause that the tests give for some calls
+abbrev pub MayRefuseCapture : List ℕ → Refusal → Type 0
+MayRefuseCapture folder (Missing name) = IsFileIn folder name
+MayRefuseCapture folder (TooLong name) = IsFileIn folder name
+MayRefuseCapture folder (BadLine name line) = IsFileIn folder name × IsBadOfSome line
+MayRefuseCapture folder (BadRemap row) = ⊥
+MayRefuseCapture folder (NotLegal cause) = (start : StartView) × (lists : List (List Captured)) × (plan.verdict start lists ≡ Err cause)
+
+-- how the remap file may be, if one is named
+abbrev pub MayRefuseRemap : Option (List ℕ) → Refusal → Type 0
+MayRefuseRemap (Some name) (Missing other) = other ≡ name
+MayRefuseRemap (Some name) (TooLong other) = other ≡ name
+MayRefuseRemap (Some name) (BadRemap row) = (bytes : List ℕ) × (remap_of (services_of bytes) ≡ Err (BadRemap row))
+MayRefuseRemap named other = ⊥
+
+-- how a command may be
 abbrev pub MayBeRefused : Command → Refusal → Type 0
-MayBeRefused command (BadRemap n) = NamesRemap command
-MayBeRefused command other = ReadsFiles command
+MayBeRefused (Run capture out ways) refusal = MayRefuseCapture capture refusal ⊎ MayRefuseRemap ways.remap refusal
+MayBeRefused (Prepare capture out) refusal = MayRefuseCapture capture refusal
+MayBeRefused (Generate n out) refusal = ⊥
+MayBeRefused (Trial n) refusal = ⊥
 
-abbrev pub MayRefuse : Command → Failure → Type 0
-MayRefuse command BadCommand = Unit {0}
-MayRefuse command (Refused refusal) = MayBeRefused command refusal
-MayRefuse command DeviceFault = Unit {0}
-MayRefuse command OutOfMemory = Unit {0}
+-- a failure of words that are a command: a refusal such as these, or a device failed or memory was short
+abbrev pub MayFail : (Refusal → Type 0) → Failure → Type 0
+MayFail may BadCommand = ⊥
+MayFail may (Refused refusal) = may refusal
+MayFail may DeviceFault = Unit {0}
+MayFail may OutOfMemory = Unit {0}
+
+-- the task is one of this command: a replay of some capture in these ways, into this folder, and so on
+abbrev pub IsTaskOf : Command → Task → Type 0
+IsTaskOf (Run capture out ways) (ToReplay folder job) = (folder ≡ out) × ((legal : Legal) × (remap : List ServicePair) × (job ≡ run_job legal remap ways))
+IsTaskOf (Prepare capture out) (ToTell folder facts) = folder ≡ out
+IsTaskOf (Generate n out) (ToMake calls folder) = (calls ≡ n) × (folder ≡ out)
+IsTaskOf (Trial n) (ToTry calls) = calls ≡ n
+IsTaskOf command other = ⊥
+
+-- ---- by the words and the files
 
 -- a refusal as the failure that it is
 abbrev pub Failing : {X : Type 0} → (Result X Refusal → Type 0) → Result X Failure → Type 0

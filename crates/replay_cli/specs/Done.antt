@@ -1,33 +1,32 @@
 -- What each task comes to: its files and its line.
 use Rattle.std.specs.Prelude.{◌≡◌, ℕ, ◌+◌, false, nat_lt, List, [], ◌∷◌, ◌++◌, length}
+use Rattle.std.specs.List.{AllByRecursion}
 use Rattle.desk_values.specs.declared.capture.Captured.{Captured}
 use Rattle.desk_values.specs.declared.capture.Event.{Event}
 use Rattle.desk_files.specs.declared.writes.Write.{Write}
 use Rattle.desk_schema.specs.Start.{StartView}
 use Rattle.capture_format.specs.StartFile.{start_text}
 use Rattle.capture_format.specs.SessionFile.{session_text}
-use Rattle.replay_history.specs.Capture.{commits_before}
+use Rattle.captured_calls.specs.Facts.{facts_of}
+use Rattle.captured_calls.specs.Verdict.{IsLegal}
+use Rattle.replay_history.specs.declared.mode.Mode.TheVariants.{Order}
+use Rattle.replay_history.specs.Capture.{commits_in}
 use Rattle.replay_history.specs.Texts.{journal_text, report_text, tables_text}
 use Rattle.object_depends.specs.Csv.{requires_text}
 use Rattle.remap_ids.specs.MapsText.{maps_text}
-use Rattle.replay_job.specs.Job.{JobView}
-use Rattle.replay_job.specs.Runs.{Stage, end_tables, learnt_in}
-use Rattle.replay_job.specs.Replays.{IsToldReplay}
+use Rattle.replay_job.specs.Events.{IsEvent}
+use Rattle.replay_job.specs.Job.{HasMoments, JobView}
+use Rattle.replay_job.specs.Runs.{IsCompleteFor, Stage, end_tables, learnt_in}
 use Rattle.replay_report.specs.Report.{report_in}
 use Rattle.replay_report.specs.Differences.{csv_text}
-use Rattle.capture_recorder.specs.declared.generated.TheConstants.{GENERATED_SESSIONS}
+use Rattle.capture_recorder.specs.Limits.{generated_sessions}
 use Rattle.capture_recorder.specs.Generated.{generated}
-use Rattle.capture_laws.specs.Sessions.{session_lists}
+use Rattle.captured_calls.specs.Sessions.{session_lists}
 use Rattle.replay_cli.specs.declared.plan.Plan.{Plan}
-use Rattle.replay_cli.specs.declared.words.Command.{Command}
-use Rattle.replay_cli.specs.declared.words.Command.TheVariants.{Run, Prepare, Generate, Trial}
 use Rattle.replay_cli.specs.Decision.{Task, ToReplay, ToTell, ToMake, ToTry}
 use Rattle.replay_cli.specs.Lines.{generated_line, prepared_line, replayed_line, trial_line}
-use Rattle.job_laws.specs.Jobs.{IsTrial}
+use Rattle.replay_job.specs.Jobs.{job_of}
 use Rattle.replay_cli.specs.FileNames.{journal_name, maps_name, report_name, requires_name, session_name, start_name, table_of_report_name, tables_name}
-
-abbrev pub all_commits : List Captured → ℕ
-all_commits calls = commits_before calls (length calls)
 
 -- ---- what is written, one file after the other
 
@@ -52,10 +51,10 @@ unfoldable pub made_calls : ℕ → List Captured
 made_calls n = (generated n).calls
 
 unfoldable pub made_lists : ℕ → List (List Captured)
-made_lists n = session_lists GENERATED_SESSIONS (made_calls n)
+made_lists n = session_lists generated_sessions (made_calls n)
 
 abbrev pub made_files : List ℕ → ℕ → List Write
-made_files out n = session_files out 0 (made_lists n) ++ record { name = start_name out; bytes = start_text (made_start n) GENERATED_SESSIONS } ∷ []
+made_files out n = session_files out 0 (made_lists n) ++ record { name = start_name out; bytes = start_text (made_start n) generated_sessions } ∷ []
 
 -- ---- each task
 
@@ -64,13 +63,22 @@ pub record IsReported (job : JobView) (history : List Event) (plan : Plan) : Typ
   pub line : plan.line ≡ replayed_line (length job.calls) (length (report_in job history).lines)
   pub differs : plan.differs ≡ nat_lt 0 (length (report_in job history).lines)
 
+-- The history is legal, each call that is sent is answered as one server answers it there, and every call is answered; the server
+-- and the pairs of ids come to this stage, and each event has a text.
+abbrev pub IsReplayOf : JobView → List Event → Stage → Type 0
+IsReplayOf job history last = IsCompleteFor job history last × AllByRecursion IsEvent history
+
 -- the line and the files are those of this replay
 abbrev pub IsDoneBy : List ℕ → JobView → Plan → List Event → Stage → Type 0
-IsDoneBy out job plan history last = IsToldReplay job history last × IsReported job history plan × (plan.writes ≡ replayed_files out job history last)
+IsDoneBy out job plan history last = IsReplayOf job history last × IsReported job history plan × (plan.writes ≡ replayed_files out job history last)
 
--- a capture was replayed as it is
+-- the job of replaying calls as they are: from their own start, in their order and without pauses
+abbrev pub trial_job : StartView → List Captured → JobView
+trial_job start calls = job_of start start (record { calls = calls; facts = facts_of start.schema calls }) [] Order 0 0
+
+-- a legal capture was replayed as it is
 abbrev pub IsTried : StartView → List Captured → Type 0
-IsTried start calls = (job : JobView) × (history : List Event) × (last : Stage) × IsTrial start calls job × IsToldReplay job history last
+IsTried start calls = IsLegal start calls × HasMoments calls × ((history : List Event) × (last : Stage) × IsReplayOf (trial_job start calls) history last)
 
 -- nothing differs
 abbrev pub IsQuiet : Plan → Type 0
@@ -83,14 +91,5 @@ IsDone (ToTell out facts) plan =
     (plan.line ≡ prepared_line (length facts)) × IsQuiet plan × (plan.writes ≡ record { name = requires_name out; bytes = requires_text facts } ∷ [])
 IsDone (ToMake n out) plan = (plan.line ≡ generated_line n) × IsQuiet plan × (plan.writes ≡ made_files out n)
 IsDone (ToTry n) plan =
-    (plan.line ≡ trial_line n (length (made_calls n)) (all_commits (made_calls n)))
+    (plan.line ≡ trial_line n (length (made_calls n)) (commits_in (made_calls n)))
     × IsTried (made_start n) (made_calls n) × IsQuiet plan × (plan.writes ≡ [])
-
--- ---- by the words alone
-
--- a line that the command prints where its work is done; a run may find calls that differ
-abbrev pub IsLineOf : Command → Plan → Type 0
-IsLineOf (Run capture out ways) plan = (calls divergent : ℕ) × (plan.line ≡ replayed_line calls divergent) × (plan.differs ≡ nat_lt 0 divergent)
-IsLineOf (Prepare capture out) plan = (calls : ℕ) × (plan.line ≡ prepared_line calls) × IsQuiet plan
-IsLineOf (Generate n out) plan = (plan.line ≡ generated_line n) × IsQuiet plan
-IsLineOf (Trial n) plan = (plan.line ≡ trial_line n (length (made_calls n)) (all_commits (made_calls n))) × IsQuiet plan

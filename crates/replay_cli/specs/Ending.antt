@@ -1,5 +1,5 @@
 -- How a command ends: its status, its line and its files.
-use Rattle.std.specs.Prelude.{◌≡◌, ℕ, ◌≤◌, ◌⊎◌, List, Option, IfSome, IsErrOf, IsNone, Result, Ok, Err}
+use Rattle.std.specs.Prelude.{◌≡◌, ℕ, ◌≤◌, ◌⊎◌, List, Option, None, Some, IsErrOf, IsNone, Result, Ok, Err}
 use Rattle.desk_files.specs.Outside.{Appends, AppendsPart, FileMap, HasRisen}
 use Rattle.desk_files.specs.Writes.{CutShort, WrittenSoFar, with_all}
 use Rattle.replay_cli.specs.declared.failure.Failure.{Failure}
@@ -7,8 +7,8 @@ use Rattle.replay_cli.specs.declared.failure.Failure.TheVariants.{BadCommand, De
 use Rattle.replay_cli.specs.declared.plan.Plan.{Plan}
 use Rattle.replay_cli.specs.Command.{command_of}
 use Rattle.replay_cli.specs.declared.words.Command.{Command}
-use Rattle.replay_cli.specs.Decision.{MayRefuse, Task}
-use Rattle.replay_cli.specs.Done.{IsDone, IsLineOf}
+use Rattle.replay_cli.specs.Decision.{IsTaskOf, MayBeRefused, MayFail, Task}
+use Rattle.replay_cli.specs.Done.{IsDone}
 use Rattle.replay_cli.specs.Lines.{done_status, failure_line, failure_status}
 
 -- ---- doing the work
@@ -31,6 +31,11 @@ status_of (Err failure) = failure_status failure
 abbrev pub line_of : Result Plan Failure → List ℕ
 line_of (Ok plan) = plan.line
 line_of (Err failure) = failure_line failure
+
+-- the line is printed, with this status; or in part at most, with that of a fault
+abbrev pub Prints : List ℕ → ℕ → ℕ → Option (List ℕ) → Option (List ℕ) → ℕ → ℕ → Type 0
+Prints line status result before after faults_before faults_after =
+    ((result ≡ status) × Appends line before after) ⊎ ((result ≡ 5) × HasRisen faults_before faults_after × AppendsPart line before after)
 
 -- the line and the status of this outcome; or the line could not be made, which that of a fault always can; or a line was
 -- not printed whole
@@ -60,15 +65,17 @@ EndsSo wanted files files_after fb fa result before after =
     ((verdict : Result Task Failure) × wanted verdict × Ends verdict files files_after fb fa result before after)
     ⊎ (IsOutside result × (files_after ≡ files))
 
--- what a command may come to, whatever its files are: its own line, or a failure, and a refusal only where it reads files
-abbrev pub MayComeTo : Command → Result Plan Failure → Type 0
-MayComeTo command (Ok plan) = IsLineOf command plan
-MayComeTo command (Err failure) = MayRefuse command failure
+-- what words may come to, whatever the files are: where they are no command, that; where they are one, a task of it that is done, or a
+-- failure that it may have; and memory may be short
+abbrev pub MayComeTo : Option Command → Result Plan Failure → Type 0
+MayComeTo None done = IsErrOf done BadCommand ⊎ IsErrOf done OutOfMemory
+MayComeTo (Some command) (Ok plan) = (task : Task) × IsTaskOf command task × IsDone task plan
+MayComeTo (Some command) (Err failure) = MayFail (MayBeRefused command) failure
 
--- what is printed, also where the files are not told: the line of what the command may come to; or that of no command, just where the words are none
+-- what is printed, also where the files are not told: the line of what the words may come to
 abbrev pub PrintsLine : List (List ℕ) → ℕ → Option (List ℕ) → Option (List ℕ) → ℕ → ℕ → Type 0
 PrintsLine words result before after faults_before faults_after =
-    (done : Result Plan Failure) × (IsErrOf done BadCommand → IsNone (command_of words)) × (IsNone (command_of words) → IsErrOf done BadCommand ⊎ IsErrOf done OutOfMemory) × IfSome (command_of words) (λ command. MayComeTo command done) × Reports done result before after faults_before faults_after
+    (done : Result Plan Failure) × MayComeTo (command_of words) done × Reports done result before after faults_before faults_after
 
 -- 2 comes only where the words are no command, 5 only where a count rose, 6 only where no file failed, and no count falls
 pub record Causes (words : List (List ℕ)) (result fb fa sb sa : ℕ) : Type 0 where

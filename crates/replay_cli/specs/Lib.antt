@@ -1,3 +1,4 @@
+pub mod Limits
 pub mod Path
 pub mod Options
 pub mod FileNames
@@ -7,4 +8,5 @@ pub mod Lines
 pub mod Decision
 pub mod Done
 pub mod Ending
+pub mod Called
 pub mod Inside

@@ -3,8 +3,8 @@ use Rattle.std.specs.Prelude.{ℕ, Bool, true, false, List, [], ◌∷◌, ◌++
 use Rattle.std.specs.Fmt.{decimal}
 use Rattle.desk_values.specs.Text.{reply_text}
 use Rattle.capture_format.specs.SessionFile.{number_text}
-use Rattle.capture_verdict.specs.declared.refusal.Refusal.{Refusal as Illegal}
-use Rattle.capture_verdict.specs.declared.refusal.Refusal.TheVariants.{TooMany, Stamp, Number, Seen, Times, Stranger, Reply, Memory}
+use Rattle.captured_calls.specs.declared.refusal.Refusal.{Refusal as Illegal}
+use Rattle.captured_calls.specs.declared.refusal.Refusal.TheVariants.{TooMany, Stamp, Number, Seen, Times, Stranger, Reply, Memory}
 use Rattle.replay_cli.specs.declared.failure.Refusal.{Refusal}
 use Rattle.replay_cli.specs.declared.failure.Refusal.TheVariants.{Missing, TooLong, BadLine, BadRemap, NotLegal}
 use Rattle.replay_cli.specs.declared.failure.Failure.{Failure}

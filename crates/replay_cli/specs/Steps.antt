@@ -2,7 +2,7 @@
 use Rattle.std.specs.Prelude.{◌≡◌, ℕ, ◌+◌, ◌-◌, ◌⊎◌, nat_lt, if◌then◌else◌, List, [], ◌∷◌, length, Option, None, Some, Result, Ok, Err}
 use Rattle.std.specs.FinMap.{get}
 use Rattle.desk_files.specs.Outside.{FileMap}
-use Rattle.desk_files.specs.declared.files.TheConstants.{FILE_LIMIT}
+use Rattle.desk_files.specs.Limits.{file_limit}
 use Rattle.replay_cli.specs.declared.failure.Refusal.{Refusal}
 use Rattle.replay_cli.specs.declared.failure.Refusal.TheVariants.{Missing, TooLong}
 
@@ -21,7 +21,7 @@ Then {X = X} first next (Err refusal) = first (Err refusal) ⊎ ((x : X) × firs
 
 abbrev pub file_of : Option (List ℕ) → ℕ → List ℕ → Result (List ℕ) Refusal
 file_of None room name = Err (Missing name)
-file_of (Some bytes) room name = if nat_lt FILE_LIMIT (length bytes) then Err (TooLong name) else if nat_lt room (length bytes) then Err (TooLong name) else Ok bytes
+file_of (Some bytes) room name = if nat_lt file_limit (length bytes) then Err (TooLong name) else if nat_lt room (length bytes) then Err (TooLong name) else Ok bytes
 
 -- the bytes of a file, where at most `room` of them are taken
 abbrev pub file_in : FileMap → ℕ → List ℕ → Result (List ℕ) Refusal

@@ -3,15 +3,15 @@
 ghost use Rattle.std.specs.Prelude.{◌≡◌, ◌≤◌, length, IfErr, IfOk};
 ghost use Rattle.desk_files.specs.Outside.{Told};
 ghost use Rattle.replay_job.specs.Job.{AreKnownOf, HasMoments};
-ghost use Rattle.replay_cli.specs.Decision.{OpenedIn, ReadIn, SessionOf, legal_from};
-ghost use Rattle.replay_cli.specs.Inside.Steps.{Answered, FaultFree, IsOfCapture, Step, seen_as};
+ghost use Rattle.replay_cli.specs.Decision.{MayFail, MayRefuseCapture, OpenedIn, ReadIn, SessionOf, legal_from};
+ghost use Rattle.replay_cli.specs.Inside.Steps.{Answered, FaultFree, Step, seen_as};
 ghost use Rattle.replay_cli.specs.Inside.Work.{legal_of, read_of};
-ghost use Rattle.capture_verdict.specs.Verdict.{IsLegal, verdict};
+ghost use Rattle.captured_calls.specs.Verdict.{IsLegal, verdict};
 ghost use Rattle.replay_cli.specs.Steps.{Is, Reading};
 ghost use Rattle.replay_cli.specs.FileNames.{session_names};
-ghost use Rattle.capture_laws.specs.Sessions.{AreSessionsFrom};
+ghost use Rattle.captured_calls.specs.Sessions.{AreSessionsFrom};
 ghost use Rattle.prepare_plan.specs.Lists.{lists_of};
-ghost use Rattle.desk_values.specs.declared.limits.TheConstants.{SESSION_LIMIT};
+ghost use Rattle.desk_values.specs.Limits.{session_limit};
 
 use crate::failure::{Failure, Refusal};
 use crate::reading::{parse_start, read_file, read_sessions};
@@ -57,10 +57,12 @@ pub struct Read {
 /// Reads the capture in a folder: its start file, then the files of as many sessions as that says.
 pub fn read_capture<F: Files>(alloc: Global, capture: &Txt, files: &mut F) -> Result<Read, Failure>
     requires { length capture.now ≤ 900 }
-    ensures step { Step (λ map. ReadIn map capture.now) (F.content files.old) (F.content files.new) (F.faults files.old) (F.faults files.new) (seen_as read_of result) }
+    ensures step { Step (λ map. ReadIn map capture.now)
+        (F.content files.old) (F.content files.new)
+        (F.faults files.old) (F.faults files.new) (seen_as read_of result) }
     ensures count { IfOk result (λ read. length read.sessions ≤ 64) }
     ensures lists { IfOk result (λ read. AreSessionsFrom 0 (lists_of read.sessions)) }
-    ensures kind { IfErr result IsOfCapture }
+    ensures kind { IfErr result (MayFail (MayRefuseCapture capture.now)) }
 {
     let opened = open(alloc, capture, files)?;
     let sessions = load_sessions(alloc, capture, &opened, files)?;
@@ -73,9 +75,11 @@ pub fn read_capture<F: Files>(alloc: Global, capture: &Txt, files: &mut F) -> Re
 /// The start file of a capture.
 fn open<F: Files>(alloc: Global, capture: &Txt, files: &mut F) -> Result<Opened, Failure>
     requires { length capture.now ≤ 900 }
-    ensures step { Step (λ map. OpenedIn map capture.now) (F.content files.old) (F.content files.new) (F.faults files.old) (F.faults files.new) result }
-    ensures sessions { IfOk result (λ opened. opened.file.sessions ≤ SESSION_LIMIT) }
-    ensures kind { IfErr result IsOfCapture }
+    ensures step { Step (λ map. OpenedIn map capture.now)
+        (F.content files.old) (F.content files.new)
+        (F.faults files.old) (F.faults files.new) result }
+    ensures sessions { IfOk result (λ opened. opened.file.sessions ≤ session_limit) }
+    ensures kind { IfErr result (MayFail (MayRefuseCapture capture.now)) }
 {
     let name = name_in(alloc, capture, "/start.cap")?;
     let bytes = read_file(&name, ROOM, files)?;
@@ -94,11 +98,13 @@ fn load_sessions<F: Files>(
     files: &mut F,
 ) -> Result<SessionLists, Failure>
     requires capture { length capture.now ≤ 900 }
-    requires sessions { opened.now.file.sessions ≤ SESSION_LIMIT }
-    ensures step { Step (λ map. Reading SessionOf map opened.now.left 0 (session_names capture.now opened.now.file.sessions)) (F.content files.old) (F.content files.new) (F.faults files.old) (F.faults files.new) (seen_as lists_of result) }
+    requires sessions { opened.now.file.sessions ≤ session_limit }
+    ensures step { Step (λ map. Reading SessionOf map opened.now.left 0 (session_names capture.now opened.now.file.sessions))
+        (F.content files.old) (F.content files.new)
+        (F.faults files.old) (F.faults files.new) (seen_as lists_of result) }
     ensures count { IfOk result (λ sessions. length sessions ≤ 64) }
     ensures lists { IfOk result (λ sessions. AreSessionsFrom 0 (lists_of sessions)) }
-    ensures kind { IfErr result IsOfCapture }
+    ensures kind { IfErr result (MayFail (MayRefuseCapture capture.now)) }
 {
     let names = session_names(alloc, capture, opened.file.sessions)?;
     read_sessions(alloc, names.as_slice(), opened.left, files)
@@ -114,7 +120,6 @@ pub fn test(alloc: Global, read: Read) -> Result<Legal, Failure>
     ensures known { IfOk result (λ legal. AreKnownOf legal.calls.items legal.facts) }
     ensures moments { IfOk result (λ legal. HasMoments legal.calls.items) }
     ensures facts { IfOk result (λ legal. length legal.facts ≤ 100000) }
-    ensures kind { IfErr result IsOfCapture }
 {
     match prepare(alloc, &read.start, &read.sessions) {
         Ok(prepared) => Ok(Legal {

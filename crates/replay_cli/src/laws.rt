@@ -1,11 +1,34 @@
 //! Laws of the definitions.
 
-ghost use Rattle.std.specs.Prelude.{◌≡◌, ℕ, List, Result};
+ghost use Rattle.std.specs.Prelude.{◌≡◌, ◌≢◌, ◌≤◌, ℕ, List, [], Ok, Result};
 ghost use Rattle.desk_files.specs.Outside.{FileMap};
 ghost use Rattle.replay_cli.specs.declared.failure.Failure.{Failure};
-ghost use Rattle.replay_cli.specs.Decision.{Task, Verdict};
+ghost use Rattle.captured_calls.specs.declared.refusal.Refusal.{Refusal as Illegal};
+ghost use Rattle.replay_job.specs.Job.{JobView};
+ghost use Rattle.replay_job.specs.Replays.{IsSoundJob};
+ghost use Rattle.replay_cli.specs.declared.failure.Refusal.TheVariants.{BadLine, BadRemap, NotLegal};
+ghost use Rattle.replay_cli.specs.declared.words.Command.{Command};
+ghost use Rattle.replay_cli.specs.Decision.{MayBeRefused, Task, ToReplay, Verdict};
+ghost use Rattle.replay_cli.specs.Lines.{cause_text};
 
 /// The words and the files have at most one verdict.
 pub fn one_verdict()
-    ensures { (words : List (List ℕ)) (files : FileMap) (verdict other : Result Task Failure) → Verdict words files verdict → Verdict words files other → verdict ≡ other }
+    ensures { (words : List (List ℕ)) (files : FileMap) (verdict other : Result Task Failure)
+        → Verdict words files verdict → Verdict words files other → verdict ≡ other }
+{}
+
+/// A job that the words and the files come to can be replayed.
+pub fn jobs_can_be_replayed()
+    ensures { (words : List (List ℕ)) (files : FileMap) (out : List ℕ) (job : JobView)
+        → Verdict words files (Ok (ToReplay out job)) → IsSoundJob job }
+{}
+
+/// A refusal that a command may print, whatever the files are, tells of a line or of a record from 1 on, and of a cause that has
+/// a text.
+pub fn refusals_tell_something()
+    ensures line { (command : Command) (name : List ℕ) (line : ℕ)
+        → MayBeRefused command (BadLine name line) → 1 ≤ line }
+    ensures row { (command : Command) (row : ℕ) → MayBeRefused command (BadRemap row) → 1 ≤ row }
+    ensures cause { (command : Command) (cause : Illegal)
+        → MayBeRefused command (NotLegal cause) → cause_text cause ≢ [] }
 {}

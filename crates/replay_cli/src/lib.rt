@@ -17,7 +17,7 @@ mod running;
 mod words;
 mod work;
 
-pub use arguments::{arguments_of, word_of};
+pub use arguments::{Arguments, Called, arguments_of, word_of};
 pub use capture::{Legal, Opened, Read};
 pub use failure::{Failure, Refusal};
 pub use main_call::{replay_main, report_want_of_memory};

@@ -1,19 +1,22 @@
 //! The one call that the program makes.
 
-ghost use Rattle.std.specs.Prelude.{◌≡◌, ◌≢◌, ◌≤◌, ◌⊎◌, Result, IsSomeAnd, Ok, Err};
-ghost use Rattle.desk_files.specs.Outside.{Appends, AppendsPart, HasRisen, Told};
+ghost use Rattle.std.specs.Prelude.{◌≡◌, ◌≢◌, ◌≤◌, Result, IsSomeAnd, Ok, Err};
+ghost use Rattle.desk_files.specs.Outside.{Told};
 ghost use Rattle.replay_cli.specs.declared.failure.Failure.{Failure as Outcome};
 ghost use Rattle.replay_cli.specs.declared.failure.Failure.TheVariants.{DeviceFault, OutOfMemory};
 ghost use Rattle.replay_cli.specs.Decision.{Task, Verdict};
 ghost use Rattle.replay_cli.specs.Lines.{failure_line};
-ghost use Rattle.replay_cli.specs.Ending.{Causes, Ends, EndsSo, PrintsLine, Reports};
+ghost use Rattle.replay_cli.specs.Ending.{Causes, Ends, EndsSo, Prints, PrintsLine, Reports};
 
 use crate::failure::Failure;
 use crate::plan::Plan;
 use crate::running::run;
-use desk_files::{Files, Sink};
+use desk_files::{Door, Files, Sink};
 use desk_values::{Memory, Txt};
 use std::alloc::Global;
+use std::sync::Wait;
+use std::thread::Threads;
+use std::time::Clock;
 
 /// Does what the words after the program's name say, prints one line on `out`, and gives the status to end with.
 ///
@@ -24,8 +27,8 @@ use std::alloc::Global;
 /// | `generate N OUT` | write a capture of N calls into OUT | `generated N calls` |
 /// | `trial N` | make that capture and replay it without pauses | `trial N: N calls, 0 divergent, K commits` |
 ///
-/// Behind `run CAPTURE OUT` there may stand `--mode off`, `scn`, `object` or `order`, `--think P`, `--connect P` and `--remap FILE`,
-/// in any order, each at most once.
+/// Behind `run CAPTURE OUT` there may stand `--mode off`, `scn`, `object` or `order`, `--think P`, `--connect P`, `--remap FILE` and
+/// `--lanes N`, in any order, each at most once.
 ///
 /// | status | where | line |
 /// |---|---|---|
@@ -42,19 +45,27 @@ use std::alloc::Global;
 ///
 /// What the words and the files come to is their verdict, of which there is at most one: `ends` says that the call ends as some
 /// verdict does, or outside of it by 5 or 6, and `each` that it ends so with whatever verdict there is.
-pub fn replay_main<R, F: Files, S: Sink>(
-    _rt: &R,
+pub fn replay_main<R: Clock + Wait + Threads + Sync, F: Files, D: Door, S: Sink>(
+    rt: &R,
     alloc: Global,
     words: &[Txt],
     files: &mut F,
+    door: &D,
     out: &mut S,
 ) -> u8
-    ensures ends { Told (F.content files.old) (λ before. IsSomeAnd (F.content files.new) (λ after. EndsSo (Verdict words.now before) before after (F.faults files.old) (F.faults files.new) result (S.content out.old) (S.content out.new))) }
-    ensures each { Told (F.content files.old) (λ before. IsSomeAnd (F.content files.new) (λ after. (verdict : Result Task Outcome) → Verdict words.now before verdict → Ends verdict before after (F.faults files.old) (F.faults files.new) result (S.content out.old) (S.content out.new))) }
+    ensures ends { Told (F.content files.old) (λ before. IsSomeAnd (F.content files.new) (λ after.
+        EndsSo (Verdict words.now before) before after
+        (F.faults files.old) (F.faults files.new)
+        result (S.content out.old) (S.content out.new))) }
+    ensures each { Told (F.content files.old) (λ before. IsSomeAnd (F.content files.new) (λ after.
+        (verdict : Result Task Outcome) → Verdict words.now before verdict
+        → Ends verdict before after
+        (F.faults files.old) (F.faults files.new)
+        result (S.content out.old) (S.content out.new))) }
     ensures line { PrintsLine words.now result (S.content out.old) (S.content out.new) (S.faults out.old) (S.faults out.new) }
     ensures causes { Causes words.now result (F.faults files.old) (F.faults files.new) (S.faults out.old) (S.faults out.new) }
 {
-    let done = run(alloc, words, files);
+    let done = run(rt, alloc, words, files, door);
     report(alloc, &done, out)
 }
 
@@ -96,7 +107,8 @@ fn report_refusal<S: Sink>(alloc: Global, failure: &Failure, out: &mut S) -> u8
 /// Appends that a device failed, and gives the status to end with. It takes no memory, so that a fault is never told as
 /// want of it.
 fn report_fault<S: Sink>(out: &mut S) -> u8
-    ensures says { ((result ≡ 5) × Appends (failure_line DeviceFault) (S.content out.old) (S.content out.new)) ⊎ ((result ≡ 5) × HasRisen (S.faults out.old) (S.faults out.new) × AppendsPart (failure_line DeviceFault) (S.content out.old) (S.content out.new)) }
+    ensures says { Prints (failure_line DeviceFault) 5 result
+        (S.content out.old) (S.content out.new) (S.faults out.old) (S.faults out.new) }
     ensures count { S.faults out.old ≤ S.faults out.new }
 {
     print(b"device fault\n", Failure::DeviceFault.status(), out)
@@ -105,7 +117,8 @@ fn report_fault<S: Sink>(out: &mut S) -> u8
 /// Appends that memory was short, and gives the status to end with: 6, or 5 where the line was not printed. It takes no
 /// memory.
 pub fn report_want_of_memory<S: Sink>(out: &mut S) -> u8
-    ensures says { ((result ≡ 6) × Appends (failure_line OutOfMemory) (S.content out.old) (S.content out.new)) ⊎ ((result ≡ 5) × HasRisen (S.faults out.old) (S.faults out.new) × AppendsPart (failure_line OutOfMemory) (S.content out.old) (S.content out.new)) }
+    ensures says { Prints (failure_line OutOfMemory) 6 result
+        (S.content out.old) (S.content out.new) (S.faults out.old) (S.faults out.new) }
     ensures count { S.faults out.old ≤ S.faults out.new }
 {
     print(b"out of memory\n", Failure::OutOfMemory.status(), out)
@@ -113,7 +126,8 @@ pub fn report_want_of_memory<S: Sink>(out: &mut S) -> u8
 
 /// Appends a line. The status is this one, or that of a fault where the line was not printed, or in part.
 fn print<S: Sink>(line: &[u8], status: u8, out: &mut S) -> u8
-    ensures says { ((result ≡ status) × Appends line.now (S.content out.old) (S.content out.new)) ⊎ ((result ≡ 5) × HasRisen (S.faults out.old) (S.faults out.new) × AppendsPart line.now (S.content out.old) (S.content out.new)) }
+    ensures says { Prints line.now status result
+        (S.content out.old) (S.content out.new) (S.faults out.old) (S.faults out.new) }
     ensures count { S.faults out.old ≤ S.faults out.new }
 {
     match out.write(line) {

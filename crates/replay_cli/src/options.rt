@@ -3,12 +3,15 @@
 ghost use Rattle.std.specs.Prelude.{◌≡◌, ◌≤◌, length, IfOk, IfSome, Some};
 ghost use Rattle.std.specs.Option.{option_map};
 ghost use Rattle.replay_cli.specs.Options as option;
-ghost use Rattle.replay_cli.specs.Inside.Limits.{HasWays, HasLimits};
+ghost use Rattle.replay_cli.specs.Inside.Limits.{HasWays, HasLimits, IsLaneCount};
 
 use crate::words::is_path;
 use desk_values::fields::read_u64;
 use desk_values::{Copied, Memory, Txt, find_word};
 use replay_history::{Mode, PERCENT_LIMIT};
+
+/// How many lanes there are at most.
+pub const LANE_LIMIT: u32 = 64;
 
 /// How a run goes.
 #[derive(Drop)]
@@ -21,6 +24,8 @@ pub struct Ways {
     pub connect: u32,
     /// The file that says what the captured services are sent as, if there is one.
     pub remap: Option<Txt>,
+    /// How many lanes serve the sessions, if that is said.
+    pub lanes: Option<u32>,
 }
 
 /// The options that words say.
@@ -30,6 +35,7 @@ pub struct Options {
     think: Option<u32>,
     connect: Option<u32>,
     remap: Option<Txt>,
+    lanes: Option<u32>,
 }
 
 /// How a run goes by its options: pairs of a name and a value, each name at most once. `None` where they are not so.
@@ -52,6 +58,7 @@ fn whole(options: Options) -> Ways
         think: options.think.unwrap_or(100),
         connect: options.connect.unwrap_or(100),
         remap: options.remap,
+        lanes: options.lanes,
     }
 }
 
@@ -64,6 +71,7 @@ fn options_of(words: &[Txt]) -> Result<Option<Options>, Memory>
         think: None,
         connect: None,
         remap: None,
+        lanes: None,
     };
     let mut rest = words;
     while let [name, value, others @ ..] = rest {
@@ -94,6 +102,8 @@ fn with_option(options: Options, name: &Txt, value: &Txt) -> Result<Option<Optio
         Ok(with_connect(options, percent_of(value)))
     } else if name.as_str() == "--remap" {
         with_remap(options, value)
+    } else if name.as_str() == "--lanes" {
+        Ok(with_lanes(options, lanes_of(value)))
     } else {
         Ok(None)
     }
@@ -147,6 +157,30 @@ fn with_remap(mut options: Options, name: &Txt) -> Result<Option<Options>, Memor
     }
     options.remap = Some(name.copy()?);
     Ok(Some(options))
+}
+
+fn with_lanes(mut options: Options, said: Option<u32>) -> Option<Options>
+    requires limits { HasLimits options }
+    requires said { IfSome said IsLaneCount }
+    ensures value { result ≡ option.with_lanes options said }
+    ensures limits { IfSome result HasLimits }
+{
+    if options.lanes.is_some() || said.is_none() {
+        return None;
+    }
+    options.lanes = said;
+    Some(options)
+}
+
+/// A number of lanes: 1 to 64 in digits, without a leading zero.
+fn lanes_of(word: &Txt) -> Option<u32>
+    ensures value { result ≡ option.lanes_of word.now }
+    ensures limit { IfSome result IsLaneCount }
+{
+    match read_u64(word.as_str().as_bytes()) {
+        Some(lanes) if 1 <= lanes && lanes <= u64::from(LANE_LIMIT) => Some(lanes as u32),
+        _ => None,
+    }
 }
 
 /// A percentage: 0 to 1,000 in digits, without a leading zero.

@@ -4,25 +4,27 @@ ghost use Rattle.std.specs.Prelude.{◌≡◌, ◌++◌, ◌∷◌, [], ◌≤�
 ghost use Rattle.desk_values.specs.declared.value.Image.{Image};
 ghost use Rattle.desk_values.specs.declared.capture.Event.{Event};
 ghost use Rattle.capture_format.specs.StartFile.{start_text};
-ghost use Rattle.capture_laws.specs.Sessions.{AreSessionsFrom};
+ghost use Rattle.captured_calls.specs.Sessions.{AreSessionsFrom};
 ghost use Rattle.prepare_plan.specs.Lists.{lists_of};
-ghost use Rattle.replay_cli.specs.Inside.Limits.{IsCallCount};
+ghost use Rattle.replay_cli.specs.Inside.Limits.{IsCallCount, IsLaneCount};
 ghost use Rattle.replay_cli.specs.Decision.{ToMake, ToReplay, ToTell, ToTry};
-ghost use Rattle.replay_cli.specs.Done.{IsDone, IsQuiet, IsTried, all_commits, made_calls, made_lists, made_start, replayed_files, session_files};
+ghost use Rattle.replay_cli.specs.Done.{IsDone, IsQuiet, IsTried, made_calls, made_lists, made_start, replayed_files, session_files};
 ghost use Rattle.replay_cli.specs.Inside.Work.{IsWork, task_of};
 ghost use Rattle.replay_cli.specs.Lines.{counted, counted_line, done_status, generated_line, replayed_line, trial_line};
+ghost use Rattle.replay_history.specs.Capture.{commits_in};
 ghost use Rattle.replay_job.specs.Job.{HasMoments, seen};
 ghost use Rattle.replay_job.specs.Replays.{IsSoundJob, IsToldReplay};
 ghost use Rattle.replay_report.specs.Report.{report_in};
-ghost use Rattle.capture_verdict.specs.Verdict.{IsLegal};
+ghost use Rattle.captured_calls.specs.Verdict.{IsLegal};
 ghost use Rattle.replay_cli.specs.FileNames.{start_name};
+ghost use Rattle.capture_recorder.specs.Limits.{generated_sessions};
 
-use crate::replay::{replay, trial_of};
+use crate::replay::trial_of;
 use crate::words::{name_in, session_name};
 use crate::work::Work;
 use capture_format::{write_session, write_start};
 use capture_recorder::{GENERATED_SESSIONS, Recorder, generate, sessions_of};
-use desk_files::Write;
+use desk_files::{Door, Write};
 use desk_schema::Start;
 use desk_values::fields::append_u64;
 use desk_values::{Bytes, CallList, Captured, List, Memory, SessionLists, Txt};
@@ -31,7 +33,11 @@ use replay_core::Desk;
 use replay_history::{Report, commits};
 use replay_job::Job;
 use replay_report::{journal_text, report_csv, report_of, report_text, tables_text};
+use replay_worker::run_all;
 use std::alloc::Global;
+use std::sync::Wait;
+use std::thread::Threads;
+use std::time::Clock;
 
 /// What a command's work comes to.
 #[derive(Drop)]
@@ -54,25 +60,38 @@ impl Plan {
 }
 
 /// What the work comes to.
-pub fn plan_of(alloc: Global, work: Work) -> Result<Plan, Memory>
+pub fn plan_of<R: Clock + Wait + Threads + Sync, D: Door>(
+    rt: &R,
+    alloc: Global,
+    work: Work,
+    door: &D,
+) -> Result<Plan, Memory>
     requires { IsWork work }
     ensures { IfOk result (λ plan. IsDone (task_of work) plan) }
 {
     match work {
-        Work::Replaying(out, job) => replaying(alloc, &out, job),
+        Work::Replaying(out, job, lanes) => replaying(rt, alloc, &out, job, door, lanes),
         Work::Telling(out, facts) => telling(alloc, &out, &facts),
         Work::Making(calls, out) => making(alloc, calls, &out),
-        Work::Trying(calls) => trying(alloc, calls),
+        Work::Trying(calls) => trying(rt, alloc, calls, door),
     }
 }
 
 /// A replay, with its report.
-fn replaying(alloc: Global, out: &Txt, job: Job) -> Result<Plan, Memory>
+fn replaying<R: Clock + Wait + Threads + Sync, D: Door>(
+    rt: &R,
+    alloc: Global,
+    out: &Txt,
+    job: Job,
+    door: &D,
+    lanes: u32,
+) -> Result<Plan, Memory>
     requires out { length out.now ≤ 900 }
     requires job { IsSoundJob (seen job) }
+    requires lanes { IsLaneCount lanes }
     ensures { IfOk result (λ plan. IsDone (ToReplay out.now (seen job)) plan) }
 {
-    let desk = replay(alloc, job)?;
+    let desk = run_all(rt, alloc, job, door, lanes)?;
     reported(alloc, out, &desk)
 }
 
@@ -185,7 +204,8 @@ fn written(
     requires lists { AreSessionsFrom 0 (lists_of lists.now) }
     ensures line { IfOk result (λ plan. plan.line ≡ generated_line n) }
     ensures quiet { IfOk result IsQuiet }
-    ensures writes { IfOk result (λ plan. plan.writes ≡ session_files out.now 0 (lists_of lists.now) ++ record { name = start_name out.now; bytes = start_text start.now GENERATED_SESSIONS } ∷ []) }
+    ensures writes { IfOk result (λ plan. plan.writes ≡ session_files out.now 0 (lists_of lists.now)
+        ++ record { name = start_name out.now; bytes = start_text start.now generated_sessions } ∷ []) }
 {
     let mut writes = session_writes(alloc, out, lists)?;
     let start = write_start(alloc, start, GENERATED_SESSIONS)?;
@@ -235,25 +255,37 @@ fn session_writes(alloc: Global, out: &Txt, lists: &[CallList]) -> Result<List<W
 }
 
 /// A replay of the generated capture without pauses.
-fn trying(alloc: Global, calls: u32) -> Result<Plan, Memory>
+fn trying<R: Clock + Wait + Threads + Sync, D: Door>(
+    rt: &R,
+    alloc: Global,
+    calls: u32,
+    door: &D,
+) -> Result<Plan, Memory>
     requires { IsCallCount calls }
     ensures { IfOk result (λ plan. IsDone (ToTry calls) plan) }
 {
     let recorder = make(alloc, calls)?;
-    tried(alloc, calls, recorder.start(), recorder.calls())
+    tried(rt, alloc, calls, recorder.start(), recorder.calls(), door)
 }
 
 /// A replay of these calls without pauses.
-fn tried(alloc: Global, n: u32, start: &Start, calls: &CallList) -> Result<Plan, Memory>
+fn tried<R: Clock + Wait + Threads + Sync, D: Door>(
+    rt: &R,
+    alloc: Global,
+    n: u32,
+    start: &Start,
+    calls: &CallList,
+    door: &D,
+) -> Result<Plan, Memory>
     requires legal { IsLegal start.now calls.now.items }
     requires moments { HasMoments calls.now.items }
-    ensures line { IfOk result (λ plan. plan.line ≡ trial_line n (length calls.now.items) (all_commits calls.now.items)) }
+    ensures line { IfOk result (λ plan. plan.line ≡ trial_line n (length calls.now.items) (commits_in calls.now.items)) }
     ensures replay { IfOk result (λ plan. IsTried start.now calls.now.items) }
     ensures quiet { IfOk result IsQuiet }
     ensures writes { IfOk result (λ plan. plan.writes ≡ []) }
 {
     let job = trial_of(alloc, start, calls)?;
-    replay(alloc, job)?;
+    run_all(rt, alloc, job, door, GENERATED_SESSIONS)?;
     Ok(Plan {
         line: trial_line(alloc, n, calls.len() as u64, commits_of(calls.as_slice()))?,
         differs: false,
@@ -263,7 +295,7 @@ fn tried(alloc: Global, n: u32, start: &Start, calls: &CallList) -> Result<Plan,
 
 /// How many of the calls are numbered commits.
 fn commits_of(calls: &[Captured]) -> u64
-    ensures { result ≡ all_commits calls.now }
+    ensures { result ≡ commits_in calls.now }
 {
     let mut count = 0;
     for call in calls {

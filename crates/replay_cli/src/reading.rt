@@ -1,12 +1,12 @@
 //! Reading the files of a command, one after the other.
 
-ghost use Rattle.std.specs.Prelude.{◌≡◌, ◌≤◌, length, IfErr, IfOk, IsSome};
+ghost use Rattle.std.specs.Prelude.{◌≡◌, ◌≤◌, length, IfErr, IfOk};
 ghost use Rattle.desk_files.specs.Outside.{Told};
-ghost use Rattle.capture_laws.specs.Sessions.{AreSessionsFrom};
+ghost use Rattle.captured_calls.specs.Sessions.{AreSessionsFrom};
 ghost use Rattle.prepare_plan.specs.Lists.{lists_of};
 ghost use Rattle.remap_ids.specs.Services.{services_of};
-ghost use Rattle.replay_cli.specs.Decision.{RemapIn, SessionOf, StartOf, remap_of};
-ghost use Rattle.replay_cli.specs.Inside.Steps.{Answered, FaultFree, IsOfCapture, Step, seen_as};
+ghost use Rattle.replay_cli.specs.Decision.{MayFail, MayRefuseRemap, RemapIn, SessionOf, StartOf, remap_of};
+ghost use Rattle.replay_cli.specs.Inside.Steps.{Answered, FaultFree, IsUntaken, RefusesOne, Step, seen_as};
 ghost use Rattle.replay_cli.specs.Steps.{Is, Reading, file_in};
 
 use crate::failure::{Failure, Refusal};
@@ -18,9 +18,11 @@ use std::alloc::Global;
 
 /// The bytes of a file, of which at most `room` are taken.
 pub fn read_file<F: Files>(name: &Txt, room: usize, files: &mut F) -> Result<Bytes, Failure>
-    ensures step { Step (λ map. Is (file_in map room name.now)) (F.content files.old) (F.content files.new) (F.faults files.old) (F.faults files.new) result }
+    ensures step { Step (λ map. Is (file_in map room name.now))
+        (F.content files.old) (F.content files.new)
+        (F.faults files.old) (F.faults files.new) result }
     ensures room { IfOk result (λ bytes. length bytes ≤ room) }
-    ensures kind { IfErr result IsOfCapture }
+    ensures kind { IfErr result (MayFail (IsUntaken name.now)) }
 {
     match files.read(name) {
         Ok(bytes) if bytes.len() <= room => Ok(bytes),
@@ -36,7 +38,6 @@ pub fn read_file<F: Files>(name: &Txt, room: usize, files: &mut F) -> Result<Byt
 pub fn parse_start(alloc: Global, name: &Txt, bytes: &Bytes) -> Result<StartFile, Failure>
     ensures says { Answered (StartOf name.now bytes.now) result }
     ensures free { FaultFree result }
-    ensures kind { IfErr result IsOfCapture }
 {
     match read_start(alloc, bytes.as_slice()) {
         Ok(file) => Ok(file),
@@ -54,7 +55,6 @@ pub fn parse_session(
 ) -> Result<CallList, Failure>
     ensures says { Answered (SessionOf session name.now bytes.now) (seen_as (λ calls. calls.items) result) }
     ensures free { FaultFree result }
-    ensures kind { IfErr result IsOfCapture }
 {
     match read_session(alloc, bytes.as_slice(), session) {
         Ok(calls) => Ok(calls),
@@ -69,8 +69,10 @@ pub fn read_remap<F: Files>(
     name: &Option<Txt>,
     files: &mut F,
 ) -> Result<Remap, Failure>
-    ensures step { Step (λ map. RemapIn map name.now) (F.content files.old) (F.content files.new) (F.faults files.old) (F.faults files.new) result }
-    ensures named { IfErr result (λ _. IsSome name.now) }
+    ensures step { Step (λ map. RemapIn map name.now)
+        (F.content files.old) (F.content files.new)
+        (F.faults files.old) (F.faults files.new) result }
+    ensures kind { IfErr result (MayFail (MayRefuseRemap name.now)) }
 {
     match name {
         Some(name) => {
@@ -102,10 +104,12 @@ pub fn read_sessions<F: Files>(
     files: &mut F,
 ) -> Result<SessionLists, Failure>
     requires { length names.now ≤ 64 }
-    ensures step { Step (λ map. Reading SessionOf map room 0 names.now) (F.content files.old) (F.content files.new) (F.faults files.old) (F.faults files.new) (seen_as lists_of result) }
+    ensures step { Step (λ map. Reading SessionOf map room 0 names.now)
+        (F.content files.old) (F.content files.new)
+        (F.faults files.old) (F.faults files.new) (seen_as lists_of result) }
     ensures count { IfOk result (λ sessions. length sessions ≡ length names.now) }
     ensures lists { IfOk result (λ sessions. AreSessionsFrom 0 (lists_of sessions)) }
-    ensures kind { IfErr result IsOfCapture }
+    ensures kind { IfErr result (MayFail (RefusesOne names.now)) }
 {
     let mut sessions = List::new(alloc);
     let mut left = room;

@@ -1,36 +1,17 @@
-//! The replay of a job, call after call.
+//! The job of a trial.
 
-ghost use Rattle.std.specs.Prelude.{◌≡◌, IfOk, map, [], ◌≤◌, length};
+ghost use Rattle.std.specs.Prelude.{◌≡◌, IfOk, map};
 ghost use Rattle.replay_job.specs.Job.{HasMoments, seen};
-ghost use Rattle.replay_job.specs.Replays.{IsSoundJob, IsToldReplay};
-ghost use Rattle.job_laws.specs.Jobs.{IsTrial, plain_fact};
-ghost use Rattle.capture_verdict.specs.Verdict.{IsLegal};
+ghost use Rattle.replay_job.specs.Replays.{IsSoundJob};
+ghost use Rattle.replay_job.specs.Jobs.{IsTrial, plain_fact};
+ghost use Rattle.captured_calls.specs.Verdict.{IsLegal};
 
 use desk_schema::Start;
 use desk_values::{CallList, Captured, Copied, List, Memory};
 use object_depends::{Fact, FactList, Mode};
 use remap_ids::Remap;
-use replay_core::Desk;
 use replay_job::Job;
 use std::alloc::Global;
-
-/// Starts and answers the first call that is not answered, as often as there are calls.
-pub fn replay(alloc: Global, job: Job) -> Result<Desk, Memory>
-    requires { IsSoundJob (seen job) }
-    ensures job { IfOk result (λ desk. desk.job ≡ seen job) }
-    ensures replay { IfOk result (λ desk. IsToldReplay desk.job desk.history desk.stage) }
-{
-    let count = job.calls.len();
-    let mut desk = Desk::setup(alloc, job)?;
-    for _turn in 0..count {
-        if let Some(k) = desk.first_open() {
-            desk.start(k);
-            desk.answer(k)?;
-        }
-    }
-    desk.history_is_kept();
-    Ok(desk)
-}
 
 /// The job of replaying a capture as it is, in its order and without pauses.
 pub fn trial_of(alloc: Global, start: &Start, calls: &CallList) -> Result<Job, Memory>

@@ -5,15 +5,15 @@ ghost use Rattle.desk_files.specs.Outside.{Told};
 ghost use Rattle.replay_job.specs.Job.{AreKnownOf, HasMoments, seen};
 ghost use Rattle.replay_job.specs.Replays.{IsSoundJob};
 ghost use Rattle.replay_cli.specs.declared.words.Command.TheVariants.{Run as TheRun, Prepare as ThePrepare};
-ghost use Rattle.replay_cli.specs.Inside.Limits.{HasWays, IsWithinLimits};
-ghost use Rattle.replay_cli.specs.Decision.{Decides, MayRefuse, PrepareIn, RunIn, run_job};
-ghost use Rattle.replay_cli.specs.Inside.Work.{IsTaskOf, IsWork, legal_of, task_of};
-ghost use Rattle.capture_verdict.specs.Verdict.{IsLegal};
+ghost use Rattle.replay_cli.specs.Inside.Limits.{HasWays, IsLaneCount, IsWithinLimits};
+ghost use Rattle.replay_cli.specs.Decision.{Decides, IsTaskOf, MayBeRefused, MayFail, PrepareIn, RunIn, run_job};
+ghost use Rattle.replay_cli.specs.Inside.Work.{IsWork, legal_of, task_of};
+ghost use Rattle.captured_calls.specs.Verdict.{IsLegal};
 ghost use Rattle.replay_cli.specs.Inside.Steps.{Step, seen_as};
 
 use crate::capture::{Legal, read_capture, test};
 use crate::failure::Failure;
-use crate::options::Ways;
+use crate::options::{LANE_LIMIT, Ways};
 use crate::reading::read_remap;
 use crate::words::Command;
 use desk_files::Files;
@@ -26,8 +26,8 @@ use std::alloc::Global;
 /// What a command has to do.
 #[derive(Drop)]
 pub enum Work {
-    /// Replay the job, and write the replay into the folder.
-    Replaying(Txt, Job),
+    /// Replay the job by so many lanes, and write the replay into the folder.
+    Replaying(Txt, Job, u32),
     /// Write into the folder which calls wait for which.
     Telling(Txt, FactList),
     /// Write a capture of so many calls into the folder.
@@ -41,8 +41,10 @@ pub fn decide<F: Files>(alloc: Global, command: Command, files: &mut F) -> Resul
     requires { IsWithinLimits command }
     ensures work { IfOk result IsWork }
     ensures task { IfOk result (λ work. IsTaskOf command (task_of work)) }
-    ensures refused { IfErr result (λ failure. MayRefuse command failure) }
-    ensures step { Step (λ map. Decides command map) (F.content files.old) (F.content files.new) (F.faults files.old) (F.faults files.new) (seen_as task_of result) }
+    ensures refused { IfErr result (MayFail (MayBeRefused command)) }
+    ensures step { Step (λ map. Decides command map)
+        (F.content files.old) (F.content files.new)
+        (F.faults files.old) (F.faults files.new) (seen_as task_of result) }
 {
     match command {
         Command::Run(capture, out, ways) => decide_run(alloc, &capture, out, ways, files),
@@ -64,14 +66,28 @@ fn decide_run<F: Files>(
     requires ways { HasWays ways }
     ensures work { IfOk result IsWork }
     ensures task { IfOk result (λ work. IsTaskOf (TheRun capture.now out ways) (task_of work)) }
-    ensures refused { IfErr result (λ failure. MayRefuse (TheRun capture.now out ways) failure) }
-    ensures step { Step (λ map. RunIn map capture.now out ways) (F.content files.old) (F.content files.new) (F.faults files.old) (F.faults files.new) (seen_as task_of result) }
+    ensures refused { IfErr result (MayFail (MayBeRefused (TheRun capture.now out ways))) }
+    ensures step { Step (λ map. RunIn map capture.now out ways)
+        (F.content files.old) (F.content files.new)
+        (F.faults files.old) (F.faults files.new) (seen_as task_of result) }
 {
     let read = read_capture(alloc, capture, files)?;
+    let lanes = lanes_of(&ways, read.sessions.len());
     let remap = read_remap(alloc, &ways.remap, files)?;
     let legal = test(alloc, read)?;
     let job = job_of(legal, remap, &ways)?;
-    Ok(Work::Replaying(out, job))
+    Ok(Work::Replaying(out, job, lanes))
+}
+
+/// How many lanes there are: as many as sessions where that is not said, and at least one.
+fn lanes_of(ways: &Ways, sessions: usize) -> u32
+    requires { HasWays ways.now }
+    ensures { IsLaneCount result }
+{
+    match ways.lanes {
+        Some(lanes) => lanes,
+        None => sessions.clamp(1, LANE_LIMIT as usize) as u32,
+    }
 }
 
 /// The job of a legal capture that is replayed so, on its own start.
@@ -107,8 +123,10 @@ fn decide_prepare<F: Files>(
     requires out { length out ≤ 900 }
     ensures work { IfOk result IsWork }
     ensures task { IfOk result (λ work. IsTaskOf (ThePrepare capture.now out) (task_of work)) }
-    ensures refused { IfErr result (λ failure. MayRefuse (ThePrepare capture.now out) failure) }
-    ensures step { Step (λ map. PrepareIn map capture.now out) (F.content files.old) (F.content files.new) (F.faults files.old) (F.faults files.new) (seen_as task_of result) }
+    ensures refused { IfErr result (MayFail (MayBeRefused (ThePrepare capture.now out))) }
+    ensures step { Step (λ map. PrepareIn map capture.now out)
+        (F.content files.old) (F.content files.new)
+        (F.faults files.old) (F.faults files.new) (seen_as task_of result) }
 {
     let read = read_capture(alloc, capture, files)?;
     let legal = test(alloc, read)?;

@@ -8,8 +8,8 @@ use Rattle.desk_values.specs.declared.capture.Captured.{Captured}
 use Rattle.replay_history.specs.Gap.{IsCallAt, IsGap, IsJustBefore}
 use Rattle.replay_history.specs.Capture.{session_calls_before}
 use Rattle.replay_clock.specs.declared.gap.Gap.{Gap}
-use Rattle.history_laws.specs.Places.{AreInPlace}
-use Rattle.history_laws.proofs.Places.{one_at_place, one_gap, one_more, same_call}
+use Rattle.law_histories.specs.Places.{AreInPlace}
+use Rattle.law_histories.proofs.Places.{one_at_place, one_gap, one_more, same_call}
 use Rattle.replay_clock.specs.Gaps.{gap_before}
 use Rattle.replay_clock.specs.Inside.{gap_after}
 

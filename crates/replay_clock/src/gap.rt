@@ -1,8 +1,8 @@
 ghost use Rattle.std.specs.Prelude.{◌≡◌, ◌≤◌, IfOk};
-ghost use Rattle.desk_values.specs.declared.limits.TheConstants.{LAST_MOMENT};
-ghost use Rattle.replay_history.specs.declared.limits.TheConstants.{PERCENT_LIMIT};
+ghost use Rattle.desk_values.specs.Limits.{last_moment};
+ghost use Rattle.replay_history.specs.Limits.{percent_limit};
 ghost use Rattle.replay_history.specs.Gap.{pause_of};
-ghost use Rattle.history_laws.specs.Places.{AreInPlace};
+ghost use Rattle.law_histories.specs.Places.{AreInPlace};
 ghost use Rattle.replay_clock.specs.Gaps.{gaps_in};
 ghost use Rattle.replay_clock.specs.Inside.{gap_after};
 
@@ -29,8 +29,8 @@ pub type Gaps = List<Gap>;
 
 /// So many hundredths of a time, rounded down.
 pub fn pause(micros: u64, percent: u32) -> u64
-    requires micros { micros ≤ LAST_MOMENT }
-    requires percent { percent ≤ PERCENT_LIMIT }
+    requires micros { micros ≤ last_moment }
+    requires percent { percent ≤ percent_limit }
     ensures { result ≡ pause_of micros percent }
 {
     micros * u64::from(percent) / 100

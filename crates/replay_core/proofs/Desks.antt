@@ -18,11 +18,11 @@ use Rattle.replay_clock.specs.Gaps.{gap_before, gaps_in}
 use Rattle.replay_job.specs.Job.{JobView, IsReplayable, seen}
 use Rattle.replay_job.specs.Runs.{Executes, MayStart, Stage, first_stage}
 use Rattle.replay_history.specs.History.{IsWaiting}
-use Rattle.history_laws.proofs.Items.{item_at}
-use Rattle.history_laws.proofs.Places.{one_gap, same_call}
-use Rattle.history_laws.proofs.Truth.{truthful_answer}
-use Rattle.gate_law.proofs.Gates.{answer_follows, in_place, open_room}
-use Rattle.pairs_law.proofs.Pairs.{one_to_one}
+use Rattle.law_histories.proofs.Items.{item_at}
+use Rattle.law_histories.proofs.Places.{one_gap, same_call}
+use Rattle.law_histories.proofs.Truth.{truthful_answer}
+use Rattle.replay_core.proofs.Gates.Gates.{answer_follows, in_place, open_room}
+use Rattle.law_ids.proofs.Replays.Pairs.{one_to_one}
 use Rattle.replay_core.specs.declared.desk.Desk.TheInside.{Inside}
 use Rattle.replay_core.specs.Inside.{IsDesk, MayExecute}
 use Rattle.replay_core.specs.View.{stage_of}

@@ -14,9 +14,9 @@ use Rattle.machine_model.specs.Step.{Gives}
 use Rattle.machine_model.proofs.Members.{each_weaker}
 use Rattle.replay_history.specs.Capture.{IsKnown, IsRun, binds_of}
 use Rattle.replay_history.specs.Gap.{IsCallAt}
-use Rattle.given_ids.specs.Counters.{IsBelow}
-use Rattle.given_ids.proofs.Starts.{known_low}
-use Rattle.given_ids.proofs.Steps.{step_count, step_next}
+use Rattle.law_ids.specs.Counters.{IsBelow}
+use Rattle.law_ids.proofs.Starts.{known_low}
+use Rattle.law_ids.proofs.Steps.{step_count, step_next}
 use Rattle.remap_ids.specs.Sent.{HasLowIds, IsLow}
 use Rattle.replay_job.specs.Job.{IsReplayable, JobView}
 

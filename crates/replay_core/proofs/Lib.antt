@@ -1,2 +1,3 @@
 pub mod Ids
 pub mod Desks
+pub mod Gates

@@ -18,10 +18,10 @@ use Rattle.replay_job.specs.Events.{IsEvent}
 use Rattle.replay_job.specs.Job.{JobView, seen}
 use Rattle.replay_job.specs.declared.job.Job.{Job}
 use Rattle.replay_job.specs.Runs.{IsTruthfulFor, Stage}
-use Rattle.gate_law.specs.Following.{IsGateOf}
+use Rattle.replay_core.specs.Gates.Following.{IsGateOf}
 use Rattle.replay_core.specs.declared.desk.Desk.TheInside.{Inside}
 use Rattle.replay_core.specs.declared.desk.Parts.{Parts}
-use Rattle.desk_values.specs.declared.limits.TheConstants.{SESSION_LIMIT}
+use Rattle.desk_values.specs.Limits.{session_limit}
 use Rattle.replay_core.specs.View.{stage_of}
 
 pub record IsDesk (a : Inside) : Type 0 where
@@ -38,10 +38,12 @@ pub record IsDesk (a : Inside) : Type 0 where
 -- the call can be executed: it can be sent, and whatever reply comes brings new ids on both sides
 pub record MayExecute (job : JobView) (stage : Stage) (k : ℕ) (call : Captured) : Type 0 where
   pub at : IsCallAt job.calls k call
-  pub session : call.session < SESSION_LIMIT
+  pub session : call.session < session_limit
   pub low : HasLowIds call.call
   pub few : length call.reply.draws ≤ 16
-  pub new_ids : (reply : Reply) (next : State) → Gives stage.state call.session (sent stage.pairs job.remap call.call) reply next → HasNoIdTwice (stage.pairs ++ learnt call.reply reply)
+  pub new_ids : (reply : Reply) (next : State)
+      → Gives stage.state call.session (sent stage.pairs job.remap call.call) reply next
+      → HasNoIdTwice (stage.pairs ++ learnt call.reply reply)
 
 -- a server that has just begun
 pub record HasOpened (start : StartView) (engine : Running) : Type 0 where

@@ -1,3 +1,4 @@
 pub mod Desk
 pub mod Inside
 pub mod View
+pub mod Gates

@@ -9,7 +9,7 @@ ghost use Rattle.replay_history.specs.History.{AnswersAll, IsWaiting};
 ghost use Rattle.remap_ids.specs.IdMap.{start_pairs};
 ghost use Rattle.replay_clock.specs.Gaps.{gaps_in};
 ghost use Rattle.replay_job.specs.Job.{IsReplayable, seen};
-ghost use Rattle.replay_job.specs.Runs.{Executes, IsDone, IsFirstOpen, IsPauseIn, IsPick, MayStart, NoneMayStart};
+ghost use Rattle.replay_job.specs.Runs.{Executes, IsSessionDone, IsFirstOpen, IsPauseIn, IsPick, MayStart, NoneMayStart};
 ghost use Rattle.replay_core.specs.Desk.{IsAnswer, IsKept, new_desk, with_start};
 ghost use Rattle.replay_core.specs.Inside.{AreParts, HasOpened, MayExecute};
 
@@ -147,7 +147,7 @@ impl Desk {
             history,
             waiting,
         } = Parts::of(alloc, &job)?;
-        let _ = job.target.schema();
+        job.target.know_rules();
         Ok(Desk {
             job,
             gaps,
@@ -189,7 +189,9 @@ impl Desk {
 
     /// A call that may be started, of the first session of a lane that has one, or `None` where none of them has one.
     pub fn pick(&self, lane: &[u32]) -> Option<u32>
-        ensures { MatchOption result (EachIndex lane.now (λ i. NoneMayStart self.now.job self.now.history (slice_index lane.now i))) (IsPick self.now.job self.now.history lane.now) }
+        ensures { MatchOption result
+            (EachIndex lane.now (λ i. NoneMayStart self.now.job self.now.history (slice_index lane.now i)))
+            (IsPick self.now.job self.now.history lane.now) }
     {
         self.gate.pick(lane)
     }
@@ -204,7 +206,7 @@ impl Desk {
 
     /// Whether every call of a lane's sessions is answered.
     pub fn done(&self, lane: &[u32]) -> bool
-        ensures { IsTrue result ↔ EachIndex lane.now (λ i. IsDone self.now.job self.now.history (slice_index lane.now i)) }
+        ensures { IsTrue result ↔ EachIndex lane.now (λ i. IsSessionDone self.now.job self.now.history (slice_index lane.now i)) }
     {
         self.gate.done(lane)
     }
@@ -304,7 +306,9 @@ impl Desk {
 fn executed(job: &Job, engine: &mut Engine, map: &mut IdMap, k: u32) -> Result<Reply, Memory>
     requires call { (call : Captured) × MayExecute (seen job.now) (record { state = engine.old.state; pairs = map.old.pairs }) k call }
     requires steps { engine.old.steps < 1048576 }
-    ensures ok { IfOk result (λ reply. Executes (seen job.now) (record { state = engine.old.state; pairs = map.old.pairs }) k reply (record { state = engine.new.state; pairs = map.new.pairs })) }
+    ensures ok { IfOk result
+        (λ reply. Executes (seen job.now) (record { state = engine.old.state; pairs = map.old.pairs }) k reply
+        (record { state = engine.new.state; pairs = map.new.pairs })) }
     ensures good { IfOk result (λ reply. IsGoodReply reply) }
     ensures steps { OnOk result (engine.new.steps ≡ engine.old.steps + 1) }
     ensures engine { OnErr result (engine.new ≡ engine.old) }

@@ -5,6 +5,7 @@
 #![tactic(auto)]
 
 mod desk;
+pub mod gate_laws;
 pub mod laws;
 
 pub use desk::Desk;

@@ -1,18 +1,29 @@
 //! The program. Enters: the words that it was called with. Leaves: the status that it ends with. It touches the real
-//! files and the standard output, which it hands to the one call of the desk, and nothing else.
+//! files, the standard output and the clock, which it hands to the one call of the desk, and where the standard error is
+//! a terminal it tells there of the progress.
 #![tactic(auto)]
 
-use desk_files::{RealFiles, StdSink};
-use replay_cli::{arguments_of, replay_main, report_want_of_memory};
+mod progress;
+
+use desk_files::{RealFiles, SleepDoor, StdSink};
+use progress::{CountingFiles, ProgressDoor};
+use replay_cli::{Arguments, arguments_of, replay_main, report_want_of_memory};
+use std::io::IsTerminal;
 use std::process::ExitCode;
+use std::sync::atomic::AtomicU64;
 
 fn main(rt: HostRuntime) -> ExitCode {
     let alloc = rt.alloc();
     let mut out = StdSink::new(&rt);
-    let Ok(words) = arguments_of(alloc, &rt) else {
+    let called = Arguments { environment: &rt };
+    let Ok(words) = arguments_of(alloc, &called) else {
         return ExitCode::from(report_want_of_memory(&mut out));
     };
-    let mut files = RealFiles::new(&rt, alloc);
-    let status = replay_main(&rt, alloc, words.as_slice(), &mut files, &mut out);
+    let calls = AtomicU64::new(0);
+    let mut files = CountingFiles::new(RealFiles::new(&rt, alloc), &calls);
+    let door = SleepDoor::new(&rt);
+    let told = ProgressDoor::new(&door, &rt, &calls, rt.stderr().is_terminal());
+    let status = replay_main(&rt, alloc, words.as_slice(), &mut files, &told, &mut out);
+    told.end(&rt);
     ExitCode::from(status)
 }

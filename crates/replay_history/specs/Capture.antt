@@ -1,8 +1,8 @@
 -- Which calls are a legal capture, whatever machine answers them.
 use Rattle.std.specs.Prelude.{◌≡◌, ℕ, ◌+◌, ◌<◌, ◌≤◌, ◌⊎◌, Bool, true, false, IsTrue, if◌then◌else◌, nat_eq, Some, List, [], ◌∷◌, length, take, count_by}
 use Rattle.std.specs.List.{AllByRecursion, Any}
-use Rattle.desk_values.specs.declared.limits.TheConstants.{SESSION_LIMIT}
-use Rattle.replay_history.specs.declared.limits.TheConstants.{CALL_LIMIT}
+use Rattle.desk_values.specs.Limits.{session_limit}
+use Rattle.replay_history.specs.Limits.{call_limit}
 use Rattle.desk_values.specs.declared.value.Value.{Value}
 use Rattle.desk_values.specs.declared.value.Value.TheVariants.{Row, Draw}
 use Rattle.desk_values.specs.declared.value.Image.{Image}
@@ -80,7 +80,7 @@ IsRun {S} gives first (call ∷ calls) last = (next : S) × gives first call.ses
 -- what is said of each call by itself and the calls before it
 pub record FitsIn (rows : List Image) (calls : List Captured) (k : ℕ) (call : Captured) : Type 0 where
   pub stamp : call.stamp ≡ k
-  pub session : call.session < SESSION_LIMIT
+  pub session : call.session < session_limit
   pub place : HasPlace calls k call
   pub number : call.number ≡ number_of calls k call
   pub seen : call.seen ≡ commits_before calls k
@@ -89,7 +89,8 @@ pub record FitsIn (rows : List Image) (calls : List Captured) (k : ℕ) (call : 
   pub known : AllByRecursion (IsKnown rows calls k) (binds_of call.call)
 
 -- Calls by stamp that a server which began with these rows may have answered, each with the reply that the machine gives.
-pub record IsLegalCapture {S : Type 0} (rows : List Image) (gives : S → ℕ → Call → Reply → S → Type 0) (first : S) (calls : List Captured) : Type 0 where
-  pub count : length calls ≤ CALL_LIMIT
+pub record IsLegalCapture {S : Type 0} (rows : List Image) (gives : S → ℕ → Call → Reply → S → Type 0)
+    (first : S) (calls : List Captured) : Type 0 where
+  pub count : length calls ≤ call_limit
   pub each : (k : ℕ) (call : Captured) → IsCallAt calls k call → FitsIn rows calls k call
   pub replies : (last : S) × IsRun gives first calls last

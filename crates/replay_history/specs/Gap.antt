@@ -18,7 +18,8 @@ pub record IsJustBefore (first second : Captured) : Type 0 where
 
 -- from the capture's start to a session's first call; else from the end of the session's call before
 abbrev pub IsGap : List Captured → Captured → ℕ → Type 0
-IsGap calls call gap = ((call.place ≡ 0) → gap ≡ call.began) × ((j : ℕ) (before : Captured) → IsCallAt calls j before → IsJustBefore before call → gap ≡ call.began - before.ended)
+IsGap calls call gap = ((call.place ≡ 0) → gap ≡ call.began)
+    × ((j : ℕ) (before : Captured) → IsCallAt calls j before → IsJustBefore before call → gap ≡ call.began - before.ended)
 
 -- whether the first is the call just before the second in one session
 abbrev pub is_just_before : Captured → Captured → Bool

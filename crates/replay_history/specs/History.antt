@@ -34,13 +34,16 @@ IsWaiting history k = IsStarted history k × (IsAnswered history k → ⊥)
 
 -- The history of a replay of these calls, which stand by stamp. `required k j` says that call k requires the answer of call j,
 -- and `paused call pause` that this is the pause of a call.
-pub record IsLegalHistory (calls : List Captured) (required : ℕ → ℕ → Type 0) (paused : Captured → ℕ → Type 0) (history : List Event) : Type 0 where
+pub record IsLegalHistory (calls : List Captured) (required : ℕ → ℕ → Type 0)
+    (paused : Captured → ℕ → Type 0) (history : List Event) : Type 0 where
   -- what starts is a call of the capture, with its pause
   pub start_is_call : (i k pause : ℕ) → StartsAt history i k pause → (call : Captured) × IsCallAt calls k call × paused call pause
   -- each starts once
   pub starts_once : (i j k p q : ℕ) → StartsAt history i k p → StartsAt history j k q → i ≡ j
   -- after its session's call before it
-  pub session_waits : (i k pause : ℕ) → StartsAt history i k pause → (call before : Captured) (j : ℕ) → IsCallAt calls k call → IsCallAt calls j before → IsJustBefore before call → IsAnsweredBefore history i j
+  pub session_waits : (i k pause : ℕ) → StartsAt history i k pause → (call before : Captured) (j : ℕ)
+      → IsCallAt calls k call → IsCallAt calls j before → IsJustBefore before call
+      → IsAnsweredBefore history i j
   -- and after all that it requires
   pub required_waits : (i k pause : ℕ) → StartsAt history i k pause → (j : ℕ) → required k j → IsAnsweredBefore history i j
   -- each is answered once
@@ -60,7 +63,9 @@ abbrev pub AnswersAll : List Captured → List Event → Type 0
 AnswersAll calls history = (k : ℕ) → k < length calls → IsAnswered history k
 
 -- a legal and truthful history that answers every call
-pub record IsCompleteRun {S : Type 0} (calls : List Captured) (required : ℕ → ℕ → Type 0) (paused : Captured → ℕ → Type 0) (executes : S → ℕ → Reply → S → Type 0) (first : S) (history : List Event) (last : S) : Type 0 where
+pub record IsCompleteRun {S : Type 0} (calls : List Captured) (required : ℕ → ℕ → Type 0)
+    (paused : Captured → ℕ → Type 0) (executes : S → ℕ → Reply → S → Type 0) (first : S)
+    (history : List Event) (last : S) : Type 0 where
   pub legal : IsLegalHistory calls required paused history
   pub truthful : IsTruthfulHistory executes first history last
   pub whole : AnswersAll calls history

@@ -1,13 +1,13 @@
 -- A job as contracts see it, and which jobs can be replayed.
 use Rattle.std.specs.Prelude.{◌≡◌, ℕ, ◌<◌, ◌≤◌, List, length, slice_index}
 use Rattle.desk_values.specs.declared.capture.Captured.{Captured}
-use Rattle.desk_values.specs.declared.limits.TheConstants.{LAST_MOMENT}
+use Rattle.desk_values.specs.Limits.{last_moment}
 use Rattle.desk_schema.specs.Sound.{IsSoundStart}
 use Rattle.desk_schema.specs.Start.{StartView}
 use Rattle.machine_model.specs.State.{opening}
 use Rattle.machine_model.specs.Step.{Gives}
 use Rattle.replay_history.specs.declared.mode.Mode.{Mode}
-use Rattle.replay_history.specs.declared.limits.TheConstants.{PERCENT_LIMIT}
+use Rattle.replay_history.specs.Limits.{percent_limit}
 use Rattle.replay_history.specs.Capture.{IsLegalCapture}
 use Rattle.replay_history.specs.Gap.{IsCallAt}
 use Rattle.object_depends.specs.declared.fact.Fact.{Fact}
@@ -54,7 +54,7 @@ pub record AreKnownOf (calls : List Captured) (facts : List Fact) : Type 0 where
 
 -- the moments at which calls begin are within those of a capture
 abbrev pub HasMoments : List Captured → Type 0
-HasMoments calls = (k : ℕ) (call : Captured) → IsCallAt calls k call → call.began ≤ LAST_MOMENT
+HasMoments calls = (k : ℕ) (call : Captured) → IsCallAt calls k call → call.began ≤ last_moment
 
 -- the job is a legal capture over a start that keeps its rules, as every start does, with what is known of its calls, a start
 -- to begin with, and moments and percentages within their limits
@@ -64,5 +64,5 @@ pub record IsReplayable (job : JobView) : Type 0 where
   pub known : AreKnownOf job.calls job.facts
   pub moments : HasMoments job.calls
   pub target : IsTarget job.start job.target
-  pub think : job.think ≤ PERCENT_LIMIT
-  pub connect : job.connect ≤ PERCENT_LIMIT
+  pub think : job.think ≤ percent_limit
+  pub connect : job.connect ≤ percent_limit

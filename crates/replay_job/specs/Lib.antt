@@ -2,3 +2,4 @@ pub mod Job
 pub mod Runs
 pub mod Events
 pub mod Replays
+pub mod Jobs

@@ -46,11 +46,12 @@ NoneMayStart job history session = (k : ℕ) → IsCallOf job session k → MayS
 -- the call may start, and is one of the first session of the lane that has such a call
 abbrev pub IsPick : JobView → List Event → List ℕ → ℕ → Type 0
 IsPick job history lane k = MayStart job history k
-    × ((i : ℕ) × (i < length lane) × IsCallOf job (slice_index lane i) k × ((j : ℕ) → j < i → NoneMayStart job history (slice_index lane j)))
+    × ((i : ℕ) × (i < length lane) × IsCallOf job (slice_index lane i) k
+    × ((j : ℕ) → j < i → NoneMayStart job history (slice_index lane j)))
 
 -- each call of the session is answered
-abbrev pub IsDone : JobView → List Event → ℕ → Type 0
-IsDone job history session = (k : ℕ) → IsCallOf job session k → IsAnswered history k
+abbrev pub IsSessionDone : JobView → List Event → ℕ → Type 0
+IsSessionDone job history session = (k : ℕ) → IsCallOf job session k → IsAnswered history k
 
 -- the least stamp of a call that is not answered
 pub record IsFirstOpen (job : JobView) (history : List Event) (k : ℕ) : Type 0 where

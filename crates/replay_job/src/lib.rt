@@ -6,5 +6,6 @@
 #![tactic(auto)]
 
 mod job;
+pub mod laws;
 
 pub use job::Job;

@@ -4,8 +4,8 @@ use Rattle.desk_values.specs.declared.capture.Event.{Event}
 use Rattle.id_pairs.specs.Pairs.{HasNoIdTwice}
 use Rattle.replay_job.specs.Job.{IsReplayable, JobView}
 use Rattle.replay_job.specs.Runs.{IsCompleteFor, Stage}
-use Rattle.pairs_law.proofs.Learnt.{pairs_learnt}
-use Rattle.pairs_law.proofs.Pairs.{one_to_one}
+use Rattle.law_ids.proofs.Replays.Learnt.{pairs_learnt}
+use Rattle.law_ids.proofs.Replays.Pairs.{one_to_one}
 use Rattle.replay_report.specs.Report.{pairs_after}
 
 pub once_of : (job : JobView) (history : List Event) → IsReplayable job → (last : Stage) × IsCompleteFor job history last → HasNoIdTwice (pairs_after job history)

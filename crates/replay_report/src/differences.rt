@@ -54,7 +54,8 @@ fn replies_of<'a>(
 // No reply yet to each of as many calls.
 fn no_replies<'a>(alloc: Global, count: usize) -> Result<Vec<Option<&'a Reply>>, Memory>
     ensures count { IfOk result (λ replies. length replies.items ≡ count) }
-    ensures none { IfOk result (λ replies. (k : ℕ) → k < length replies.items → option_copied (slice_index_or replies.items k None) ≡ None) }
+    ensures none { IfOk result
+        (λ replies. (k : ℕ) → k < length replies.items → option_copied (slice_index_or replies.items k None) ≡ None) }
 {
     let replies = vec![in alloc; None; count]?;
     Ok(replies)
@@ -136,7 +137,9 @@ fn write_line(
 ) -> Result<(), Memory>
     requires { IsBetween writer.old }
     ensures between { OnOk result (IsBetween writer.new) }
-    ensures written { OnOk result (written writer.new ≡ written writer.old ++ record_text (fields_of line (option_copied captured.entry) (option_copied replayed.entry))) }
+    ensures written { OnOk result
+        (written writer.new ≡ written writer.old
+        ++ record_text (fields_of line (option_copied captured.entry) (option_copied replayed.entry))) }
 {
     let stamp = number_field(alloc, line.stamp)?;
     let session = number_field(alloc, line.session)?;

@@ -26,7 +26,8 @@ ghost use Rattle.replay_report.specs.JournalFile.{IsBadJournal, IsJournal};
 
 /// Bytes are the journal of at most one mode and history.
 pub fn one_journal()
-    ensures { (bytes : List ℕ) (mode other : Mode) (history others : List Event) → IsJournal bytes mode history → IsJournal bytes other others → (mode ≡ other) × (history ≡ others) }
+    ensures { (bytes : List ℕ) (mode other : Mode) (history others : List Event) → IsJournal bytes mode history
+        → IsJournal bytes other others → (mode ≡ other) × (history ≡ others) }
 {}
 
 /// Bytes have at most one first line that is none of a journal.
@@ -36,22 +37,31 @@ pub fn one_bad_journal()
 
 /// What a reader of journals answers on a written one: what was written, or want of memory.
 pub fn written_is_read()
-    ensures { (mode : Mode) (history : List Event) → AllByRecursion IsEvent history → (result : Result Journal FormErr) → ReadsFile result (λ journal. IsJournal (journal_text mode history) journal.mode journal.history.items) (IsBadJournal (journal_text mode history)) → MatchResult result (λ journal. (journal.mode ≡ mode) × (journal.history.items ≡ history)) (λ error. error ≡ Memory) }
+    ensures { (mode : Mode) (history : List Event) → AllByRecursion IsEvent history
+        → (result : Result Journal FormErr)
+        → ReadsFile result
+        (λ journal. IsJournal (journal_text mode history) journal.mode journal.history.items)
+        (IsBadJournal (journal_text mode history))
+        → MatchResult result (λ journal. (journal.mode ≡ mode) × (journal.history.items ≡ history)) (λ error. error ≡ Memory) }
 {}
 
 /// In a legal history the class of a call is by the map of ids just behind its own answer.
 pub fn class_is_by_the_own_answer()
-    ensures { (job : JobView) (history : List Event) (i : ℕ) (call : Captured) (reply : Reply) → IsLegalFor job history → AnswersAt history i call.stamp reply → class_of job history call ≡ Some (class_between (pairs_after job (take (i + 1) history)) call.reply reply) }
+    ensures { (job : JobView) (history : List Event) (i : ℕ) (call : Captured) (reply : Reply)
+        → IsLegalFor job history → AnswersAt history i call.stamp reply
+        → class_of job history call ≡ Some (class_between (pairs_after job (take (i + 1) history)) call.reply reply) }
 {}
 
 /// Where all calls are answered, each is counted in one class.
 pub fn counts_add_up()
-    ensures { (job : JobView) (history : List Event) → IsStamped job.calls → IsLegalFor job history → AnswersAll job.calls history → sum (report_in job history).counts ≡ length job.calls }
+    ensures { (job : JobView) (history : List Event) → IsStamped job.calls → IsLegalFor job history
+        → AnswersAll job.calls history → sum (report_in job history).counts ≡ length job.calls }
 {}
 
 /// A line stands for a call exactly where its class is not `Same`.
 pub fn lines_stand_where_calls_differ()
-    ensures { (job : JobView) (history : List Event) (line : Line) → IsStamped job.calls → Contains (report_in job history).lines line ↔ IsLineOf job history line }
+    ensures { (job : JobView) (history : List Event) (line : Line) → IsStamped job.calls
+        → Contains (report_in job history).lines line ↔ IsLineOf job history line }
 {}
 
 /// The lines stand by rising stamp.

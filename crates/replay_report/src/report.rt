@@ -43,7 +43,8 @@ fn classes_of(
 ) -> Result<Vec<Option<Class>>, Memory>
     requires once { HasNoIdTwice (start_pairs start.now ++ learnt_in calls.now events.now) }
     ensures count { IfOk result (λ classes. length classes.items ≡ length calls.now) }
-    ensures classes { IfOk result (λ classes. classes.items ≡ walked calls.now (start_pairs start.now) events.now (replicate (length calls.now) None)) }
+    ensures classes { IfOk result
+        (λ classes. classes.items ≡ walked calls.now (start_pairs start.now) events.now (replicate (length calls.now) None)) }
 {
     let mut classes = no_classes(alloc, calls.len())?;
     let mut map = IdMap::from_start(alloc, start)?;
@@ -73,7 +74,8 @@ fn note_event(
     requires count { length classes.old.items ≡ length calls.now }
     ensures count { OnOk result (length classes.new.items ≡ length calls.now) }
     ensures pairs { OnOk result (map.new.pairs ≡ map.old.pairs ++ gained calls.now event.now) }
-    ensures classes { OnOk result (classes.new.items ≡ noted calls.now (map.old.pairs ++ gained calls.now event.now) event.now classes.old.items) }
+    ensures classes { OnOk result
+        (classes.new.items ≡ noted calls.now (map.old.pairs ++ gained calls.now event.now) event.now classes.old.items) }
 {
     let Event::Answer(stamp, reply) = event else {
         return Ok(());
@@ -97,7 +99,10 @@ fn note_class(
     requires once { HasNoIdTwice (map.old.pairs ++ learnt captured.now replayed.now) }
     requires within { stamp < length classes.old.items }
     ensures pairs { OnOk result (map.new.pairs ≡ map.old.pairs ++ learnt captured.now replayed.now) }
-    ensures classes { OnOk result (classes.new.items ≡ slice_set classes.old.items stamp (Some (class_between (map.old.pairs ++ learnt captured.now replayed.now) captured.now replayed.now))) }
+    ensures classes { OnOk result
+        (classes.new.items
+        ≡ slice_set classes.old.items stamp
+        (Some (class_between (map.old.pairs ++ learnt captured.now replayed.now) captured.now replayed.now))) }
 {
     map.learn(captured, replayed)?;
     classes[stamp] = Some(class_of(alloc, map, captured, replayed)?);

@@ -38,11 +38,15 @@ pub record AreStandardTables : Type 0 where
 
 -- NOT of a condition with a truth goes by its table, for any row
 abbrev pub NotGoesByTable : Type 0
-NotGoesByTable = (level row : ℕ) (values binds : List Value) (a : Term ℕ) (s : Truth) → truth_value level row values binds a ≡ Ok s → truth_value level row values binds (term.not a) ≡ Ok (negation s)
+NotGoesByTable = (level row : ℕ) (values binds : List Value) (a : Term ℕ) (s : Truth)
+    → truth_value level row values binds a ≡ Ok s
+    → truth_value level row values binds (term.not a) ≡ Ok (negation s)
 
 -- an operator between two conditions with a truth goes by this table, for any row
 abbrev pub GoesByTable : Op → (Truth → Truth → Truth) → Type 0
-GoesByTable op table = (level row : ℕ) (values binds : List Value) (a b : Term ℕ) (s t : Truth) → truth_value level row values binds a ≡ Ok s → truth_value level row values binds b ≡ Ok t → truth_value level row values binds (term.bin op a b) ≡ Ok (table s t)
+GoesByTable op table = (level row : ℕ) (values binds : List Value) (a b : Term ℕ) (s t : Truth)
+    → truth_value level row values binds a ≡ Ok s → truth_value level row values binds b ≡ Ok t
+    → truth_value level row values binds (term.bin op a b) ≡ Ok (table s t)
 
 -- an operator that compares
 abbrev pub IsComparison : Op → Type 0
@@ -66,7 +70,8 @@ IsArithmetic other = ⊥
 abbrev pub NullIsUnknown : Type 0
 NullIsUnknown = (level row : ℕ) (values binds : List Value) (op : Op) (a b : Term ℕ) (v : Value) → IsComparison op
     → value_of level row values binds a ≡ Ok Null → value_of level row values binds b ≡ Ok v
-    → (truth_value level row values binds (term.bin op a b) ≡ Ok Unknown) × (truth_value level row values binds (term.bin op b a) ≡ Ok Unknown)
+    → (truth_value level row values binds (term.bin op a b) ≡ Ok Unknown)
+    × (truth_value level row values binds (term.bin op b a) ≡ Ok Unknown)
 
 -- arithmetic with Null is Null, also by zero (ISO/IEC 9075-2, numeric value expression)
 abbrev pub NullIsNull : Type 0
@@ -76,25 +81,31 @@ NullIsNull = (level row : ℕ) (values binds : List Value) (op : Op) (a b : Term
 
 -- the fault of a value is that among its parts: the zero divisor of any part before the overflow of any
 abbrev pub ValueFaultIsAmongParts : Type 0
-ValueFaultIsAmongParts = (level row : ℕ) (values binds : List Value) (e : Term ℕ) → result_err (value_of level row values binds e) ≡ fault_among level row values binds (parts e)
+ValueFaultIsAmongParts = (level row : ℕ) (values binds : List Value) (e : Term ℕ)
+    → result_err (value_of level row values binds e) ≡ fault_among level row values binds (parts e)
 
 -- the fault of a truth is that among its parts
 abbrev pub TruthFaultIsAmongParts : Type 0
-TruthFaultIsAmongParts = (level row : ℕ) (values binds : List Value) (e : Term ℕ) → result_err (truth_value level row values binds e) ≡ fault_among level row values binds (condition_parts e)
+TruthFaultIsAmongParts = (level row : ℕ) (values binds : List Value) (e : Term ℕ)
+    → result_err (truth_value level row values binds e) ≡ fault_among level row values binds (condition_parts e)
 
 -- ---- expressions that keep the rules of kinds
 
 -- each value of a row is Null or of its column's kind
 abbrev pub FitColumns : List Column → List Value → Type 0
-FitColumns columns values = (n : ℕ) (target : PartKind) → kind_at columns n ≡ Some target → is_taken target (kind_of_value (unwrap_or (slice_get values n) Null)) ≡ true
+FitColumns columns values = (n : ℕ) (target : PartKind) → kind_at columns n ≡ Some target
+    → is_taken target (kind_of_value (unwrap_or (slice_get values n) Null)) ≡ true
 
 -- an expression that keeps the rules has a value of its kind, or Null
 abbrev pub ValueHasItsKind : Type 0
-ValueHasItsKind = (level row : ℕ) (columns : List Column) (values binds : List Value) (e : Term ℕ) (kind : PartKind) (v : Value) → FitColumns columns values
+ValueHasItsKind = (level row : ℕ) (columns : List Column) (values binds : List Value) (e : Term ℕ) (kind : PartKind) (v : Value)
+    → FitColumns columns values
     → kind_of columns binds e ≡ Some kind → value_of level row values binds e ≡ Ok v → is_taken kind (kind_of_value v) ≡ true
 
 -- a comparison that keeps the rules is unknown only where one side is Null
 abbrev pub UnknownMeansNull : Type 0
-UnknownMeansNull = (level row : ℕ) (columns : List Column) (values binds : List Value) (op : Op) (a b : Term ℕ) (v w : Value) → IsComparison op → FitColumns columns values
-    → kind_of columns binds (term.bin op a b) ≡ Some Condition → value_of level row values binds a ≡ Ok v → value_of level row values binds b ≡ Ok w
+UnknownMeansNull = (level row : ℕ) (columns : List Column) (values binds : List Value) (op : Op) (a b : Term ℕ) (v w : Value)
+    → IsComparison op → FitColumns columns values
+    → kind_of columns binds (term.bin op a b) ≡ Some Condition → value_of level row values binds a ≡ Ok v
+    → value_of level row values binds b ≡ Ok w
     → truth_value level row values binds (term.bin op a b) ≡ Ok Unknown → (is_null_value v || is_null_value w) ≡ true

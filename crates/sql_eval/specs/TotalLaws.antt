@@ -15,7 +15,8 @@ use Rattle.sql_eval.specs.Totals.{members, part_in, total_over}
 
 -- a total depends on which rows there are, and not on their order
 abbrev pub TotalIgnoresOrder : Type 0
-TotalIgnoresOrder = (level : ℕ) (binds : List Value) (t : Total ℕ) (rows others : List Image) → Moved rows others → total_over level binds t rows ≡ total_over level binds t others
+TotalIgnoresOrder = (level : ℕ) (binds : List Value) (t : Total ℕ) (rows others : List Image)
+    → Moved rows others → total_over level binds t rows ≡ total_over level binds t others
 
 -- one of these values, which compares so with every number and every text of them; of texts that are equal at the level
 -- the least by bytes
@@ -23,18 +24,24 @@ pub record IsBeyondAll (level : ℕ) (test : Ordering → Bool) (values : List V
   pub among : Contains values found
   pub numbers : (n : ℤ) → Contains values (Int n) → is_some_and test (value_order level found (Int n)) ≡ true
   pub texts : (t : List ℕ) → Contains values (Text t) → is_some_and test (value_order level found (Text t)) ≡ true
-  pub ties : (s t : List ℕ) → found ≡ Text s → Contains values (Text t) → text_order level s t ≡ Equal → is_gt (slice_cmp nat_cmp s t) ≡ false
+  pub ties : (s t : List ℕ) → found ≡ Text s → Contains values (Text t) → text_order level s t ≡ Equal
+      → is_gt (slice_cmp nat_cmp s t) ≡ false
 
 -- MIN or MAX of these values: Null only where there is no number and no text, or where there are both
 pub data IsExtreme (level : ℕ) (test : Ordering → Bool) (values : List Value) : Value → Type 0 where
   beyond_all : (found : Value) → IsBeyondAll level test values found → IsExtreme level test values found
-  nothing : ((n : ℤ) → ¬ Contains values (Int n)) → ((t : List ℕ) → ¬ Contains values (Text t)) → IsExtreme level test values Null
+  nothing : ((n : ℤ) → ¬ Contains values (Int n)) → ((t : List ℕ) → ¬ Contains values (Text t))
+      → IsExtreme level test values Null
   mixed : (n : ℤ) (t : List ℕ) → Contains values (Int n) → Contains values (Text t) → IsExtreme level test values Null
 
 -- MIN is at most every value of its part in the rows
 abbrev pub MinIsLeast : Type 0
-MinIsLeast = (level : ℕ) (binds : List Value) (part : Term ℕ) (rows : List Image) (found : Value) → total_over level binds (total.least part) rows ≡ Ok found → IsExtreme level is_le (members (part_in level binds part) rows) found
+MinIsLeast = (level : ℕ) (binds : List Value) (part : Term ℕ) (rows : List Image) (found : Value)
+    → total_over level binds (total.least part) rows ≡ Ok found
+    → IsExtreme level is_le (members (part_in level binds part) rows) found
 
 -- MAX is at least every value of its part in the rows
 abbrev pub MaxIsGreatest : Type 0
-MaxIsGreatest = (level : ℕ) (binds : List Value) (part : Term ℕ) (rows : List Image) (found : Value) → total_over level binds (total.greatest part) rows ≡ Ok found → IsExtreme level is_ge (members (part_in level binds part) rows) found
+MaxIsGreatest = (level : ℕ) (binds : List Value) (part : Term ℕ) (rows : List Image) (found : Value)
+    → total_over level binds (total.greatest part) rows ≡ Ok found
+    → IsExtreme level is_ge (members (part_in level binds part) rows) found

@@ -37,7 +37,8 @@ pub fn check(
     binds: &Binds,
 ) -> Result<Ready, CheckErr>
     ensures ok { IfOk result (λ ready. check_of schema.now binds.now (plan_of st.now) ≡ Ok (plan_of ready)) }
-    ensures refused { (fault : Fault) → IsErrOf result (CheckErr.Refused fault) → check_of schema.now binds.now (plan_of st.now) ≡ Err fault }
+    ensures refused { (fault : Fault) → IsErrOf result (CheckErr.Refused fault)
+        → check_of schema.now binds.now (plan_of st.now) ≡ Err fault }
 {
     let table = statement_table(schema, st);
     let scope = Scope { schema, table };

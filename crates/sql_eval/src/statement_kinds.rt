@@ -151,7 +151,8 @@ fn targets_take<T: Target>(
     targets: &[T],
     inputs: &[ReadyInput],
 ) -> bool
-    ensures { result ≡ are_inputs (scope_columns scope.entry) binds.now (map (T.kind_in scope.entry) targets.now) (map entry_of inputs.now) }
+    ensures { result
+        ≡ are_inputs (scope_columns scope.entry) binds.now (map (T.kind_in scope.entry) targets.now) (map entry_of inputs.now) }
 {
     match (targets, inputs) {
         ([], []) => true,
@@ -170,7 +171,9 @@ fn are_good_inputs(
     named: &Option<Columns>,
     inputs: &[ReadyInput],
 ) -> bool
-    ensures { result ≡ are_inputs (scope_columns scope.entry) binds.now (target_kinds (scope_columns scope.entry) named.now) (map entry_of inputs.now) }
+    ensures { result
+        ≡ are_inputs (scope_columns scope.entry) binds.now (target_kinds (scope_columns scope.entry) named.now)
+        (map entry_of inputs.now) }
 {
     match named {
         Some(places) => targets_take(scope, binds, places.as_slice(), inputs),

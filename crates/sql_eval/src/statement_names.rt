@@ -158,7 +158,8 @@ fn draws_unknown(scope: Scope<'_>, input: &Input) -> bool
 }
 
 fn some_input_draws_unknown(scope: Scope<'_>, inputs: &[Input]) -> bool
-    ensures { result ≡ list_any (λ input. list_any (is_unknown (scope_sequences scope.entry)) (cons_option (entry_sequence (entry_of input)) [])) inputs.now }
+    ensures { result ≡ list_any
+        (λ input. list_any (is_unknown (scope_sequences scope.entry)) (cons_option (entry_sequence (entry_of input)) [])) inputs.now }
 {
     inputs.iter().any(|input| draws_unknown(scope, input))
 }

@@ -41,7 +41,8 @@ enum Extreme {
 /// is a text, since only that is copied.
 pub fn total(level: u32, rows: &[&Image], binds: &Binds, agg: &ReadyAgg) -> Result<Value, EvalErr>
     ensures ok { IfOk result (λ value. total_over level binds.now (total_of agg.now) (looked_at rows.now) ≡ Ok value) }
-    ensures refused { (fault : Fault) → IsErrOf result (EvalErr.Refused fault) ↔ (total_over level binds.now (total_of agg.now) (looked_at rows.now) ≡ Err fault) }
+    ensures refused { (fault : Fault)
+        → IsErrOf result (EvalErr.Refused fault) ↔ (total_over level binds.now (total_of agg.now) (looked_at rows.now) ≡ Err fault) }
     ensures memory { IsErrOf result EvalErr.Memory → IsTextOf (total_over level binds.now (total_of agg.now) (looked_at rows.now)) }
 {
     owned(borrowed_total(level, rows, binds, agg))
@@ -112,7 +113,8 @@ fn extreme_over<'a>(
     binds: &'a Binds,
     part: &'a Checked,
 ) -> Result<ValueRef<'a>, Fault>
-    ensures { ref_outcome result ≡ over (λ values. Ok (extreme_of level extreme values)) (part_in level binds.now (term_of part.now)) (looked_at rows.now) }
+    ensures { ref_outcome result ≡ over
+        (λ values. Ok (extreme_of level extreme values)) (part_in level binds.now (term_of part.now)) (looked_at rows.now) }
 {
     let mut faults = Faults::NONE;
     let mut number: Option<i64> = None;
@@ -143,7 +145,8 @@ fn with_number(sum: Option<i128>, outcome: Result<ValueRef<'_>, Fault>) -> Optio
     requires high { unwrap_or sum (pos 0) ≤ℤ pos (2 ^ 126) }
     ensures least { (unwrap_or sum (pos 0) +ℤ neg_ℤ (pos (2 ^ 63))) ≤ℤ unwrap_or result (pos 0) }
     ensures most { unwrap_or result (pos 0) ≤ℤ (unwrap_or sum (pos 0) +ℤ pos (2 ^ 63)) }
-    ensures sum { result ≡ reduce ◌+ℤ◌ (cons_option sum (filter_map number_in (cons_option (result_ok (ref_outcome outcome.entry)) []))) }
+    ensures sum { result
+        ≡ reduce ◌+ℤ◌ (cons_option sum (filter_map number_in (cons_option (result_ok (ref_outcome outcome.entry)) []))) }
 {
     match (sum, outcome) {
         (Some(sum), Ok(ValueRef::Int(number))) => Some(sum + number as i128),
@@ -172,7 +175,9 @@ fn with_first_number(
     first: Option<i64>,
     outcome: Result<ValueRef<'_>, Fault>,
 ) -> Option<i64>
-    ensures { result ≡ reduce (first_of (number_order extreme)) (cons_option first (filter_map number_in (cons_option (result_ok (ref_outcome outcome.entry)) []))) }
+    ensures { result
+        ≡ reduce (first_of (number_order extreme))
+        (cons_option first (filter_map number_in (cons_option (result_ok (ref_outcome outcome.entry)) []))) }
 {
     match (first, outcome) {
         (Some(first), Ok(ValueRef::Int(number))) => Some(first_number(extreme, first, number)),
@@ -197,7 +202,9 @@ fn with_first_text<'a>(
     first: Option<&'a Txt>,
     outcome: Result<ValueRef<'a>, Fault>,
 ) -> Option<&'a Txt>
-    ensures { option_copied result ≡ reduce (first_of (tied_order level extreme)) (cons_option (option_copied first.entry) (filter_map text_in (cons_option (result_ok (ref_outcome outcome.entry)) []))) }
+    ensures { option_copied result
+        ≡ reduce (first_of (tied_order level extreme))
+        (cons_option (option_copied first.entry) (filter_map text_in (cons_option (result_ok (ref_outcome outcome.entry)) []))) }
 {
     match (first, outcome) {
         (Some(first), Ok(ValueRef::Text(text))) => Some(first_text(level, extreme, first, text)),

@@ -37,7 +37,8 @@ pub fn eval(
     e: &Checked,
 ) -> Result<Value, EvalErr>
     ensures ok { IfOk result (λ value. value_of level row values.now binds.now (term_of e.now) ≡ Ok value) }
-    ensures refused { (fault : Fault) → IsErrOf result (EvalErr.Refused fault) ↔ (value_of level row values.now binds.now (term_of e.now) ≡ Err fault) }
+    ensures refused { (fault : Fault)
+        → IsErrOf result (EvalErr.Refused fault) ↔ (value_of level row values.now binds.now (term_of e.now) ≡ Err fault) }
     ensures memory { IsErrOf result EvalErr.Memory → IsTextOf (value_of level row values.now binds.now (term_of e.now)) }
 {
     let _ = alloc;

@@ -9,7 +9,7 @@ use Rattle.sql_reader.specs.declared.token.Sign.TheVariants as sign
 use Rattle.sql_reader.specs.declared.token.Token.{Token}
 use Rattle.sql_reader.specs.declared.token.Token.TheVariants as token
 use Rattle.sql_tree.specs.Plain.{Term, neg, not, bin, is_null, not_null, Name, Total, Entry, Change, Asked, columns, values, totals, Plan, select, next, insert, update, delete, plan_of}
-use Rattle.sql_reader.specs.Grammar.{looseness, line_of, operator_token, Reads, conjunction, or_, negation, and_, comparison, not_, sum_, compare_, is_null_, not_null_, product, add_, factor, multiply_, primary, minus_, number, string, null_, bind_, name, rowid_, parentheses, IsExpression, Joined, IsList, IsName, IsKey, IsAggregate, IsInput, IsSetting, IsWhere, IsOrder, IsForUpdate, IsSelection, IsColumns, IsBody, IsStatementOf}
+use Rattle.sql_reader.specs.Grammar.{looseness, line_of, operator_token, Parses, conjunction, or_, negation, and_, comparison, not_, sum_, compare_, is_null_, not_null_, product, add_, factor, multiply_, primary, minus_, number, string, null_, bind_, name, rowid_, parentheses, IsExpression, Joined, IsList, IsName, IsKey, IsAggregate, IsInput, IsSetting, IsWhere, IsOrder, IsForUpdate, IsSelection, IsColumns, IsBody, IsStatementOf}
 use Rattle.sql_reader.specs.Reading.{after_word, operator_at, more_at, chain_at, null_test, primary_in, factor_in, compared_in, comparison_in, negation_in, inner_at, part_at, expression_at, after_sign, list_at, name_at, key_at, enclosed_at, counted_at, aggregate_at, draw_at, input_at, setting_at, where_at, order_at, for_update_at, from_at, is_aggregate_word, begins_aggregate, aggregates_at, rows_at, listed_at, dual_at, items_at, select_at, columns_at, inputs_at, insert_at, update_at, delete_at, set_at, body_at, without_semicolon, only_if_empty, statement_at, statement_of, scanned}
 use Rattle.sql_reader.proofs.Firsts.{after_word_self, after_sign_self, operator_complete, operator_none, rank, rank_operator, no_is, begins_primary, begins_factor, begins_negation, no_minus, no_not, factor_from_primary, negation_from_factor}
 use Rattle.std.specs.List.{list_all}
@@ -23,7 +23,7 @@ use Rattle.desk_values.specs.declared.keyword.Keyword.{Keyword}
 use Rattle.desk_values.specs.Keyword.{same_keyword}
 use Rattle.sql_reader.specs.declared.error.SqlErr.{SqlErr}
 use Rattle.sql_tree.specs.declared.tree.Statement.{Statement}
-use Rattle.sql_reader.specs.Spelling.{Spells, IsStatement, Gives}
+use Rattle.sql_reader.specs.Spelling.{Spells, IsStatement, Returns}
 use Rattle.sql_reader.proofs.Options.{bind_then}
 use Rattle.sql_reader.proofs.Scanning.{scan_sound, scan_complete}
 use Rattle.sql_reader.proofs.Sound.{statement_sound}
@@ -57,7 +57,7 @@ looser part below ts rule b = record { first = b.first; others = b.others; is = 
 single : (part : Part) (t : Token) (ts : List Token) → begins_part part t ≡ true → Begins part (t ∷ ts)
 single part t ts h = record { first = t; others = ts; is = refl; fits = h }
 
-pub begins : {part : Part} {d : ℕ} {ts : List Token} {e : Term Name} → Reads part d ts e → Begins part ts
+pub begins : {part : Part} {d : ℕ} {ts : List Token} {e : Term Name} → Parses part d ts e → Begins part ts
 begins (conjunction {ts = ts} r) = looser Disjunction Conjunction ts (λ t h. h) (begins r)
 begins (or_ {ts = ts} {us = us} {o = o} line l r) = begins_more Disjunction ts (operator_token o ∷ us) (begins l)
 begins (negation {ts = ts} r) = looser Conjunction Negation ts (λ t h. h) (begins r)
@@ -237,7 +237,7 @@ sum_ends d ts e c = ends Sum Product sum_line (lit< tt) d ts e c
 disjunction_ends : (d : ℕ) (ts : List Token) (e : Term Name) → Chained Disjunction Conjunction d ts e → Plain Disjunction d ts e
 disjunction_ends d ts e c = ends Disjunction Conjunction disjunction_line (lit< tt) d ts e c
 
-complete : {part : Part} {d : ℕ} {ts : List Token} {e : Term Name} → Reads part d ts e → Complete part d ts e
+complete : {part : Part} {d : ℕ} {ts : List Token} {e : Term Name} → Parses part d ts e → Complete part d ts e
 unfolding part_at primary_in
 complete (conjunction {d = d} {ts = ts} {e = e} r) = starts Disjunction Conjunction disjunction_line (lit< tt) d ts e (ends Conjunction Negation conjunction_line (lit< tt) d ts e (complete r))
 complete (or_ {d = d} {ts = ts} {us = us} {o = o} {a = a} {b = b} l p q) = links Disjunction Conjunction disjunction_line (lit< tt) d ts us o a b l (complete p) (ends Conjunction Negation conjunction_line (lit< tt) d us b (complete q))
@@ -379,7 +379,7 @@ operator_no_dot other = refl
 around : (ts us : List Token) (o : Op) → list_all not_dot ts ≡ true → list_all not_dot us ≡ true → list_all not_dot (ts ++ operator_token o ∷ us) ≡ true
 around ts us o a b = both ts (operator_token o ∷ us) a (and_from _ _ (operator_no_dot o) b)
 
-no_dots : {part : Part} {d : ℕ} {ts : List Token} {e : Term Name} → Reads part d ts e → list_all not_dot ts ≡ true
+no_dots : {part : Part} {d : ℕ} {ts : List Token} {e : Term Name} → Parses part d ts e → list_all not_dot ts ≡ true
 no_dots (g.conjunction r) = no_dots r
 no_dots (g.or_ {ts = ts} {us = us} {o = o} l p q) = around ts us o (no_dots p) (no_dots q)
 no_dots (g.negation r) = no_dots r
@@ -699,13 +699,13 @@ read_complete bytes s h = rw (scan_complete bytes h.0 h.1) (statement_complete h
 pub spells_one : (bytes : List ℕ) (a b : Plan Name) → Spells bytes a → Spells bytes b → a ≡ b
 spells_one bytes a b p q = same_Some a b (sym (read_complete bytes a p) ∙ read_complete bytes b q)
 
-pub ok_spells : (bytes : List ℕ) (r : Result (Statement (List ℕ)) SqlErr) → Gives plan_of r (statement_of bytes) → IfOk r (λ s. Spells bytes (plan_of s))
+pub ok_spells : (bytes : List ℕ) (r : Result (Statement (List ℕ)) SqlErr) → Returns plan_of r (statement_of bytes) → IfOk r (λ s. Spells bytes (plan_of s))
 ok_spells bytes (Ok s) h = read_sound bytes (plan_of s) h
 ok_spells bytes (Err e) h = tt
 
-pub only_spelled : (bytes : List ℕ) (r : Result (Statement (List ℕ)) SqlErr) → Gives plan_of r (statement_of bytes) → (s : Plan Name) → Spells bytes s → Gives plan_of r (Some s)
-only_spelled bytes r h s spells = subst (λ (o : Option (Plan Name)). Gives plan_of r o) (read_complete bytes s spells) h
+pub only_spelled : (bytes : List ℕ) (r : Result (Statement (List ℕ)) SqlErr) → Returns plan_of r (statement_of bytes) → (s : Plan Name) → Spells bytes s → Returns plan_of r (Some s)
+only_spelled bytes r h s spells = subst (λ (o : Option (Plan Name)). Returns plan_of r o) (read_complete bytes s spells) h
 
-pub ok_written : (bytes : List ℕ) (r : Result (Statement (List ℕ)) SqlErr) → Gives plan_of r (statement_of bytes) → IfOk r (λ s. IsStatement (plan_of s))
+pub ok_written : (bytes : List ℕ) (r : Result (Statement (List ℕ)) SqlErr) → Returns plan_of r (statement_of bytes) → IfOk r (λ s. IsStatement (plan_of s))
 ok_written bytes (Ok s) h = (bytes, read_sound bytes (plan_of s) h)
 ok_written bytes (Err e) h = tt

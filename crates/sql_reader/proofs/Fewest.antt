@@ -9,7 +9,7 @@ use Rattle.sql_reader.specs.declared.token.Sign.TheVariants as sign
 use Rattle.sql_reader.specs.declared.token.Token.{Token}
 use Rattle.sql_reader.specs.declared.token.Token.TheVariants as token
 use Rattle.sql_tree.specs.Plain.{Term, null, int, text, bind, column, rowid, neg, not, bin, is_null, not_null, Name, Total, Entry, Change, Asked, Plan}
-use Rattle.sql_reader.specs.Grammar.{looseness, right_of, line_of, operator_token, Reads, conjunction, or_, negation, and_, comparison, not_, sum_, compare_, is_null_, not_null_, product, add_, factor, multiply_, primary, minus_, number, string, null_, bind_, name, rowid_, parentheses, IsExpression, left_of, Joined, IsName, IsKey, IsAggregate, IsInput, IsSetting, IsWhere, IsOrder, IsForUpdate, IsSelection, IsColumns, IsBody, IsStatementOf}
+use Rattle.sql_reader.specs.Grammar.{looseness, right_of, line_of, operator_token, Parses, conjunction, or_, negation, and_, comparison, not_, sum_, compare_, is_null_, not_null_, product, add_, factor, multiply_, primary, minus_, number, string, null_, bind_, name, rowid_, parentheses, IsExpression, left_of, Joined, IsName, IsKey, IsAggregate, IsInput, IsSetting, IsWhere, IsOrder, IsForUpdate, IsSelection, IsColumns, IsBody, IsStatementOf}
 use Rattle.std.specs.Prelude.{nat_lt, if◌then◌else◌}
 use Rattle.std.specs.List.{flat_map}
 use Rattle.std.proofs.lemmas.Bool.{ltb-false, le-ltb}
@@ -85,7 +85,7 @@ tested e made ts word b p h = omega (arith, bare_is Comparison made (omega (arit
 single : (e : Term Name) (t : Token) → bare_tokens e ≡ t ∷ [] → part_of e ≡ Primary → opened (expression_tokens Primary e) ≤ opened (t ∷ [])
 single e t b p = omega (arith, bare_is Primary e (omega (arith, ap looseness p)), ap opened b)
 
-fewest : {part : Part} {d : ℕ} {ts : List Token} {e : Term Name} → Reads part d ts e → opened (expression_tokens part e) ≤ opened ts
+fewest : {part : Part} {d : ℕ} {ts : List Token} {e : Term Name} → Parses part d ts e → opened (expression_tokens part e) ≤ opened ts
 fewest (conjunction {ts = ts} {e = e} r) = up Conjunction Disjunction e ts (lit≤ tt) (fewest r)
 fewest (or_ {ts = ts} {us = us} {o = o} {a = a} {b = b} l p q) = operated Disjunction Disjunction Conjunction o a b ts us l refl refl (fewest p) (fewest q)
 fewest (negation {ts = ts} {e = e} r) = up Negation Conjunction e ts (lit≤ tt) (fewest r)

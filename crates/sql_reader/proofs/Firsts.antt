@@ -2,6 +2,7 @@
 use Rattle.std.proofs.Common.{◌≡◌, ℕ, ◌<◌, Bool, true, false, eqb, List, [], ◌∷◌, get_or, Option, Some, None, refl, sym, ap, subst, ◌∙◌, arith, eq-eqb}
 use Rattle.std.proofs.lemmas.Bool.{eqb-true}
 use Rattle.std.proofs.lemmas.Bool.Decides.{nat_tests}
+use Rattle.std.proofs.lemmas.Slice.Eq.{bytes_eq-Decides}
 use Rattle.std.proofs.lemmas.Option.{cond_some, same_Some}
 use Rattle.sql_tree.specs.declared.tree.Op.{Op}
 use Rattle.sql_tree.specs.declared.tree.Op.TheVariants as op
@@ -13,30 +14,29 @@ use Rattle.sql_reader.specs.declared.token.Sign.{Sign}
 use Rattle.sql_reader.specs.declared.token.Sign.TheVariants as sign
 use Rattle.sql_reader.specs.declared.token.Token.{Token}
 use Rattle.sql_reader.specs.declared.token.Token.TheVariants as token
-use Rattle.desk_values.specs.Keyword.{keyword_number, same_keyword}
-use Rattle.sql_reader.specs.Words.{sign_number, same_sign, keyword_operator, sign_operator}
+use Rattle.desk_values.specs.Keyword.{same_keyword}
+use Rattle.desk_values.specs.Word.{HasOwnWords, member_with_word}
+use Rattle.desk_values.proofs.Keywords.{same_keyword_is, same_keyword_self}
+use Rattle.desk_values.proofs.Words.{same_member}
+use Rattle.sql_reader.specs.Words.{sign_text, same_sign, keyword_operator, sign_operator}
 use Rattle.sql_reader.specs.Grammar.{looseness, line_of, operator_token}
-use Rattle.desk_values.specs.Keyword.{all_keywords}
 use Rattle.desk_values.specs.Reading.{◌>>=◌}
 use Rattle.sql_reader.specs.Reading.{after_word, after_sign, operator_of, operator_among, operator_at}
 use Rattle.sql_reader.proofs.Options.{bind_then, nothing_is}
 
-keyword_back : (k : Keyword) → get_or all_keywords (keyword_number k) word.And ≡ k
-keyword_back word.And = refl
-keyword_back other = refl
-
-same_keyword_is : (a b : Keyword) → same_keyword a b ≡ true → a ≡ b
-same_keyword_is a b h = sym (keyword_back a) ∙ ap (λ (n : ℕ). get_or all_keywords n word.And) (eqb-true (keyword_number a) (keyword_number b) h) ∙ keyword_back b
-
 abbrev every_sign : List Sign
 every_sign = sign.Open ∷ sign.Close ∷ sign.Comma ∷ sign.Dot ∷ sign.Star ∷ sign.Plus ∷ sign.Minus ∷ sign.Slash ∷ sign.Equal ∷ sign.NotEqual ∷ sign.Less ∷ sign.LessOrEqual ∷ sign.Greater ∷ sign.GreaterOrEqual ∷ sign.Semicolon ∷ []
 
-sign_back : (s : Sign) → get_or every_sign (sign_number s) sign.Open ≡ s
-sign_back sign.Open = refl
-sign_back other = refl
+signs_have_own_texts : HasOwnWords sign_text every_sign
+unfolding member_with_word
+signs_have_own_texts sign.Open = refl
+signs_have_own_texts other = refl
 
 same_sign_is : (a b : Sign) → same_sign a b ≡ true → a ≡ b
-same_sign_is a b h = sym (sign_back a) ∙ ap (λ (n : ℕ). get_or every_sign n sign.Open) (eqb-true (sign_number a) (sign_number b) h) ∙ sign_back b
+same_sign_is = same_member sign_text every_sign signs_have_own_texts
+
+same_sign_self : (a : Sign) → same_sign a a ≡ true
+same_sign_self a = (bytes_eq-Decides (sign_text a) (sign_text a)).1 refl
 
 abbrev every_part : List Part
 every_part = Primary ∷ Factor ∷ Product ∷ Sum ∷ Comparison ∷ Negation ∷ Conjunction ∷ Disjunction ∷ []
@@ -57,7 +57,7 @@ after_word_is k other rest e = nothing_is rest e
 
 pub after_word_self : (k : Keyword) (rest : List Token) → after_word k (token.Word k ∷ rest) ≡ Some rest
 unfolding after_word
-after_word_self k rest = rw (eq-eqb (keyword_number k) (keyword_number k) refl) refl
+after_word_self k rest = rw (same_keyword_self k) refl
 
 pub after_sign_is : (s : Sign) (ts rest : List Token) → after_sign s ts ≡ Some rest → ts ≡ token.Sign s ∷ rest
 unfolding after_sign
@@ -68,7 +68,7 @@ after_sign_is s other rest e = nothing_is rest e
 
 pub after_sign_self : (s : Sign) (rest : List Token) → after_sign s (token.Sign s ∷ rest) ≡ Some rest
 unfolding after_sign
-after_sign_self s rest = rw (eq-eqb (sign_number s) (sign_number s) refl) refl
+after_sign_self s rest = rw (same_sign_self s) refl
 
 keyword_operator_is : (k : Keyword) (o : Op) → keyword_operator k ≡ Some o → token.Word k ≡ operator_token o
 keyword_operator_is word.And o e = ap operator_token (same_Some op.And o e)

@@ -26,7 +26,7 @@ use Rattle.sql_tree.specs.declared.tree.Op.{Op}
 use Rattle.sql_reader.specs.declared.part.Part.{Part}
 use Rattle.sql_reader.specs.declared.part.Part.TheVariants.{Disjunction, Conjunction, Negation, Comparison, Sum, Product, Factor, Primary}
 use Rattle.sql_tree.specs.Plain.{Term, bin, Name, Plan, Total, Entry, Change, Asked, totals, select}
-use Rattle.sql_reader.specs.Grammar.{looseness, left_of, right_of, line_of, operator_token, Reads, conjunction, or_, negation, and_, comparison, not_, sum_, compare_, is_null_, not_null_, product, add_, factor, multiply_, primary, minus_, number, string, null_, bind_, name, rowid_, parentheses, IsExpression, Joined, IsList, IsName, IsKey, IsAggregate, IsInput, IsSetting, IsWhere, IsOrder, IsForUpdate, IsSelection, IsColumns, IsBody, IsStatementOf}
+use Rattle.sql_reader.specs.Grammar.{looseness, left_of, right_of, line_of, operator_token, Parses, conjunction, or_, negation, and_, comparison, not_, sum_, compare_, is_null_, not_null_, product, add_, factor, multiply_, primary, minus_, number, string, null_, bind_, name, rowid_, parentheses, IsExpression, Joined, IsList, IsName, IsKey, IsAggregate, IsInput, IsSetting, IsWhere, IsOrder, IsForUpdate, IsSelection, IsColumns, IsBody, IsStatementOf}
 use Rattle.sql_reader.specs.Words.{sign_text}
 use Rattle.sql_reader.proofs.Firsts.{same_part}
 use Rattle.std.proofs.lemmas.List.{append-nil}
@@ -152,7 +152,7 @@ text_is t ts a = l.then (text_again a.0.1) (all_ends t ts) (spaced_are ts a.1)
 -- ---- What is written for an expression is the expression.
 
 -- more may nest
-weaken : {part : Part} {d : ℕ} {ts : List Token} {e : Term Name} → Reads part d ts e → Reads part (suc d) ts e
+weaken : {part : Part} {d : ℕ} {ts : List Token} {e : Term Name} → Parses part d ts e → Parses part (suc d) ts e
 weaken (conjunction r) = conjunction (weaken r)
 weaken (or_ l p q) = or_ l (weaken p) (weaken q)
 weaken (negation r) = negation (weaken r)
@@ -182,8 +182,8 @@ at_most Primary = omega arith
 at_most other = omega arith
 
 -- a tighter part is also a looser one
-raise : (n : ℕ) (p q : Part) {d : ℕ} {ts : List Token} {e : Term Name} → looseness p + n ≡ looseness q → Reads p d ts e → Reads q d ts e
-raise zero p q {d} {ts} {e} h r = subst (λ (x : Part). Reads x d ts e) (same_part p q (omega arith)) r
+raise : (n : ℕ) (p q : Part) {d : ℕ} {ts : List Token} {e : Term Name} → looseness p + n ≡ looseness q → Parses p d ts e → Parses q d ts e
+raise zero p q {d} {ts} {e} h r = subst (λ (x : Part). Parses x d ts e) (same_part p q (omega arith)) r
 raise (suc n) Primary q h r = raise n Factor q (omega arith) (primary r)
 raise (suc n) Factor q h r = raise n Product q (omega arith) (factor r)
 raise (suc n) Product q h r = raise n Sum q (omega arith) (product r)
@@ -193,24 +193,24 @@ raise (suc n) Negation q h r = raise n Conjunction q (omega arith) (negation r)
 raise (suc n) Conjunction q h r = raise n Disjunction q (omega arith) (conjunction r)
 raise (suc n) Disjunction q h r = absurd (omega (arith, at_most q))
 
-lift : (p q : Part) {d : ℕ} {ts : List Token} {e : Term Name} → looseness p ≤ looseness q → Reads p d ts e → Reads q d ts e
+lift : (p q : Part) {d : ℕ} {ts : List Token} {e : Term Name} → looseness p ≤ looseness q → Parses p d ts e → Parses q d ts e
 lift p q h r = raise (looseness q - looseness p) p q (omega arith) r
 
 -- the expression is read without parentheses, where the part is loose enough, or one level less deep
 data Rewritten (part : Part) (d : ℕ) (e : Term Name) : Type 0 where
-  direct : looseness (part_of e) ≤ looseness part → Reads (part_of e) d (bare_tokens e) e → Rewritten part d e
-  nested : {inner : ℕ} → d ≡ suc inner → Reads (part_of e) inner (bare_tokens e) e → Rewritten part d e
+  direct : looseness (part_of e) ≤ looseness part → Parses (part_of e) d (bare_tokens e) e → Rewritten part d e
+  nested : {inner : ℕ} → d ≡ suc inner → Parses (part_of e) inner (bare_tokens e) e → Rewritten part d e
 
-enclose : (part : Part) (d : ℕ) (e : Term Name) → Reads (part_of e) d (bare_tokens e) e → Reads part (suc d) (token.Sign sign.Open ∷ (bare_tokens e ++ token.Sign sign.Close ∷ [])) e
+enclose : (part : Part) (d : ℕ) (e : Term Name) → Parses (part_of e) d (bare_tokens e) e → Parses part (suc d) (token.Sign sign.Open ∷ (bare_tokens e ++ token.Sign sign.Close ∷ [])) e
 enclose part d e r = lift Primary part (omega arith) (parentheses (lift (part_of e) Disjunction (at_most (part_of e)) r))
 
-enclosed_reads : (part : Part) (d : ℕ) (e : Term Name) (b : Bool) → nat_lt (looseness part) (looseness (part_of e)) ≡ b → Rewritten part d e → Reads part d (if b then token.Sign sign.Open ∷ (bare_tokens e ++ token.Sign sign.Close ∷ []) else bare_tokens e) e
+enclosed_reads : (part : Part) (d : ℕ) (e : Term Name) (b : Bool) → nat_lt (looseness part) (looseness (part_of e)) ≡ b → Rewritten part d e → Parses part d (if b then token.Sign sign.Open ∷ (bare_tokens e ++ token.Sign sign.Close ∷ []) else bare_tokens e) e
 enclosed_reads part d e true h (direct le r) = absurd (omega (arith, ltb-true _ _ h))
 enclosed_reads part d e false h (direct le r) = lift (part_of e) part le r
-enclosed_reads part d e true h (nested deeper r) = subst (λ (x : ℕ). Reads part x (token.Sign sign.Open ∷ (bare_tokens e ++ token.Sign sign.Close ∷ [])) e) (sym deeper) (enclose part _ e r)
-enclosed_reads part d e false h (nested deeper r) = subst (λ (x : ℕ). Reads part x (bare_tokens e) e) (sym deeper) (lift (part_of e) part (ltb-false _ _ h) (weaken r))
+enclosed_reads part d e true h (nested deeper r) = subst (λ (x : ℕ). Parses part x (token.Sign sign.Open ∷ (bare_tokens e ++ token.Sign sign.Close ∷ [])) e) (sym deeper) (enclose part _ e r)
+enclosed_reads part d e false h (nested deeper r) = subst (λ (x : ℕ). Parses part x (bare_tokens e) e) (sym deeper) (lift (part_of e) part (ltb-false _ _ h) (weaken r))
 
-reads_again : (part : Part) (d : ℕ) (e : Term Name) → Rewritten part d e → Reads part d (expression_tokens part e) e
+reads_again : (part : Part) (d : ℕ) (e : Term Name) → Rewritten part d e → Parses part d (expression_tokens part e) e
 reads_again part d e w = enclosed_reads part d e (nat_lt (looseness part) (looseness (part_of e))) refl w
 
 looser : (p q : Part) (d : ℕ) (e : Term Name) → looseness p ≤ looseness q → Rewritten p d e → Rewritten q d e
@@ -219,16 +219,16 @@ looser p q d e h (nested deeper r) = nested deeper r
 
 -- an operator between its operands
 abbrev Around : Op → ℕ → Term Name → Term Name → Part → Type 0
-Around o d a b line = Reads line d (expression_tokens (left_of line) a ++ operator_token o ∷ expression_tokens (right_of line) b) (bin o a b)
+Around o d a b line = Parses line d (expression_tokens (left_of line) a ++ operator_token o ∷ expression_tokens (right_of line) b) (bin o a b)
 
 operated : (o : Op) (d : ℕ) (a b : Term Name) (line : Part) → line_of o ≡ line → Around o d a b line → Rewritten line d (bin o a b)
 operated o d a b line l r = direct (omega (arith, ap looseness l)) (subst (Around o d a b) (sym l) r)
 
 unwrapped : (d : ℕ) (e : Term Name) → Rewritten Disjunction d e → Rewritten Primary (suc d) e
 unwrapped d e (direct le r) = nested refl r
-unwrapped d e (nested deeper r) = nested refl (subst (λ (x : ℕ). Reads (part_of e) x (bare_tokens e) e) (sym deeper) (weaken r))
+unwrapped d e (nested deeper r) = nested refl (subst (λ (x : ℕ). Parses (part_of e) x (bare_tokens e) e) (sym deeper) (weaken r))
 
-rewritten : {part : Part} {d : ℕ} {ts : List Token} {e : Term Name} → Reads part d ts e → Rewritten part d e
+rewritten : {part : Part} {d : ℕ} {ts : List Token} {e : Term Name} → Parses part d ts e → Rewritten part d e
 rewritten (conjunction {d = d} {e = e} r) = looser Conjunction Disjunction d e (lit≤ tt) (rewritten r)
 rewritten (or_ {d = d} {o = o} {a = a} {b = b} l p q) = operated o d a b Disjunction l (or_ l (reads_again Disjunction d a (rewritten p)) (reads_again Conjunction d b (rewritten q)))
 rewritten (negation {d = d} {e = e} r) = looser Negation Conjunction d e (lit≤ tt) (rewritten r)
@@ -276,7 +276,7 @@ around_are ts us o p q a b all f g =
     let right = are_right ts (operator_token o ∷ us) all in
     are_both (expression_tokens p a) (operator_token o ∷ expression_tokens q b) (enclosed_are p a (f (are_left ts (operator_token o ∷ us) all))) (right.0, enclosed_are q b (g right.1))
 
-bare_are : {part : Part} {d : ℕ} {ts : List Token} {e : Term Name} → Reads part d ts e → AreTokens ts → AreTokens (bare_tokens e)
+bare_are : {part : Part} {d : ℕ} {ts : List Token} {e : Term Name} → Parses part d ts e → AreTokens ts → AreTokens (bare_tokens e)
 bare_are (conjunction r) a = bare_are r a
 bare_are (or_ {ts = ts} {us = us} {o = o} {a = x} {b = y} l p q) a = around_are ts us o (left_of (line_of o)) (right_of (line_of o)) x y a (bare_are p) (bare_are q)
 bare_are (negation r) a = bare_are r a

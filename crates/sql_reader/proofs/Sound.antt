@@ -10,7 +10,7 @@ use Rattle.sql_reader.specs.declared.token.Sign.TheVariants as sign
 use Rattle.sql_reader.specs.declared.token.Token.{Token}
 use Rattle.sql_reader.specs.declared.token.Token.TheVariants as token
 use Rattle.sql_tree.specs.Plain.{Term, null, int, text, bind, column, rowid, neg, not, bin, is_null, not_null, Name, Total, count, total, least, greatest, value, drawn, Change, Entry, Asked, columns, values, totals, Plan, select, next, insert, update, delete, commit, rollback, set_read_only}
-use Rattle.sql_reader.specs.Grammar.{line_of, operator_token, Reads, conjunction, or_, negation, and_, comparison, not_, sum_, compare_, is_null_, not_null_, product, add_, factor, multiply_, primary, minus_, number, string, null_, bind_, name, rowid_, parentheses, IsExpression, Joined, IsList, IsName, IsKey, IsAggregate, IsInput, IsSetting, IsWhere, IsOrder, IsForUpdate, IsSelection, IsColumns, IsBody, IsStatementOf}
+use Rattle.sql_reader.specs.Grammar.{line_of, operator_token, Parses, conjunction, or_, negation, and_, comparison, not_, sum_, compare_, is_null_, not_null_, product, add_, factor, multiply_, primary, minus_, number, string, null_, bind_, name, rowid_, parentheses, IsExpression, Joined, IsList, IsName, IsKey, IsAggregate, IsInput, IsSetting, IsWhere, IsOrder, IsForUpdate, IsSelection, IsColumns, IsBody, IsStatementOf}
 use Rattle.desk_values.specs.Reading.{◌>>=◌}
 use Rattle.sql_reader.specs.Reading.{cases, after_word, after_sign, operator_at, more_at, chain_at, null_test, primary_in, factor_in, product_in, sum_in, compared_in, comparison_in, negation_in, conjunction_in, disjunction_in, part_in, inner_at, part_at, expression_at, list_at, name_at, key_at, enclosed_at, counted_at, made_of, aggregate_at, draw_at, input_at, setting_at, where_at, order_at, for_update_at, from_at, begins_aggregate, aggregates_at, rows_at, listed_at, dual_at, items_at, select_at, columns_at, inputs_at, insert_at, update_at, delete_at, set_at, body_at, without_semicolon, only_if_empty, statement_at}
 use Rattle.sql_reader.proofs.Options.{bind_then, some, nothing_is, cases_are}
@@ -26,7 +26,7 @@ use Rattle.desk_values.proofs.Options.{chosen}
 pub record Front (part : Part) (depth : ℕ) (ts : List Token) (e : Term Name) (rest : List Token) : Type 0 where
   pub taken : List Token
   pub parts : ts ≡ taken ++ rest
-  pub reads : Reads part depth taken e
+  pub reads : Parses part depth taken e
 
 abbrev Got : Part → ℕ → List Token → Term Name × List Token → Type 0
 Got part depth ts x = Front part depth ts x.0 x.1
@@ -44,27 +44,27 @@ is_got {part} {depth} {ts} a b e rest h f = subst (Got part depth ts) (same_Some
 -- ---- a line of operators
 
 abbrev Links : Part → Part → ℕ → Type 0
-Links line below depth = (ts us : List Token) (o : Op) (a b : Term Name) → line_of o ≡ line → Reads line depth ts a → Reads below depth us b → Reads line depth (ts ++ operator_token o ∷ us) (bin o a b)
+Links line below depth = (ts us : List Token) (o : Op) (a b : Term Name) → line_of o ≡ line → Parses line depth ts a → Parses below depth us b → Parses line depth (ts ++ operator_token o ∷ us) (bin o a b)
 
 -- the tokens after what was read on the left
 record Further (line : Part) (depth : ℕ) (before ts : List Token) (e : Term Name) (rest : List Token) : Type 0 where
   taken : List Token
   parts : ts ≡ taken ++ rest
-  reads : Reads line depth (before ++ taken) e
+  reads : Parses line depth (before ++ taken) e
 
 module _ (line below : Part) (depth : ℕ) (operand : List Token → Option (Term Name × List Token)) (sound : Sound operand below depth) (links : Links line below depth) where
-  stops : (before : List Token) (left : Term Name) (ts : List Token) (e : Term Name) (rest : List Token) → Reads line depth before left → some (pair left ts) ≡ some (pair e rest) → Further line depth before ts e rest
+  stops : (before : List Token) (left : Term Name) (ts : List Token) (e : Term Name) (rest : List Token) → Parses line depth before left → some (pair left ts) ≡ some (pair e rest) → Further line depth before ts e rest
   stops before left ts e rest r h =
-      subst (λ (x : Term Name × List Token). Further line depth before ts x.0 x.1) (same_Some (pair left ts) (pair e rest) h) (record { taken = []; parts = refl; reads = subst (λ (b : List Token). Reads line depth b left) (sym (append-nil before)) r })
+      subst (λ (x : Term Name × List Token). Further line depth before ts x.0 x.1) (same_Some (pair left ts) (pair e rest) h) (record { taken = []; parts = refl; reads = subst (λ (b : List Token). Parses line depth b left) (sym (append-nil before)) r })
 
   goes_on : (before : List Token) (o : Op) (ts behind : List Token) (right : Term Name) (after : List Token) (e : Term Name) (rest : List Token) → ts ≡ operator_token o ∷ behind → (f : Front below depth behind right after) → Further line depth (before ++ operator_token o ∷ f.taken) after e rest → Further line depth before ts e rest
   goes_on before o ts behind right after e rest is f g = record {
     taken = operator_token o ∷ (f.taken ++ g.taken);
     parts = is ∙ ap (λ (x : List Token). operator_token o ∷ x) (f.parts ∙ ap (λ (x : List Token). f.taken ++ x) g.parts ∙ sym (append_assoc f.taken g.taken rest));
-    reads = subst (λ (x : List Token). Reads line depth x e) (append_assoc before (operator_token o ∷ f.taken) g.taken) g.reads;
+    reads = subst (λ (x : List Token). Parses line depth x e) (append_assoc before (operator_token o ∷ f.taken) g.taken) g.reads;
   }
 
-  more_sound : (n : ℕ) (before : List Token) (left : Term Name) (ts : List Token) (e : Term Name) (rest : List Token) → Reads line depth before left → more_at operand line n left ts ≡ Some (e, rest) → Further line depth before ts e rest
+  more_sound : (n : ℕ) (before : List Token) (left : Term Name) (ts : List Token) (e : Term Name) (rest : List Token) → Parses line depth before left → more_at operand line n left ts ≡ Some (e, rest) → Further line depth before ts e rest
   more_sound zero before left ts e rest r h = stops before left ts e rest r h
   more_sound (suc n) before left ts e rest r h =
       elim (cases_are (operator_at line ts) (Some (left, ts)) (λ x. operand x.1 >>= λ right. more_at operand line n (bin x.0 left right.0) right.1) (Some (e, rest)) h) [
@@ -75,7 +75,7 @@ module _ (line below : Part) (depth : ℕ) (operand : List Token → Option (Ter
             goes_on before g.0.0 ts g.0.1 right.0 right.1 e rest o.is f (more_sound n (before ++ operator_token g.0.0 ∷ f.taken) (bin g.0.0 left right.0) right.1 e rest (links before f.taken g.0.0 left right.0 o.line r f.reads) e1))
       ]
 
-  chain_sound : ((ts : List Token) (e : Term Name) → Reads below depth ts e → Reads line depth ts e) → Sound (chain_at operand line) line depth
+  chain_sound : ((ts : List Token) (e : Term Name) → Parses below depth ts e → Parses line depth ts e) → Sound (chain_at operand line) line depth
   unfolding chain_at
   chain_sound single ts e rest h =
       bind_then (operand ts) (λ left. more_at operand line (length ts) left.0 left.1) (e, rest) h (λ left el e1.
@@ -92,14 +92,14 @@ record Nested (part : Part) (depth : ℕ) (ts : List Token) (e : Term Name) (res
   front : Front part inner ts e rest
 
 module _ (depth : ℕ) (inner : Part → List Token → Option (Term Name × List Token)) (nests : (part : Part) (ts : List Token) (e : Term Name) (rest : List Token) → inner part ts ≡ Some (e, rest) → Nested part depth ts e rest) where
-  token_front : (t : Token) (a : Term Name) (more : List Token) (e : Term Name) (rest : List Token) → Reads Primary depth (t ∷ []) a → some (pair a more) ≡ some (pair e rest) → Front Primary depth (t ∷ more) e rest
+  token_front : (t : Token) (a : Term Name) (more : List Token) (e : Term Name) (rest : List Token) → Parses Primary depth (t ∷ []) a → some (pair a more) ≡ some (pair e rest) → Front Primary depth (t ∷ more) e rest
   token_front t a more e rest r h = is_got a more e rest h (record { taken = t ∷ []; parts = refl; reads = r })
 
   in_parentheses : (more : List Token) (a : Term Name) (after rest : List Token) → Nested Disjunction depth more a after → after ≡ token.Sign sign.Close ∷ rest → Front Primary depth (token.Sign sign.Open ∷ more) a rest
   in_parentheses more a after rest n c = record {
     taken = token.Sign sign.Open ∷ (n.front.taken ++ token.Sign sign.Close ∷ []);
     parts = ap (λ (x : List Token). token.Sign sign.Open ∷ x) (n.front.parts ∙ ap (λ (x : List Token). n.front.taken ++ x) c ∙ sym (append_assoc n.front.taken (token.Sign sign.Close ∷ []) rest));
-    reads = subst (λ (d : ℕ). Reads Primary d (token.Sign sign.Open ∷ (n.front.taken ++ token.Sign sign.Close ∷ [])) a) (sym n.deeper) (parentheses n.front.reads);
+    reads = subst (λ (d : ℕ). Parses Primary d (token.Sign sign.Open ∷ (n.front.taken ++ token.Sign sign.Close ∷ [])) a) (sym n.deeper) (parentheses n.front.reads);
   }
 
   primary_sound : Sound (primary_in inner) Primary depth
@@ -118,14 +118,14 @@ module _ (depth : ℕ) (inner : Part → List Token → Option (Term Name × Lis
       is_got x.0 after e rest e2 (in_parentheses more x.0 x.1 after (nests Disjunction more x.0 x.1 ex) (after_sign_is sign.Close x.1 after ea))))
   primary_sound (token.Sign other ∷ more) e rest h = nothing_is (e, rest) h
 
-  prefixed : (part under : Part) (t : Token) (make : Term Name → Term Name) (ts more : List Token) (a : Term Name) (rest : List Token) → ((d : ℕ) (us : List Token) (b : Term Name) → Reads under d us b → Reads part (suc d) (t ∷ us) (make b)) → ts ≡ t ∷ more → Nested under depth more a rest → Front part depth ts (make a) rest
+  prefixed : (part under : Part) (t : Token) (make : Term Name → Term Name) (ts more : List Token) (a : Term Name) (rest : List Token) → ((d : ℕ) (us : List Token) (b : Term Name) → Parses under d us b → Parses part (suc d) (t ∷ us) (make b)) → ts ≡ t ∷ more → Nested under depth more a rest → Front part depth ts (make a) rest
   prefixed part under t make ts more a rest rule is n = record {
     taken = t ∷ n.front.taken;
     parts = is ∙ ap (λ (x : List Token). t ∷ x) n.front.parts;
-    reads = subst (λ (d : ℕ). Reads part d (t ∷ n.front.taken) (make a)) (sym n.deeper) (rule n.inner n.front.taken a n.front.reads);
+    reads = subst (λ (d : ℕ). Parses part d (t ∷ n.front.taken) (make a)) (sym n.deeper) (rule n.inner n.front.taken a n.front.reads);
   }
 
-  under : (part below : Part) (ts : List Token) (e : Term Name) (rest : List Token) → ((us : List Token) (b : Term Name) → Reads below depth us b → Reads part depth us b) → Front below depth ts e rest → Front part depth ts e rest
+  under : (part below : Part) (ts : List Token) (e : Term Name) (rest : List Token) → ((us : List Token) (b : Term Name) → Parses below depth us b → Parses part depth us b) → Front below depth ts e rest → Front part depth ts e rest
   under part below ts e rest rule f = record { taken = f.taken; parts = f.parts; reads = rule f.taken e f.reads }
 
   factor_sound : Sound (factor_in inner) Factor depth
@@ -144,10 +144,10 @@ module _ (depth : ℕ) (inner : Part → List Token → Option (Term Name × Lis
   sum_sound = chain_sound Sum Product depth (product_in inner) product_sound (λ ts us o a b l r q. add_ l r q) (λ ts e r. product r)
 
   -- what is tested for NULL
-  tested : (left : Term Name) (before ts after : List Token) (word : List Token) (a : Term Name) (rest : List Token) → ts ≡ word ++ rest → Reads Comparison depth (before ++ word) a → (us : List Token) → us ≡ before ++ ts → Front Comparison depth us a rest
+  tested : (left : Term Name) (before ts after : List Token) (word : List Token) (a : Term Name) (rest : List Token) → ts ≡ word ++ rest → Parses Comparison depth (before ++ word) a → (us : List Token) → us ≡ before ++ ts → Front Comparison depth us a rest
   tested left before ts after word a rest is r us all = record { taken = before ++ word; parts = all ∙ ap (λ (x : List Token). before ++ x) is ∙ sym (append_assoc before word rest); reads = r }
 
-  null_sound : (left : Term Name) (before us ts behind : List Token) (e : Term Name) (rest : List Token) → Reads Sum depth before left → us ≡ before ++ ts → ts ≡ token.Word word.Is ∷ behind → null_test left behind ≡ Some (e, rest) → Front Comparison depth us e rest
+  null_sound : (left : Term Name) (before us ts behind : List Token) (e : Term Name) (rest : List Token) → Parses Sum depth before left → us ≡ before ++ ts → ts ≡ token.Word word.Is ∷ behind → null_test left behind ≡ Some (e, rest) → Front Comparison depth us e rest
   unfolding null_test
   null_sound left before us ts behind e rest r all is h =
       elim (cases_are (after_word word.Not behind) (after_word word.Null behind >>= λ q. Some (is_null left, q)) (λ after. after_word word.Null after >>= λ q. Some (not_null left, q)) (Some (e, rest)) h) [
@@ -157,7 +157,7 @@ module _ (depth : ℕ) (inner : Part → List Token → Option (Term Name × Lis
             is_got (not_null left) q e rest e1 (tested left before ts behind (token.Word word.Is ∷ token.Word word.Not ∷ token.Word word.Null ∷ []) (not_null left) q (is ∙ ap (λ (x : List Token). token.Word word.Is ∷ x) (after_word_is word.Not behind g.0 g.1 ∙ ap (λ (x : List Token). token.Word word.Not ∷ x) (after_word_is word.Null g.0 q eq))) (not_null_ r) us all))
       ]
 
-  compared_sound : (left : Term Name) (before us ts : List Token) (e : Term Name) (rest : List Token) → Reads Sum depth before left → us ≡ before ++ ts → compared_in inner left ts ≡ Some (e, rest) → Front Comparison depth us e rest
+  compared_sound : (left : Term Name) (before us ts : List Token) (e : Term Name) (rest : List Token) → Parses Sum depth before left → us ≡ before ++ ts → compared_in inner left ts ≡ Some (e, rest) → Front Comparison depth us e rest
   unfolding compared_in
   compared_sound left before us ts e rest r all h =
       elim (cases_are (operator_at Comparison ts) (cases (after_word word.Is ts) (Some (left, ts)) (λ after. null_test left after)) (λ x. sum_in inner x.1 >>= λ right. Some (bin x.0 left right.0, right.1)) (Some (e, rest)) h) [

@@ -6,8 +6,7 @@ use Rattle.std.specs.Str.Parse.{digits_value}
 use Rattle.std.specs.Fmt.{decimal}
 use Rattle.desk_values.specs.Good.{IsTxt}
 use Rattle.desk_values.specs.declared.keyword.Keyword.{Keyword}
-use Rattle.desk_values.specs.declared.keyword.TheConstants.{NAME_LIMIT}
-use Rattle.desk_values.specs.declared.value.TheConstants.{BIND_LIMIT}
+use Rattle.desk_values.specs.Limits.{name_limit, bind_limit}
 use Rattle.sql_reader.specs.declared.token.Sign.{Sign}
 use Rattle.sql_reader.specs.declared.token.Sign.TheVariants as sign
 use Rattle.sql_reader.specs.declared.token.Token.{Token}
@@ -43,13 +42,17 @@ quoted byte = if byte == 39 then 39 ∷ 39 ∷ [] else byte ∷ []
 
 -- the bytes are one token
 pub data Lexeme : List ℕ → Token → Type 0 where
-  word : {bytes : List ℕ} {keyword : Keyword} → is_word bytes ≡ true → folded bytes ≡ keyword_word keyword → Lexeme bytes (token.Word keyword)
+  word : {bytes : List ℕ} {keyword : Keyword} → is_word bytes ≡ true → folded bytes ≡ keyword_word keyword
+      → Lexeme bytes (token.Word keyword)
   -- a name is no longer than its limit, and no word of the language
-  name : {bytes : List ℕ} → is_word bytes ≡ true → ((keyword : Keyword) → folded bytes ≢ keyword_word keyword) → length bytes ≤ NAME_LIMIT → Lexeme bytes (token.Name (folded bytes))
-  number : {bytes : List ℕ} → is_numeral bytes ≡ true → digits_value 10 bytes < 2 ^ 63 → Lexeme bytes (token.Number (pos (digits_value 10 bytes)))
+  name : {bytes : List ℕ} → is_word bytes ≡ true
+      → ((keyword : Keyword) → folded bytes ≢ keyword_word keyword) → length bytes ≤ name_limit
+      → Lexeme bytes (token.Name (folded bytes))
+  number : {bytes : List ℕ} → is_numeral bytes ≡ true → digits_value 10 bytes < 2 ^ 63
+      → Lexeme bytes (token.Number (pos (digits_value 10 bytes)))
   string : {bytes : List ℕ} → IsTxt bytes → Lexeme (39 ∷ (flat_map quoted bytes ++ 39 ∷ [])) (token.Text bytes)
   -- binds count from 1
-  bind : {n : ℕ} → 1 ≤ n → n ≤ BIND_LIMIT → Lexeme (58 ∷ decimal n) (token.Bind n)
+  bind : {n : ℕ} → 1 ≤ n → n ≤ bind_limit → Lexeme (58 ∷ decimal n) (token.Bind n)
   mark : {s : Sign} → Lexeme (sign_text s) (token.Sign s)
   other_not_equal : Lexeme (codes "!=") (token.Sign sign.NotEqual)
 
@@ -73,5 +76,7 @@ EndsBefore t (byte ∷ bytes) = goes_on t byte ≡ false
 -- the bytes are these tokens, with any spaces before, between and after them
 pub data Tokens : List ℕ → List Token → Type 0 where
   end : Tokens [] []
-  space : {byte : ℕ} {bytes : List ℕ} {tokens : List Token} → is_space byte ≡ true → Tokens bytes tokens → Tokens (byte ∷ bytes) tokens
-  then : {text rest : List ℕ} {t : Token} {tokens : List Token} → Lexeme text t → EndsBefore t rest → Tokens rest tokens → Tokens (text ++ rest) (t ∷ tokens)
+  space : {byte : ℕ} {bytes : List ℕ} {tokens : List Token} → is_space byte ≡ true → Tokens bytes tokens
+      → Tokens (byte ∷ bytes) tokens
+  then : {text rest : List ℕ} {t : Token} {tokens : List Token} → Lexeme text t → EndsBefore t rest
+      → Tokens rest tokens → Tokens (text ++ rest) (t ∷ tokens)

@@ -6,9 +6,9 @@ use Rattle.std.specs.List.{find, prefix_len, cons_option}
 use Rattle.std.specs.Char.{is_ascii_alphabetic, is_ascii_digit}
 use Rattle.std.specs.Str.{bytes_eq}
 use Rattle.desk_values.specs.declared.keyword.Keyword.{Keyword}
-use Rattle.desk_values.specs.declared.keyword.TheConstants.{NAME_LIMIT}
+use Rattle.desk_values.specs.Limits.{name_limit}
 use Rattle.desk_values.specs.Reading.{◌>>=◌, txt_in}
-use Rattle.sql_reader.specs.declared.sentences.TheConstants.{LIST_LIMIT, NESTING_LIMIT}
+use Rattle.sql_reader.specs.Limits.{list_limit, nesting_limit}
 use Rattle.sql_reader.specs.declared.token.Sign.{Sign}
 use Rattle.sql_reader.specs.declared.token.Sign.TheVariants as sign
 use Rattle.sql_reader.specs.declared.token.Token.{Token}
@@ -35,7 +35,7 @@ keyword_at bytes = member_with_word keyword_word all_keywords bytes
 
 abbrev pub name_or : Option Keyword → List ℕ → Option Token
 name_or (Some keyword) bytes = Some (token.Word keyword)
-name_or None bytes = if nat_lt NAME_LIMIT (length bytes) then None else (txt_in bytes >>= λ name. Some (token.Name name))
+name_or None bytes = if nat_lt name_limit (length bytes) then None else (txt_in bytes >>= λ name. Some (token.Name name))
 
 -- a word of the language or a name
 unfoldable pub word_at : List ℕ → Option Token
@@ -163,7 +163,8 @@ operator_at part [] = None
 operator_at part (t ∷ rest) = operator_of t >>= λ o. operator_among part o rest
 
 -- more operands of a line after what stands left of them
-abbrev pub more_at : (List Token → Option (Term Name × List Token)) → Part → ℕ → Term Name → List Token → Option (Term Name × List Token)
+abbrev pub more_at : (List Token → Option (Term Name × List Token)) → Part → ℕ → Term Name → List Token
+    → Option (Term Name × List Token)
 more_at operand part zero left ts = Some (left, ts)
 more_at operand part (suc n) left ts = cases (operator_at part ts) (Some (left, ts)) (λ x. operand x.1 >>= λ right. more_at operand part n (bin x.0 left right.0) right.1)
 
@@ -236,7 +237,7 @@ part_at depth part ts = part_in (inner_at depth) part ts
 
 -- a whole expression
 abbrev pub expression_at : List Token → Option (Term Name × List Token)
-expression_at ts = part_at NESTING_LIMIT Disjunction ts
+expression_at ts = part_at nesting_limit Disjunction ts
 
 -- at most n members with commas between them
 unfoldable pub list_at : {A : Type 0} → (List Token → Option (A × List Token)) → ℕ → List Token → Option (List A × List Token)
@@ -297,7 +298,7 @@ unfoldable pub where_at : List Token → Option (Option (Term Name) × List Toke
 where_at ts = cases (after_word word.Where ts) (Some (None, ts)) (λ after. expression_at after >>= λ x. Some (Some x.0, x.1))
 
 unfoldable pub order_at : List Token → Option (List (Key Name) × List Token)
-order_at ts = cases (after_word word.Order ts) (Some ([], ts)) (λ after. after_word word.By after >>= λ keys. list_at key_at LIST_LIMIT keys)
+order_at ts = cases (after_word word.Order ts) (Some ([], ts)) (λ after. after_word word.By after >>= λ keys. list_at key_at list_limit keys)
 
 unfoldable pub for_update_at : List Token → Option (Bool × List Token)
 for_update_at ts = cases (after_word word.For ts) (Some (false, ts)) (λ after. after_word word.Update after >>= λ rest. Some (true, rest))
@@ -319,7 +320,7 @@ begins_aggregate other = false
 
 unfoldable pub aggregates_at : List Token → Option (Plan Name × List Token)
 aggregates_at ts = do
-  items ← list_at aggregate_at LIST_LIMIT ts
+  items ← list_at aggregate_at list_limit ts
   table ← from_at items.1
   condition ← where_at table.1
   Some (select table.0 (totals items.0) condition.0 [] false, condition.1)
@@ -334,7 +335,7 @@ rows_at items ts = do
   Some (select table.0 items condition.0 keys.0 held.0, held.1)
 
 abbrev pub listed_at : List Token → Option (Plan Name × List Token)
-listed_at ts = list_at expression_at LIST_LIMIT ts >>= λ items. rows_at (values items.0) items.1
+listed_at ts = list_at expression_at list_limit ts >>= λ items. rows_at (values items.0) items.1
 
 -- FROM DUAL
 unfoldable pub dual_at : List Token → Option (List Token)
@@ -347,13 +348,13 @@ unfoldable pub select_at : List Token → Option (Plan Name × List Token)
 select_at ts = cases (draw_at ts) (items_at ts) (λ x. dual_at x.1 >>= λ rest. Some (next x.0, rest))
 
 unfoldable pub columns_at : List Token → Option (Option (List (List ℕ)) × List Token)
-columns_at ts = cases (after_sign sign.Open ts) (Some (None, ts)) (λ inside. list_at name_at LIST_LIMIT inside >>= λ names. after_sign sign.Close names.1 >>= λ rest. Some (Some names.0, rest))
+columns_at ts = cases (after_sign sign.Open ts) (Some (None, ts)) (λ inside. list_at name_at list_limit inside >>= λ names. after_sign sign.Close names.1 >>= λ rest. Some (Some names.0, rest))
 
 unfoldable pub inputs_at : List Token → Option (List (Entry Name) × List Token)
 inputs_at ts = do
   after ← after_word word.Values ts
   inside ← after_sign sign.Open after
-  inputs ← list_at input_at LIST_LIMIT inside
+  inputs ← list_at input_at list_limit inside
   rest ← after_sign sign.Close inputs.1
   Some (inputs.0, rest)
 
@@ -369,7 +370,7 @@ unfoldable pub update_at : List Token → Option (Plan Name × List Token)
 update_at ts = do
   table ← name_at ts
   after ← after_word word.Set table.1
-  settings ← list_at setting_at LIST_LIMIT after
+  settings ← list_at setting_at list_limit after
   condition ← where_at settings.1
   Some (update table.0 settings.0 condition.0, condition.1)
 

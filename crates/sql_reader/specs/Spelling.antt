@@ -30,5 +30,5 @@ told error.Syntax = Some None
 told error.Memory = None
 
 -- what was returned, seen by view, is what was to be read, unless memory ran out
-abbrev pub Gives : {X Y : Type 0} → (X → Y) → Result X SqlErr → Option Y → Type 0
-Gives view returned read = Answers (λ x. Some (view x)) told returned read
+abbrev pub Returns : {X Y : Type 0} → (X → Y) → Result X SqlErr → Option Y → Type 0
+Returns view returned read = Answers (λ x. Some (view x)) told returned read

@@ -1,5 +1,6 @@
 -- The signs of the language, and the operators that words and signs are.
-use Rattle.std.specs.Prelude.{ℕ, List, codes, Bool, ◌==◌, Option, None, Some}
+use Rattle.std.specs.Prelude.{ℕ, List, codes, Bool, Option, None, Some}
+use Rattle.std.specs.Str.{bytes_eq}
 use Rattle.sql_tree.specs.declared.tree.Op.{Op}
 use Rattle.sql_tree.specs.declared.tree.Op.TheVariants as op
 use Rattle.desk_values.specs.declared.keyword.Keyword.{Keyword}
@@ -25,27 +26,9 @@ sign_text sign.Greater = codes ">"
 sign_text sign.GreaterOrEqual = codes ">="
 sign_text sign.Semicolon = codes ";"
 
--- the place of each sign in their list
-abbrev pub sign_number : Sign → ℕ
-sign_number sign.Open = 0
-sign_number sign.Close = 1
-sign_number sign.Comma = 2
-sign_number sign.Dot = 3
-sign_number sign.Star = 4
-sign_number sign.Plus = 5
-sign_number sign.Minus = 6
-sign_number sign.Slash = 7
-sign_number sign.Equal = 8
-sign_number sign.NotEqual = 9
-sign_number sign.Less = 10
-sign_number sign.LessOrEqual = 11
-sign_number sign.Greater = 12
-sign_number sign.GreaterOrEqual = 13
-sign_number sign.Semicolon = 14
-
 -- whether they are the same sign
 abbrev pub same_sign : Sign → Sign → Bool
-same_sign a b = sign_number a == sign_number b
+same_sign a b = bytes_eq (sign_text a) (sign_text b)
 
 -- the operator that a word is
 abbrev pub keyword_operator : Keyword → Option Op

@@ -28,7 +28,8 @@ token_text (token.Sign s) = sign_text s
 
 -- these tokens, in parentheses where a tighter part is wanted than they are
 abbrev pub enclosed : Part → Part → List Token → List Token
-enclosed wanted part ts = if nat_lt (looseness wanted) (looseness part) then token.Sign sign.Open ∷ (ts ++ token.Sign sign.Close ∷ []) else ts
+enclosed wanted part ts = if nat_lt (looseness wanted) (looseness part) then token.Sign sign.Open ∷ (ts ++ token.Sign sign.Close ∷ [])
+    else ts
 
 -- the part that an expression is without parentheses
 abbrev pub part_of : Term Name → Part
@@ -49,9 +50,11 @@ bare_tokens (column n) = token.Name n ∷ []
 bare_tokens rowid = token.Word word.Rowid ∷ []
 bare_tokens (neg e) = token.Sign sign.Minus ∷ enclosed Factor (part_of e) (bare_tokens e)
 bare_tokens (not e) = token.Word word.Not ∷ enclosed Negation (part_of e) (bare_tokens e)
-bare_tokens (bin o a b) = enclosed (left_of (line_of o)) (part_of a) (bare_tokens a) ++ operator_token o ∷ enclosed (right_of (line_of o)) (part_of b) (bare_tokens b)
+bare_tokens (bin o a b) = enclosed (left_of (line_of o)) (part_of a) (bare_tokens a)
+    ++ operator_token o ∷ enclosed (right_of (line_of o)) (part_of b) (bare_tokens b)
 bare_tokens (is_null e) = enclosed Sum (part_of e) (bare_tokens e) ++ token.Word word.Is ∷ token.Word word.Null ∷ []
-bare_tokens (not_null e) = enclosed Sum (part_of e) (bare_tokens e) ++ token.Word word.Is ∷ token.Word word.Not ∷ token.Word word.Null ∷ []
+bare_tokens (not_null e) = enclosed Sum (part_of e) (bare_tokens e)
+    ++ token.Word word.Is ∷ token.Word word.Not ∷ token.Word word.Null ∷ []
 
 -- an expression where the grammar wants that part
 abbrev pub expression_tokens : Part → Term Name → List Token
@@ -137,10 +140,13 @@ first_word set_read_only = word.Set
 
 -- the tokens after the first word
 abbrev pub further_tokens : Plan Name → List Token
-further_tokens (select table items condition keys held) = selection_tokens items ++ token.Word word.From ∷ token.Name table ∷ (where_tokens condition ++ (order_tokens keys ++ for_update_tokens held))
-further_tokens (next n) = token.Name n ∷ token.Sign sign.Dot ∷ token.Word word.Nextval ∷ token.Word word.From ∷ token.Word word.Dual ∷ []
+further_tokens (select table items condition keys held) = selection_tokens items
+    ++ token.Word word.From ∷ token.Name table ∷ (where_tokens condition ++ (order_tokens keys ++ for_update_tokens held))
+further_tokens (next n) =
+    token.Name n ∷ token.Sign sign.Dot ∷ token.Word word.Nextval ∷ token.Word word.From ∷ token.Word word.Dual ∷ []
 further_tokens (insert table names inputs) = token.Word word.Into ∷ token.Name table ∷ (columns_tokens names ++ inputs_tokens inputs)
-further_tokens (update table settings condition) = token.Name table ∷ token.Word word.Set ∷ (joined assignment_tokens settings ++ where_tokens condition)
+further_tokens (update table settings condition) =
+    token.Name table ∷ token.Word word.Set ∷ (joined assignment_tokens settings ++ where_tokens condition)
 further_tokens (delete table condition) = token.Word word.From ∷ token.Name table ∷ where_tokens condition
 further_tokens commit = []
 further_tokens rollback = []

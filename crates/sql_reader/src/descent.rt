@@ -4,7 +4,7 @@
 ghost use Rattle.std.specs.Prelude.{◌≡◌, ◌<◌};
 ghost use Rattle.sql_tree.specs.Plain.{term_of};
 ghost use Rattle.sql_reader.specs.Grammar.{looseness, right_of};
-ghost use Rattle.sql_reader.specs.Spelling.{Gives};
+ghost use Rattle.sql_reader.specs.Spelling.{Returns};
 ghost use Rattle.sql_reader.specs.Inside.{Finds};
 ghost use Rattle.sql_reader.specs.Reading.{after_word, after_sign, operator_of, operator_at, chain_at, null_test, primary_in, factor_in, compared_in, comparison_in, negation_in, part_in, inner_at, part_at};
 
@@ -40,14 +40,14 @@ pub fn after_sign(sign: Sign, tokens: &[Token]) -> Option<&[Token]>
 
 /// What comes after the word, which has to be first.
 pub fn expect_word(word: Keyword, tokens: &[Token]) -> Result<&[Token], SqlErr>
-    ensures { Gives (λ rest. rest.now) result (after_word word tokens.now) }
+    ensures { Returns (λ rest. rest.now) result (after_word word tokens.now) }
 {
     after_word(word, tokens).ok_or(SqlErr::Syntax)
 }
 
 /// What comes after the sign, which has to be first.
 pub fn expect_sign(sign: Sign, tokens: &[Token]) -> Result<&[Token], SqlErr>
-    ensures { Gives (λ rest. rest.now) result (after_sign sign tokens.now) }
+    ensures { Returns (λ rest. rest.now) result (after_sign sign tokens.now) }
 {
     after_sign(sign, tokens).ok_or(SqlErr::Syntax)
 }
@@ -75,7 +75,7 @@ fn operator(part: Part, tokens: &[Token]) -> Option<(Op, &[Token])>
 // NULL or NOT NULL after IS.
 #[tactic(auto, unfolding(crate::specs::Reading::null_test))]
 fn null_test(alloc: Global, left: Expr, tokens: &[Token]) -> Result<(Expr, &[Token]), SqlErr>
-    ensures { Gives (λ x. (term_of x.0, x.1.now)) result (null_test (term_of left) tokens.now) }
+    ensures { Returns (λ x. (term_of x.0, x.1.now)) result (null_test (term_of left) tokens.now) }
 {
     if let Some(after) = after_word(Keyword::Not, tokens) {
         let rest = expect_word(Keyword::Null, after)?;
@@ -94,7 +94,7 @@ pub fn part(
     tokens: &[Token],
     depth: u32,
 ) -> Result<(Expr, &[Token]), SqlErr>
-    ensures { Gives (λ x. (term_of x.0, x.1.now)) result (part_at depth wanted tokens.now) }
+    ensures { Returns (λ x. (term_of x.0, x.1.now)) result (part_at depth wanted tokens.now) }
 {
     match wanted {
         Part::Disjunction => chain(alloc, Part::Disjunction, tokens, depth),
@@ -116,7 +116,7 @@ fn nested(
     tokens: &[Token],
     depth: u32,
 ) -> Result<(Expr, &[Token]), SqlErr>
-    ensures { Gives (λ x. (term_of x.0, x.1.now)) result (inner_at depth inner tokens.now) }
+    ensures { Returns (λ x. (term_of x.0, x.1.now)) result (inner_at depth inner tokens.now) }
 {
     if depth == 0 {
         return Err(SqlErr::Syntax);
@@ -133,7 +133,7 @@ fn chain(
     depth: u32,
 ) -> Result<(Expr, &[Token]), SqlErr>
     requires { looseness (right_of line) < looseness line }
-    ensures { Gives (λ x. (term_of x.0, x.1.now)) result (chain_at (part_at depth (right_of line)) line tokens.now) }
+    ensures { Returns (λ x. (term_of x.0, x.1.now)) result (chain_at (part_at depth (right_of line)) line tokens.now) }
 {
     let (first, after) = part(alloc, line.right(), tokens, depth)?;
     let mut left = first;
@@ -152,7 +152,7 @@ fn chain(
 #[cycle(descent)]
 #[tactic(auto, unfolding(crate::specs::Reading::negation_in, crate::specs::Reading::part_at))]
 fn negation(alloc: Global, tokens: &[Token], depth: u32) -> Result<(Expr, &[Token]), SqlErr>
-    ensures { Gives (λ x. (term_of x.0, x.1.now)) result (part_at depth Part.Negation tokens.now) }
+    ensures { Returns (λ x. (term_of x.0, x.1.now)) result (part_at depth Part.Negation tokens.now) }
 {
     if let Some(rest) = after_word(Keyword::Not, tokens) {
         let (of, rest) = nested(alloc, Part::Negation, rest, depth)?;
@@ -164,7 +164,7 @@ fn negation(alloc: Global, tokens: &[Token], depth: u32) -> Result<(Expr, &[Toke
 #[cycle(descent)]
 #[tactic(auto, unfolding(crate::specs::Reading::comparison_in, crate::specs::Reading::compared_in, crate::specs::Reading::part_at))]
 fn comparison(alloc: Global, tokens: &[Token], depth: u32) -> Result<(Expr, &[Token]), SqlErr>
-    ensures { Gives (λ x. (term_of x.0, x.1.now)) result (part_at depth Part.Comparison tokens.now) }
+    ensures { Returns (λ x. (term_of x.0, x.1.now)) result (part_at depth Part.Comparison tokens.now) }
 {
     let (left, rest) = part(alloc, Part::Sum, tokens, depth)?;
     if let Some((op, after_operator)) = operator(Part::Comparison, rest) {
@@ -182,7 +182,7 @@ fn comparison(alloc: Global, tokens: &[Token], depth: u32) -> Result<(Expr, &[To
 #[cycle(descent)]
 #[tactic(auto, unfolding(crate::specs::Reading::factor_in, crate::specs::Reading::part_at))]
 fn factor(alloc: Global, tokens: &[Token], depth: u32) -> Result<(Expr, &[Token]), SqlErr>
-    ensures { Gives (λ x. (term_of x.0, x.1.now)) result (part_at depth Part.Factor tokens.now) }
+    ensures { Returns (λ x. (term_of x.0, x.1.now)) result (part_at depth Part.Factor tokens.now) }
 {
     if let Some(rest) = after_sign(Sign::Minus, tokens) {
         let (of, rest) = nested(alloc, Part::Factor, rest, depth)?;
@@ -194,7 +194,7 @@ fn factor(alloc: Global, tokens: &[Token], depth: u32) -> Result<(Expr, &[Token]
 #[cycle(descent)]
 #[tactic(auto, unfolding(crate::specs::Reading::primary_in, crate::specs::Reading::part_at))]
 fn primary(alloc: Global, tokens: &[Token], depth: u32) -> Result<(Expr, &[Token]), SqlErr>
-    ensures { Gives (λ x. (term_of x.0, x.1.now)) result (part_at depth Part.Primary tokens.now) }
+    ensures { Returns (λ x. (term_of x.0, x.1.now)) result (part_at depth Part.Primary tokens.now) }
 {
     match tokens {
         [Token::Number(number), rest @ ..] => Ok((Expr::Int(*number), rest)),

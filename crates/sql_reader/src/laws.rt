@@ -21,7 +21,8 @@ pub fn one_statement()
 
 /// No tokens that are the statement have fewer parentheses than those that are written.
 pub fn fewest_parentheses()
-    ensures { (statement : Plan Name) (tokens : List Token) → IsStatementOf tokens statement → opened (statement_tokens statement) ≤ opened tokens }
+    ensures { (statement : Plan Name) (tokens : List Token) → IsStatementOf tokens statement
+        → opened (statement_tokens statement) ≤ opened tokens }
 {}
 
 /// A SELECT that is read asks for all columns or for at least one item.

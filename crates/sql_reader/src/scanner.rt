@@ -2,7 +2,7 @@
 
 ghost use Rattle.std.specs.Prelude.{◌≡◌, ◌∷◌, IfOk, MatchOption, false};
 ghost use Rattle.std.specs.List.{prefix_len};
-ghost use Rattle.sql_reader.specs.Spelling.{Gives};
+ghost use Rattle.sql_reader.specs.Spelling.{Returns};
 ghost use Rattle.sql_reader.specs.Lexical.{is_space, is_part, folded};
 ghost use Rattle.desk_values.specs.Reading.{txt_in};
 ghost use Rattle.sql_reader.specs.Reading.{word_at, value_at, number_at, bind_number, bind_at, content_at, string_at, sign_at, run_of, behind_run, token_at, step_at, tokens_at, scanned};
@@ -42,7 +42,7 @@ fn run_len(bytes: &[u8]) -> usize
 
 #[tactic(auto, unfolding(desk_values::specs::Reading::txt_in))]
 fn text_of(alloc: Global, bytes: &[u8]) -> Result<Txt, SqlErr>
-    ensures { Gives (λ text. text) result (txt_in bytes.now) }
+    ensures { Returns (λ text. text) result (txt_in bytes.now) }
 {
     Ok(Txt::from_bytes(alloc, bytes)?)
 }
@@ -57,7 +57,7 @@ fn lower(alloc: Global, run: &[u8]) -> Result<Vec<u8>, AllocError>
 
 #[tactic(auto, unfolding(crate::specs::Reading::word_at))]
 fn word(alloc: Global, run: &[u8]) -> Result<Token, SqlErr>
-    ensures { Gives (λ t. t) result (word_at run.now) }
+    ensures { Returns (λ t. t) result (word_at run.now) }
 {
     let folded = lower(alloc, run)?;
     if let Some(keyword) = find_word::<Keyword>(&folded) {
@@ -71,7 +71,7 @@ fn word(alloc: Global, run: &[u8]) -> Result<Token, SqlErr>
 
 #[tactic(auto, unfolding(crate::specs::Reading::number_at))]
 fn number(run: &[u8]) -> Result<Token, SqlErr>
-    ensures { Gives (λ t. t) result (number_at run.now) }
+    ensures { Returns (λ t. t) result (number_at run.now) }
 {
     let value = value(run).ok_or(SqlErr::Syntax)?;
     Ok(Token::Number(value))
@@ -98,7 +98,7 @@ fn value(run: &[u8]) -> Option<i64>
 
 #[tactic(auto, unfolding(crate::specs::Reading::bind_at))]
 fn bind(run: &[u8]) -> Result<Token, SqlErr>
-    ensures { Gives (λ t. t) result (bind_at run.now) }
+    ensures { Returns (λ t. t) result (bind_at run.now) }
 {
     let number = bind_value(run).ok_or(SqlErr::Syntax)?;
     Ok(Token::Bind(number))
@@ -120,7 +120,7 @@ fn bind_value(run: &[u8]) -> Option<u32>
 
 // The bytes of a string after its first quote, and the rest after the last.
 fn content(alloc: Global, bytes: &[u8]) -> Result<(Vec<u8>, &[u8]), SqlErr>
-    ensures { Gives (λ x. (x.0.items, x.1.now)) result (content_at bytes.now) }
+    ensures { Returns (λ x. (x.0.items, x.1.now)) result (content_at bytes.now) }
 {
     let mut content = Vec::new(alloc);
     let mut rest = bytes;
@@ -147,7 +147,7 @@ fn after_quote(bytes: &[u8]) -> Option<&[u8]>
 
 #[tactic(auto, unfolding(crate::specs::Reading::string_at))]
 fn string(alloc: Global, bytes: &[u8]) -> Result<(Token, &[u8]), SqlErr>
-    ensures { Gives (λ x. (x.0, x.1.now)) result (string_at bytes.now) }
+    ensures { Returns (λ x. (x.0, x.1.now)) result (string_at bytes.now) }
 {
     let (content, rest) = content(alloc, bytes)?;
     Ok((Token::Text(text_of(alloc, &content)?), rest))
@@ -156,7 +156,7 @@ fn string(alloc: Global, bytes: &[u8]) -> Result<(Token, &[u8]), SqlErr>
 // The longest sign.
 #[tactic(auto, unfolding(crate::specs::Reading::sign_at))]
 fn sign(bytes: &[u8]) -> Result<(Token, &[u8]), SqlErr>
-    ensures { Gives (λ x. (x.0, x.1.now)) result (sign_at bytes.now) }
+    ensures { Returns (λ x. (x.0, x.1.now)) result (sign_at bytes.now) }
 {
     if let Some(rest) = bytes.strip_prefix(b"!=") {
         return Ok((Token::Sign(Sign::NotEqual), rest));
@@ -177,7 +177,7 @@ fn token<'a>(
     bytes: &'a [u8],
 ) -> Result<(Token, &'a [u8]), SqlErr>
     requires { bytes.now ≡ first ∷ others.now }
-    ensures { Gives (λ x. (x.0, x.1.now)) result (token_at first others.now) }
+    ensures { Returns (λ x. (x.0, x.1.now)) result (token_at first others.now) }
 {
     if first.is_ascii_alphabetic() {
         let (run, rest) = split_run(bytes);
@@ -200,7 +200,7 @@ fn token<'a>(
 // One space or one token, and the rest.
 #[tactic(auto, unfolding(crate::specs::Reading::step_at))]
 fn step(alloc: Global, bytes: &[u8]) -> Result<(Option<Token>, &[u8]), SqlErr>
-    ensures { Gives (λ x. (x.0, x.1.now)) result (step_at bytes.now) }
+    ensures { Returns (λ x. (x.0, x.1.now)) result (step_at bytes.now) }
 {
     match bytes {
         [] => Ok((None, bytes)),
@@ -215,7 +215,7 @@ fn step(alloc: Global, bytes: &[u8]) -> Result<(Option<Token>, &[u8]), SqlErr>
 /// The tokens that the bytes spell.
 #[tactic(auto, unfolding(crate::specs::Reading::scanned))]
 pub fn scan(alloc: Global, bytes: &[u8]) -> Result<Vec<Token>, SqlErr>
-    ensures { Gives (λ tokens. tokens.items) result (scanned bytes.now) }
+    ensures { Returns (λ tokens. tokens.items) result (scanned bytes.now) }
 {
     let mut tokens = Vec::new(alloc);
     let mut rest = bytes;

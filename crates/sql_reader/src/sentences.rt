@@ -3,9 +3,10 @@
 ghost use Rattle.std.specs.Prelude.{◌≡◌, map, ◌∷◌, [], List, Option};
 ghost use Rattle.sql_reader.specs.declared.token.Token.{Token as OneToken};
 ghost use Rattle.sql_tree.specs.Plain.{Term, Total, Entry, Change, term_of, condition_of, total_of, entry_of, change_of, asked_of, plan_of, Name};
-ghost use Rattle.sql_reader.specs.Spelling.{Gives};
+ghost use Rattle.sql_reader.specs.Spelling.{Returns};
 ghost use Rattle.sql_reader.specs.Inside.{Finds};
 ghost use Rattle.sql_reader.specs.Reading.{expression_at, list_at, name_at, key_at, enclosed_at, counted_at, aggregate_at, draw_at, input_at, setting_at, where_at, order_at, for_update_at, from_at, is_aggregate_word, begins_aggregate, aggregates_at, rows_at, listed_at, dual_at, items_at, select_at, columns_at, inputs_at, insert_at, update_at, delete_at, set_at, body_at, statement_at};
+ghost use Rattle.sql_reader.specs.Limits.{list_limit};
 
 use crate::descent::{after_sign, after_word, expect_sign, expect_word, part};
 use crate::error::SqlErr;
@@ -33,12 +34,12 @@ trait Member: Drop + Sized {
     ghost reading: { List OneToken → Option (Plain × List OneToken) };
 
     fn read(alloc: Global, tokens: &[Token]) -> Result<(Self, &[Token]), SqlErr>
-        ensures { Gives (λ x. (view x.0, x.1.now)) result (reading tokens.now) };
+        ensures { Returns (λ x. (view x.0, x.1.now)) result (reading tokens.now) };
 }
 
 // One to 16 members with commas between them.
 fn list<T: Member>(alloc: Global, tokens: &[Token]) -> Result<(List<T>, &[Token]), SqlErr>
-    ensures { Gives (λ x. (map T.view x.0, x.1.now)) result (list_at T.reading LIST_LIMIT tokens.now) }
+    ensures { Returns (λ x. (map T.view x.0, x.1.now)) result (list_at T.reading list_limit tokens.now) }
 {
     let mut list = List::new(alloc);
     let mut rest = tokens;
@@ -70,7 +71,7 @@ impl Member for Expr {
 
 /// The expression at the front, and the rest.
 pub fn expression(alloc: Global, tokens: &[Token]) -> Result<(Expr, &[Token]), SqlErr>
-    ensures { Gives (λ x. (term_of x.0, x.1.now)) result (expression_at tokens.now) }
+    ensures { Returns (λ x. (term_of x.0, x.1.now)) result (expression_at tokens.now) }
 {
     part(alloc, Part::Disjunction, tokens, NESTING_LIMIT)
 }
@@ -78,7 +79,7 @@ pub fn expression(alloc: Global, tokens: &[Token]) -> Result<(Expr, &[Token]), S
 /// The name at the front, and the rest.
 #[tactic(auto, unfolding(crate::specs::Reading::name_at))]
 pub fn name(tokens: &[Token]) -> Result<(Txt, &[Token]), SqlErr>
-    ensures { Gives (λ x. (x.0, x.1.now)) result (name_at tokens.now) }
+    ensures { Returns (λ x. (x.0, x.1.now)) result (name_at tokens.now) }
 {
     match tokens {
         [Token::Name(name), rest @ ..] => Ok((name.copy()?, rest)),
@@ -103,7 +104,7 @@ impl Member for Txt {
 
 #[tactic(auto, unfolding(crate::specs::Reading::key_at))]
 fn key(tokens: &[Token]) -> Result<(Key, &[Token]), SqlErr>
-    ensures { Gives (λ x. (x.0, x.1.now)) result (key_at tokens.now) }
+    ensures { Returns (λ x. (x.0, x.1.now)) result (key_at tokens.now) }
 {
     let (column, after) = name(tokens)?;
     if let Some(rest) = after_word(Keyword::Desc, after) {
@@ -146,7 +147,7 @@ impl Member for Key {
 // An expression in parentheses.
 #[tactic(auto, unfolding(crate::specs::Reading::enclosed_at))]
 fn enclosed(alloc: Global, tokens: &[Token]) -> Result<(Expr, &[Token]), SqlErr>
-    ensures { Gives (λ x. (term_of x.0, x.1.now)) result (enclosed_at tokens.now) }
+    ensures { Returns (λ x. (term_of x.0, x.1.now)) result (enclosed_at tokens.now) }
 {
     let inside = expect_sign(Sign::Open, tokens)?;
     let (expr, after) = expression(alloc, inside)?;
@@ -156,7 +157,7 @@ fn enclosed(alloc: Global, tokens: &[Token]) -> Result<(Expr, &[Token]), SqlErr>
 // A star in parentheses.
 #[tactic(auto, unfolding(crate::specs::Reading::counted_at))]
 fn counted(tokens: &[Token]) -> Result<&[Token], SqlErr>
-    ensures { Gives (λ rest. rest.now) result (counted_at tokens.now) }
+    ensures { Returns (λ rest. rest.now) result (counted_at tokens.now) }
 {
     let inside = expect_sign(Sign::Open, tokens)?;
     let after = expect_sign(Sign::Star, inside)?;
@@ -165,7 +166,7 @@ fn counted(tokens: &[Token]) -> Result<&[Token], SqlErr>
 
 #[tactic(auto, unfolding(crate::specs::Reading::aggregate_at))]
 fn aggregate(alloc: Global, tokens: &[Token]) -> Result<(Agg, &[Token]), SqlErr>
-    ensures { Gives (λ x. (total_of x.0, x.1.now)) result (aggregate_at tokens.now) }
+    ensures { Returns (λ x. (total_of x.0, x.1.now)) result (aggregate_at tokens.now) }
 {
     let [Token::Word(word), rest @ ..] = tokens else {
         return Err(SqlErr::Syntax);
@@ -226,7 +227,7 @@ fn first_name(tokens: &[Token]) -> Option<(&Txt, &[Token])>
 
 #[tactic(auto, unfolding(crate::specs::Reading::input_at))]
 fn input(alloc: Global, tokens: &[Token]) -> Result<(Input, &[Token]), SqlErr>
-    ensures { Gives (λ x. (entry_of x.0, x.1.now)) result (input_at tokens.now) }
+    ensures { Returns (λ x. (entry_of x.0, x.1.now)) result (input_at tokens.now) }
 {
     if let Some((sequence, rest)) = draw(tokens) {
         return Ok((Input::Next(sequence.copy()?), rest));
@@ -252,7 +253,7 @@ impl Member for Input {
 
 #[tactic(auto, unfolding(crate::specs::Reading::setting_at))]
 fn setting(alloc: Global, tokens: &[Token]) -> Result<(Setting, &[Token]), SqlErr>
-    ensures { Gives (λ x. (change_of x.0, x.1.now)) result (setting_at tokens.now) }
+    ensures { Returns (λ x. (change_of x.0, x.1.now)) result (setting_at tokens.now) }
 {
     let (column, after) = name(tokens)?;
     let after_equal = expect_sign(Sign::Equal, after)?;
@@ -277,7 +278,7 @@ impl Member for Setting {
 
 #[tactic(auto, unfolding(crate::specs::Reading::where_at))]
 fn condition(alloc: Global, tokens: &[Token]) -> Result<(Option<Expr>, &[Token]), SqlErr>
-    ensures { Gives (λ x. (condition_of x.0, x.1.now)) result (where_at tokens.now) }
+    ensures { Returns (λ x. (condition_of x.0, x.1.now)) result (where_at tokens.now) }
 {
     let Some(after) = after_word(Keyword::Where, tokens) else {
         return Ok((None, tokens));
@@ -288,7 +289,7 @@ fn condition(alloc: Global, tokens: &[Token]) -> Result<(Option<Expr>, &[Token])
 
 #[tactic(auto, unfolding(crate::specs::Reading::order_at))]
 fn order(alloc: Global, tokens: &[Token]) -> Result<(Keys, &[Token]), SqlErr>
-    ensures { Gives (λ x. (x.0, x.1.now)) result (order_at tokens.now) }
+    ensures { Returns (λ x. (x.0, x.1.now)) result (order_at tokens.now) }
 {
     let Some(after) = after_word(Keyword::Order, tokens) else {
         return Ok((List::new(alloc), tokens));
@@ -298,7 +299,7 @@ fn order(alloc: Global, tokens: &[Token]) -> Result<(Keys, &[Token]), SqlErr>
 
 #[tactic(auto, unfolding(crate::specs::Reading::for_update_at))]
 fn for_update(tokens: &[Token]) -> Result<(bool, &[Token]), SqlErr>
-    ensures { Gives (λ x. (x.0, x.1.now)) result (for_update_at tokens.now) }
+    ensures { Returns (λ x. (x.0, x.1.now)) result (for_update_at tokens.now) }
 {
     match after_word(Keyword::For, tokens) {
         Some(after) => Ok((true, expect_word(Keyword::Update, after)?)),
@@ -309,7 +310,7 @@ fn for_update(tokens: &[Token]) -> Result<(bool, &[Token]), SqlErr>
 // FROM and the table.
 #[tactic(auto, unfolding(crate::specs::Reading::from_at))]
 fn from(tokens: &[Token]) -> Result<(Txt, &[Token]), SqlErr>
-    ensures { Gives (λ x. (x.0, x.1.now)) result (from_at tokens.now) }
+    ensures { Returns (λ x. (x.0, x.1.now)) result (from_at tokens.now) }
 {
     name(expect_word(Keyword::From, tokens)?)
 }
@@ -334,7 +335,7 @@ fn aggregate_word(word: Keyword) -> bool
 
 #[tactic(auto, unfolding(crate::specs::Reading::aggregates_at))]
 fn select_aggregates(alloc: Global, tokens: &[Token]) -> Result<(Statement, &[Token]), SqlErr>
-    ensures { Gives (λ x. (plan_of x.0, x.1.now)) result (aggregates_at tokens.now) }
+    ensures { Returns (λ x. (plan_of x.0, x.1.now)) result (aggregates_at tokens.now) }
 {
     let (aggs, after) = list(alloc, tokens)?;
     let (table, after) = from(after)?;
@@ -353,7 +354,7 @@ fn select_rows(
     items: Items,
     tokens: &[Token],
 ) -> Result<(Statement, &[Token]), SqlErr>
-    ensures { Gives (λ x. (plan_of x.0, x.1.now)) result (rows_at (asked_of items) tokens.now) }
+    ensures { Returns (λ x. (plan_of x.0, x.1.now)) result (rows_at (asked_of items) tokens.now) }
 {
     let (table, after) = from(tokens)?;
     let (condition, after) = condition(alloc, after)?;
@@ -363,7 +364,7 @@ fn select_rows(
 }
 
 fn select_listed(alloc: Global, tokens: &[Token]) -> Result<(Statement, &[Token]), SqlErr>
-    ensures { Gives (λ x. (plan_of x.0, x.1.now)) result (listed_at tokens.now) }
+    ensures { Returns (λ x. (plan_of x.0, x.1.now)) result (listed_at tokens.now) }
 {
     let (exprs, after) = list(alloc, tokens)?;
     select_rows(alloc, Items::Exprs(exprs), after)
@@ -371,13 +372,13 @@ fn select_listed(alloc: Global, tokens: &[Token]) -> Result<(Statement, &[Token]
 
 #[tactic(auto, unfolding(crate::specs::Reading::dual_at))]
 fn dual(tokens: &[Token]) -> Result<&[Token], SqlErr>
-    ensures { Gives (λ rest. rest.now) result (dual_at tokens.now) }
+    ensures { Returns (λ rest. rest.now) result (dual_at tokens.now) }
 {
     expect_word(Keyword::Dual, expect_word(Keyword::From, tokens)?)
 }
 
 fn select_items(alloc: Global, tokens: &[Token]) -> Result<(Statement, &[Token]), SqlErr>
-    ensures { Gives (λ x. (plan_of x.0, x.1.now)) result (items_at tokens.now) }
+    ensures { Returns (λ x. (plan_of x.0, x.1.now)) result (items_at tokens.now) }
 {
     if let Some(after) = after_sign(Sign::Star, tokens) {
         return select_rows(alloc, Items::All, after);
@@ -391,7 +392,7 @@ fn select_items(alloc: Global, tokens: &[Token]) -> Result<(Statement, &[Token])
 
 #[tactic(auto, unfolding(crate::specs::Reading::select_at))]
 fn select(alloc: Global, tokens: &[Token]) -> Result<(Statement, &[Token]), SqlErr>
-    ensures { Gives (λ x. (plan_of x.0, x.1.now)) result (select_at tokens.now) }
+    ensures { Returns (λ x. (plan_of x.0, x.1.now)) result (select_at tokens.now) }
 {
     if let Some((sequence, after)) = draw(tokens) {
         let rest = dual(after)?;
@@ -402,7 +403,7 @@ fn select(alloc: Global, tokens: &[Token]) -> Result<(Statement, &[Token]), SqlE
 
 #[tactic(auto, unfolding(crate::specs::Reading::columns_at))]
 fn columns(alloc: Global, tokens: &[Token]) -> Result<(Option<Names>, &[Token]), SqlErr>
-    ensures { Gives (λ x. (x.0, x.1.now)) result (columns_at tokens.now) }
+    ensures { Returns (λ x. (x.0, x.1.now)) result (columns_at tokens.now) }
 {
     let Some(inside) = after_sign(Sign::Open, tokens) else {
         return Ok((None, tokens));
@@ -413,7 +414,7 @@ fn columns(alloc: Global, tokens: &[Token]) -> Result<(Option<Names>, &[Token]),
 
 #[tactic(auto, unfolding(crate::specs::Reading::inputs_at))]
 fn inputs(alloc: Global, tokens: &[Token]) -> Result<(Inputs, &[Token]), SqlErr>
-    ensures { Gives (λ x. (map entry_of x.0, x.1.now)) result (inputs_at tokens.now) }
+    ensures { Returns (λ x. (map entry_of x.0, x.1.now)) result (inputs_at tokens.now) }
 {
     let after = expect_word(Keyword::Values, tokens)?;
     let inside = expect_sign(Sign::Open, after)?;
@@ -423,7 +424,7 @@ fn inputs(alloc: Global, tokens: &[Token]) -> Result<(Inputs, &[Token]), SqlErr>
 
 #[tactic(auto, unfolding(crate::specs::Reading::insert_at))]
 fn insert(alloc: Global, tokens: &[Token]) -> Result<(Statement, &[Token]), SqlErr>
-    ensures { Gives (λ x. (plan_of x.0, x.1.now)) result (insert_at tokens.now) }
+    ensures { Returns (λ x. (plan_of x.0, x.1.now)) result (insert_at tokens.now) }
 {
     let after = expect_word(Keyword::Into, tokens)?;
     let (table, after) = name(after)?;
@@ -434,7 +435,7 @@ fn insert(alloc: Global, tokens: &[Token]) -> Result<(Statement, &[Token]), SqlE
 
 #[tactic(auto, unfolding(crate::specs::Reading::update_at))]
 fn update(alloc: Global, tokens: &[Token]) -> Result<(Statement, &[Token]), SqlErr>
-    ensures { Gives (λ x. (plan_of x.0, x.1.now)) result (update_at tokens.now) }
+    ensures { Returns (λ x. (plan_of x.0, x.1.now)) result (update_at tokens.now) }
 {
     let (table, after) = name(tokens)?;
     let after = expect_word(Keyword::Set, after)?;
@@ -445,7 +446,7 @@ fn update(alloc: Global, tokens: &[Token]) -> Result<(Statement, &[Token]), SqlE
 
 #[tactic(auto, unfolding(crate::specs::Reading::delete_at))]
 fn delete(alloc: Global, tokens: &[Token]) -> Result<(Statement, &[Token]), SqlErr>
-    ensures { Gives (λ x. (plan_of x.0, x.1.now)) result (delete_at tokens.now) }
+    ensures { Returns (λ x. (plan_of x.0, x.1.now)) result (delete_at tokens.now) }
 {
     let (table, after) = from(tokens)?;
     let (condition, rest) = condition(alloc, after)?;
@@ -454,7 +455,7 @@ fn delete(alloc: Global, tokens: &[Token]) -> Result<(Statement, &[Token]), SqlE
 
 #[tactic(auto, unfolding(crate::specs::Reading::set_at))]
 fn set_transaction(tokens: &[Token]) -> Result<(Statement, &[Token]), SqlErr>
-    ensures { Gives (λ x. (plan_of x.0, x.1.now)) result (set_at tokens.now) }
+    ensures { Returns (λ x. (plan_of x.0, x.1.now)) result (set_at tokens.now) }
 {
     let after = expect_word(Keyword::Transaction, tokens)?;
     let after = expect_word(Keyword::Read, after)?;
@@ -463,7 +464,7 @@ fn set_transaction(tokens: &[Token]) -> Result<(Statement, &[Token]), SqlErr>
 
 #[tactic(auto, unfolding(crate::specs::Reading::body_at))]
 fn body(alloc: Global, tokens: &[Token]) -> Result<(Statement, &[Token]), SqlErr>
-    ensures { Gives (λ x. (plan_of x.0, x.1.now)) result (body_at tokens.now) }
+    ensures { Returns (λ x. (plan_of x.0, x.1.now)) result (body_at tokens.now) }
 {
     let [Token::Word(word), rest @ ..] = tokens else {
         return Err(SqlErr::Syntax);
@@ -483,7 +484,7 @@ fn body(alloc: Global, tokens: &[Token]) -> Result<(Statement, &[Token]), SqlErr
 /// The statement that the tokens are.
 #[tactic(auto, unfolding(crate::specs::Reading::statement_at))]
 pub fn statement(alloc: Global, tokens: &[Token]) -> Result<Statement, SqlErr>
-    ensures { Gives plan_of result (statement_at tokens.now) }
+    ensures { Returns plan_of result (statement_at tokens.now) }
 {
     let (statement, after) = body(alloc, tokens)?;
     let rest = match after_sign(Sign::Semicolon, after) {

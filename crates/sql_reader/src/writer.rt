@@ -444,7 +444,9 @@ fn select(
     keys: &Keys,
     held: bool,
 ) -> Result<(), Memory>
-    ensures { OnOk result (out.new ≡ out.old ++ spaced_all (further_tokens (select table.now (asked_of items.now) (condition_of filter.now) keys.now held))) }
+    ensures { OnOk result
+        (out.new ≡ out.old
+        ++ spaced_all (further_tokens (select table.now (asked_of items.now) (condition_of filter.now) keys.now held))) }
 {
     selection(out, items)?;
     from(out, table)?;

@@ -14,7 +14,6 @@ ghost use Rattle.machine_model.specs.Sound.{AreStanding};
 
 use desk_schema::Start;
 use desk_values::{Call, Images, Memory, Reply, Value};
-pub use machine_model::STEP_LIMIT;
 use machine_model::{Copies, PlainMachine};
 use std::alloc::Global;
 use std::marker::Model;

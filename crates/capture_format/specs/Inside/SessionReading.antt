@@ -10,7 +10,7 @@ use Rattle.capture_format.specs.ReplyReading.{reply_of}
 use Rattle.capture_format.specs.declared.session_line.CallLine.{CallLine}
 use Rattle.capture_format.specs.declared.session_line.Exchange.{Exchange}
 use Rattle.capture_format.specs.declared.session_line.SessionLine.{SessionLine}
-use Rattle.desk_values.specs.declared.limits.TheConstants.{LAST_MOMENT}
+use Rattle.desk_values.specs.Limits.{last_moment}
 use Rattle.capture_format.specs.declared.session_line.SessionLine.TheVariants.{Head, Call, End}
 
 -- a number up to this one, and what stands behind the space after it
@@ -58,12 +58,20 @@ exchange_of bytes = do
 unfoldable pub call_line_of : List ℕ → Option CallLine
 call_line_of bytes = do
   stamp ← number_at 4294967295 bytes
-  began ← number_at LAST_MOMENT stamp.1
-  ended ← number_at LAST_MOMENT began.1
+  began ← number_at last_moment stamp.1
+  ended ← number_at last_moment began.1
   seen ← number_at 18446744073709551615 ended.1
   number ← commit_number_at seen.1
   exchange ← exchange_of number.1
-  Some (record { stamp = stamp.0; began = began.0; ended = ended.0; seen = seen.0; number = number.0; call = exchange.call; reply = exchange.reply })
+  Some (record {
+    stamp = stamp.0;
+    began = began.0;
+    ended = ended.0;
+    seen = seen.0;
+    number = number.0;
+    call = exchange.call;
+    reply = exchange.reply;
+  })
 
 -- the session's number behind `session 1 `
 unfoldable pub head_of : List ℕ → Option ℕ

@@ -24,7 +24,8 @@ nulls_of bytes = if bytes_eq bytes (codes "notnull") then Some true else (if byt
 
 -- what a column holds, of this kind, and whether it is not null
 unfoldable pub shape_behind : List ℕ → List ℕ → Option (ColumnKind × Bool)
-shape_behind word rest = if bytes_eq word (codes "int") then option_map (λ p. (kind.Int p.0 p.1.0, p.1.1)) (two_of 32 integer_of (two_of 32 integer_of nulls_of) rest)
+shape_behind word rest = if bytes_eq word (codes "int")
+    then option_map (λ p. (kind.Int p.0 p.1.0, p.1.1)) (two_of 32 integer_of (two_of 32 integer_of nulls_of) rest)
     else (if bytes_eq word (codes "text") then option_map (λ p. (kind.Text p.0, p.1)) (two_of 32 (number_below (2 ^ 32)) nulls_of rest)
     else (if bytes_eq word (codes "seq") then option_map (λ p. (kind.Seq p.0, p.1)) (two_of 32 as_name nulls_of rest)
     else None))
@@ -41,7 +42,8 @@ line_behind word rest = if bytes_eq word (codes "level") then option_map line.Le
     else (if bytes_eq word (codes "svc") then option_map (λ p. line.Service p.0 p.1) (two_of 32 as_name rights_of rest)
     else (if bytes_eq word (codes "table") then option_map line.Table (as_name rest)
     else (if bytes_eq word (codes "col") then option_map (λ p. line.Column p.0 p.1.0 p.1.1) (two_of 32 as_name shape_of rest)
-    else (if bytes_eq word (codes "row") then option_map (λ p. line.Row p.0 p.1.0 p.1.1) (two_of 32 number_of (two_of 32 (number_below (2 ^ 32)) values_of) rest)
+    else (if bytes_eq word (codes "row")
+    then option_map (λ p. line.Row p.0 p.1.0 p.1.1) (two_of 32 number_of (two_of 32 (number_below (2 ^ 32)) values_of) rest)
     else (if bytes_eq word (codes "nextrow") then option_map line.NextRow (number_of rest)
     else (if bytes_eq word (codes "sessions") then option_map line.Sessions (number_below (2 ^ 32) rest)
     else None)))))))

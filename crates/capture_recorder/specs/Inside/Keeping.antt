@@ -3,10 +3,10 @@ use Rattle.std.specs.Prelude.{◌≡◌, ℕ, ◌<◌, List, length, slice_index
 use Rattle.desk_values.specs.declared.capture.Captured.{Captured}
 use Rattle.replay_history.specs.Capture.{commits_before, session_calls_before}
 use Rattle.machine_model.specs.Machine.{Running}
-use Rattle.capture_laws.specs.Moments.{ended_in}
+use Rattle.captured_calls.specs.Moments.{ended_in}
 use Rattle.capture_recorder.specs.declared.progress.Progress.{Progress}
 use Rattle.capture_recorder.specs.Recording.{Recording, IsRecording}
-use Rattle.desk_values.specs.declared.limits.TheConstants.{SESSION_LIMIT}
+use Rattle.desk_values.specs.Limits.{session_limit}
 
 -- how far a session has come: the number of its calls, and when the last one ended
 abbrev pub progress_of : List Captured → ℕ → Progress
@@ -18,5 +18,6 @@ pub record Keeps (r : Recording) (engine : Running) (numbered : ℕ) (sessions :
   pub state : engine.state ≡ r.state
   pub steps : engine.steps ≡ length r.calls
   pub numbered_is : numbered ≡ commits_before r.calls (length r.calls)
-  pub count : length sessions ≡ SESSION_LIMIT
-  pub progress : (session : ℕ) (other : Progress) → session < SESSION_LIMIT → slice_index_or sessions session other ≡ progress_of r.calls session
+  pub count : length sessions ≡ session_limit
+  pub progress : (session : ℕ) (other : Progress) → session < session_limit
+      → slice_index_or sessions session other ≡ progress_of r.calls session

@@ -17,11 +17,13 @@ pub record IsNextFrom (facts : List Fact) (session from next : ℕ) : Type 0 whe
 
 -- behind each call from a stamp on stands the next one of its session
 abbrev pub AreNexts : List Fact → List ℕ → ℕ → Type 0
-AreNexts facts nexts from = (k : ℕ) → from ≤ k → k < length facts → IsNextFrom facts (fact_at facts k).session (k + 1) (slice_index nexts k)
+AreNexts facts nexts from = (k : ℕ) → from ≤ k → k < length facts
+    → IsNextFrom facts (fact_at facts k).session (k + 1) (slice_index nexts k)
 
 -- of each session that has a call from a stamp on the first of these
 abbrev pub AreFirstHeads : List Fact → (ℕ → Option ℕ) → ℕ → Type 0
-AreFirstHeads facts head from = (session : ℕ) → MatchOption (head session) (NoneBetween facts session from (length facts)) (IsNextFrom facts session from)
+AreFirstHeads facts head from = (session : ℕ)
+    → MatchOption (head session) (NoneBetween facts session from (length facts)) (IsNextFrom facts session from)
 
 -- the first call of the session that is not answered, or the number of all calls
 pub record IsHead (facts : List Fact) (answered : List Bool) (session at : ℕ) : Type 0 where
@@ -32,4 +34,5 @@ pub record IsHead (facts : List Fact) (answered : List Bool) (session at : ℕ) 
 
 -- of each session that has a call
 abbrev pub AreHeads : List Fact → List Bool → (ℕ → Option ℕ) → Type 0
-AreHeads facts answered head = (session : ℕ) → MatchOption (head session) (NoneBetween facts session 0 (length facts)) (IsHead facts answered session)
+AreHeads facts answered head = (session : ℕ)
+    → MatchOption (head session) (NoneBetween facts session 0 (length facts)) (IsHead facts answered session)

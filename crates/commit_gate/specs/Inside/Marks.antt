@@ -6,10 +6,10 @@ use Rattle.commit_gate.specs.declared.mark.Watch.{Watch}
 use Rattle.commit_gate.specs.declared.mark.Watch.TheVariants.{Table}
 use Rattle.commit_gate.specs.declared.mark.Mark.{Mark}
 use Rattle.commit_gate.specs.Gates.{is_in, watches}
-use Rattle.desk_values.specs.declared.value.TheConstants.{TABLE_LIMIT}
+use Rattle.desk_values.specs.Limits.{table_limit}
 
 abbrev pub IsWatch : Watch → Type 0
-IsWatch (Table table) = table < TABLE_LIMIT
+IsWatch (Table table) = table < table_limit
 IsWatch other = Unit {0}
 
 -- each watched call below `at` is answered, and there are `count` of them
@@ -36,4 +36,4 @@ AreTableMarks facts answered marks n = (table : ℕ) → table < n → IsMark (T
 
 -- the marks of all tables in a set have come to a call
 abbrev pub AreTablesPassed : List Mark → ℕ → ℕ → Type 0
-AreTablesPassed marks refs k = (table : ℕ) → table < TABLE_LIMIT → has_table refs table ≡ true → k ≤ (mark_at marks table).at
+AreTablesPassed marks refs k = (table : ℕ) → table < table_limit → has_table refs table ≡ true → k ≤ (mark_at marks table).at

@@ -1,8 +1,8 @@
 -- What holds of every state on the way to a start that keeps the rules.
 use Rattle.std.specs.Prelude.{ℕ, ◌≡◌, ◌<◌, ◌≤◌, List, [], ◌∷◌, length}
 use Rattle.std.specs.List.{AllByRecursion}
-use Rattle.desk_values.specs.declared.limits.TheConstants.{SESSION_LIMIT}
-use Rattle.desk_schema.specs.declared.draft.TheConstants.{LEVEL}
+use Rattle.desk_values.specs.Limits.{session_limit}
+use Rattle.desk_schema.specs.Limits.{only_level}
 use Rattle.desk_schema.specs.declared.schema.Table.{Table}
 use Rattle.desk_schema.specs.Start.{StartView}
 use Rattle.desk_schema.specs.State.{State}
@@ -16,7 +16,7 @@ HaveColumnsButLast (table ∷ next ∷ tables) = (1 ≤ length table.columns) ×
 
 -- what has its turn later than the last line is not there yet
 pub record IsInOrder (last : ℕ) (start : StartView) : Type 0 where
-  pub level : 2 ≤ last → start.schema.level ≡ LEVEL
+  pub level : 2 ≤ last → start.schema.level ≡ only_level
   pub no_sequences : last ≤ 2 → start.schema.sequences ≡ []
   pub no_services : last ≤ 3 → start.schema.services ≡ []
   pub no_tables : last ≤ 4 → start.schema.tables ≡ []
@@ -31,4 +31,4 @@ pub record IsSoundState (state : State) : Type 0 where
   pub order : IsInOrder state.last state.start
   pub sound : IsSound state.start
   pub next_row : 8 ≤ state.last → IsSoundNextRow state.start
-  pub sessions : state.sessions ≤ SESSION_LIMIT
+  pub sessions : state.sessions ≤ session_limit

@@ -22,11 +22,14 @@ use Rattle.machine_model.specs.Answer.{Answer, executed}
 
 -- the view of what is looked at
 abbrev pub view_of_seen : Seen → View
-view_of_seen seen = with_table (plain_view seen.session.now) (seen.others.before.now ++ seen.others.after.now) seen.table (looked_at seen.rows.now)
+view_of_seen seen =
+    with_table (plain_view seen.session.now) (seen.others.before.now ++ seen.others.after.now) seen.table (looked_at seen.rows.now)
 
 -- the view of what an INSERT can depend on
 abbrev pub view_of_basis : Basis → View
-view_of_basis basis = with_table (plain_view basis.session.now) (basis.others.before.now ++ basis.others.after.now) basis.table (rows_seen basis.start.now basis.commits.now basis.session.now basis.table)
+view_of_basis basis = with_table (plain_view basis.session.now)
+    (basis.others.before.now ++ basis.others.after.now) basis.table
+    (rows_seen basis.start.now basis.commits.now basis.session.now basis.table)
 
 -- ---- what a deed leaves of a session
 
@@ -55,11 +58,16 @@ own_left view (Writes table writing) = holding table view.own writing
 
 -- the answer that a reply and a deed come to
 abbrev pub done_so : View → Reply → Deed → Answer
-done_so view reply deed = record { reply = reply; rights = rights_left view deed; reads_only = reads_only_left view deed; own = own_left view deed }
+done_so view reply deed =
+    record { reply = reply; rights = rights_left view deed; reads_only = reads_only_left view deed; own = own_left view deed }
 
 -- the session afterwards, where there were so many commits before
 abbrev pub session_left : Session → ℕ → Deed → Session
-session_left session commits deed = record { rights = rights_left (plain_view session) deed; snapshot = snapshot_after (reads_only_left (plain_view session) deed) session.snapshot commits; own = own_left (plain_view session) deed }
+session_left session commits deed = record {
+  rights = rights_left (plain_view session) deed;
+  snapshot = snapshot_after (reads_only_left (plain_view session) deed) session.snapshot commits;
+  own = own_left (plain_view session) deed;
+}
 
 -- what a deed commits
 abbrev pub committed_by : View → Deed → List Image
@@ -75,4 +83,6 @@ pub record Decides (view : View) (answer : Answer) (decision : Decision) : Type 
 abbrev pub Executes : State → ℕ → List Value → Plan ℕ → Decision → Type 0
 Executes state session binds plan decision =
     let view = view_for state session (statement plan binds) in
-    Decides view (executed state.start.schema view state.next_values state.next_row (record { level = state.start.schema.level; binds = binds }) plan) decision
+    Decides view
+    (executed state.start.schema view state.next_values state.next_row
+    (record { level = state.start.schema.level; binds = binds }) plan) decision

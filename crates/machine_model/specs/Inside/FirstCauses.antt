@@ -19,7 +19,9 @@ first_causes faults too_many = record no_cause { divides = faults.divides; overf
 
 -- what is found first of an UPDATE, where it finds these rows
 abbrev pub update_first : Environment → View → List (Change ℕ) → Option (Term ℕ) → List Image → Causes
-update_first env view changes condition found = first_causes (joined (where_faults env condition view.rows) (row_faults env (sources changes) found)) (too_many_rows view.own.changes found)
+update_first env view changes condition found = first_causes
+    (joined (where_faults env condition view.rows) (row_faults env (sources changes) found))
+    (too_many_rows view.own.changes found)
 
 -- others hold one of these rows, or a key that one of them moves to
 abbrev pub meets_hold : List Session → Environment → View → List (Change ℕ) → List Image → Bool

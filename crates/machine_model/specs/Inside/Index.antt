@@ -44,7 +44,8 @@ is_others row print rows (Some other) = not (nat_eq other row) && has_print prin
 
 -- each of the rows is found by its key, but those that these changes have an image of
 abbrev pub FindsRows : (ℕ → Option ℕ) → List Image → List Image → Type 0
-FindsRows under rows changes = (image : Image) → row_at image.row rows ≡ Some image → is_among changes image ≡ false → under (print_of (row_key image)) ≡ Some image.row
+FindsRows under rows changes = (image : Image) → row_at image.row rows ≡ Some image
+    → is_among changes image ≡ false → under (print_of (row_key image)) ≡ Some image.row
 
 -- the row that an index has under a print
 abbrev pub row_under : KeyIndex → ℕ → Option ℕ
@@ -56,7 +57,9 @@ HasRows index rows changes = index.is_kept ≡ true → FindsRows (row_under ind
 
 -- the same of tables, which are numbered from 0
 abbrev pub AreIndexes : List KeyIndex → List (List Image) → List Image → Type 0
-AreIndexes indexes tables changes = (table : ℕ) (i : KeyIndex) (r : List Image) → table < length indexes → table < length tables → HasRows (slice_index_or indexes table i) (slice_index_or tables table r) (of_table table changes)
+AreIndexes indexes tables changes = (table : ℕ) (i : KeyIndex) (r : List Image) → table < length indexes
+    → table < length tables
+    → HasRows (slice_index_or indexes table i) (slice_index_or tables table r) (of_table table changes)
 
 -- the rows that stay under changes
 abbrev pub staying : List Image → List Image → List Image

@@ -19,7 +19,8 @@ id_number other = 0
 
 -- the order of a column, and that of ids, which a column does not have
 abbrev pub order_of_keys : ℕ → Value → Value → Ordering
-order_of_keys level a b = ordering_then (column_order level a b) (ordering_then (nat_cmp (id_sequence a) (id_sequence b)) (nat_cmp (id_number a) (id_number b)))
+order_of_keys level a b =
+    ordering_then (column_order level a b) (ordering_then (nat_cmp (id_sequence a) (id_sequence b)) (nat_cmp (id_number a) (id_number b)))
 
 -- each comes before the next
 abbrev pub keys_rise : ℕ → List Value → Bool

@@ -37,4 +37,5 @@ HaveRoom more stocks = (k : ℕ) (d : Stock) → k < length stocks → more ≤ 
 -- these are the rows of the tables from this one on, after all commits
 abbrev pub AreLatest : List Image → List (List Image) → ℕ → List (List Image) → Type 0
 AreLatest start commits table [] = Unit {0}
-AreLatest start commits table (rows ∷ others) = (rows ≡ lay_all (of_table table start) (map (of_table table) commits)) × AreLatest start commits (table + 1) others
+AreLatest start commits table (rows ∷ others) = (rows ≡ lay_all (of_table table start) (map (of_table table) commits))
+    × AreLatest start commits (table + 1) others

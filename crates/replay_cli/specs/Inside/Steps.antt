@@ -1,10 +1,11 @@
 -- What one step of a command answers, and what it leaves.
-use Rattle.std.specs.Prelude.{◌≡◌, ℕ, ◌≤◌, Option, Result, Ok, Err, ⊤}
+use Rattle.std.specs.Prelude.{◌≡◌, ℕ, ◌<◌, ◌≤◌, List, length, slice_index_or, Option, Result, Ok, Err, ⊤}
 use Rattle.desk_files.specs.Outside.{FileMap, HasRisen, Told}
 use Rattle.replay_cli.specs.declared.failure.Refusal.{Refusal}
 use Rattle.replay_cli.specs.declared.failure.Failure.{Failure}
 use Rattle.replay_cli.specs.declared.failure.Failure.TheVariants.{BadCommand, Refused, DeviceFault, OutOfMemory}
-use Rattle.replay_cli.specs.declared.failure.Refusal.TheVariants.{BadRemap}
+use Rattle.replay_cli.specs.declared.failure.Refusal.TheVariants.{Missing, TooLong, BadLine}
+use Rattle.replay_cli.specs.Decision.{IsBadOfSome}
 
 -- the failure is this step's; a fault and want of memory say nothing of it
 abbrev pub Stops : {X : Type 0} → (Result X Refusal → Type 0) → Failure → Type 0
@@ -48,7 +49,19 @@ pub record Step {X : Type 0} (want : FileMap → Result X Refusal → Type 0) (b
   pub content : after ≡ before
   pub faults : Faults result faults_before faults_after
 
--- the failure tells of no remap file
-abbrev pub IsOfCapture : Failure → Type 0
-IsOfCapture (Refused (BadRemap n)) = ⊥
-IsOfCapture other = Unit {0}
+-- the file of this name is not there or too long
+abbrev pub IsUntaken : List ℕ → Refusal → Type 0
+IsUntaken name (Missing other) = other ≡ name
+IsUntaken name (TooLong other) = other ≡ name
+IsUntaken name other = ⊥
+
+-- the name is one of these
+abbrev pub IsAmong : List (List ℕ) → List ℕ → Type 0
+IsAmong names name = (place : ℕ) × (place < length names) × (name ≡ slice_index_or names place name)
+
+-- one of the files of these names is not there or too long, or has a first bad line as the file of a session
+abbrev pub RefusesOne : List (List ℕ) → Refusal → Type 0
+RefusesOne names (Missing name) = IsAmong names name
+RefusesOne names (TooLong name) = IsAmong names name
+RefusesOne names (BadLine name line) = IsAmong names name × IsBadOfSome line
+RefusesOne names other = ⊥

@@ -7,12 +7,10 @@ use Rattle.replay_cli.specs.declared.capture.Legal.{Legal as Loaded}
 use Rattle.replay_cli.specs.declared.capture.Read.{Read as ReadFiles}
 use Rattle.replay_cli.specs.declared.work.Work.{Work}
 use Rattle.replay_cli.specs.declared.work.Work.TheVariants.{Replaying, Telling, Making, Trying}
-use Rattle.replay_cli.specs.declared.words.Command.{Command}
-use Rattle.replay_cli.specs.declared.words.Command.TheVariants.{Run, Prepare, Generate, Trial}
-use Rattle.replay_cli.specs.Inside.Limits.{IsCallCount}
+use Rattle.replay_cli.specs.Inside.Limits.{IsCallCount, IsLaneCount}
 use Rattle.replay_cli.specs.Decision.{Legal, Read, Task, ToReplay, ToTell, ToMake, ToTry}
-use Rattle.replay_cli.specs.declared.words.TheConstants.{PATH_LIMIT}
-use Rattle.replay_history.specs.declared.limits.TheConstants.{CALL_LIMIT}
+use Rattle.replay_cli.specs.Limits.{path_limit}
+use Rattle.replay_history.specs.Limits.{call_limit}
 
 -- the files of a capture as contracts see them
 abbrev pub read_of : ReadFiles → Read
@@ -24,22 +22,14 @@ legal_of loaded = record { start = loaded.start; calls = loaded.calls.items; fac
 
 -- what the work is of which the code holds this
 abbrev pub task_of : Work → Task
-task_of (Replaying out job) = ToReplay out (seen job)
+task_of (Replaying out job lanes) = ToReplay out (seen job)
 task_of (Telling out facts) = ToTell out facts
 task_of (Making n out) = ToMake n out
 task_of (Trying n) = ToTry n
 
 -- what the code holds is within the limits, and a job can be replayed
 abbrev pub IsWork : Work → Type 0
-IsWork (Replaying out job) = (length out ≤ PATH_LIMIT) × IsSoundJob (seen job)
-IsWork (Telling out facts) = (length out ≤ PATH_LIMIT) × (length facts ≤ CALL_LIMIT)
-IsWork (Making n out) = IsCallCount n × (length out ≤ PATH_LIMIT)
+IsWork (Replaying out job lanes) = (length out ≤ path_limit) × IsSoundJob (seen job) × IsLaneCount lanes
+IsWork (Telling out facts) = (length out ≤ path_limit) × (length facts ≤ call_limit)
+IsWork (Making n out) = IsCallCount n × (length out ≤ path_limit)
 IsWork (Trying n) = IsCallCount n
-
--- the task is one of this command, with its number
-abbrev pub IsTaskOf : Command → Task → Type 0
-IsTaskOf (Run capture out ways) (ToReplay folder job) = Unit {0}
-IsTaskOf (Prepare capture out) (ToTell folder facts) = Unit {0}
-IsTaskOf (Generate n out) (ToMake calls folder) = calls ≡ n
-IsTaskOf (Trial n) (ToTry calls) = calls ≡ n
-IsTaskOf command other = ⊥

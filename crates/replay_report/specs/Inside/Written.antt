@@ -53,4 +53,5 @@ noted calls pairs (Answer k reply) classes = noted_on (slice_get calls k) pairs 
 -- the same of each event in turn, behind others that gave these pairs
 abbrev pub walked : List Captured → List IdPair → List Event → List (Option Class) → List (Option Class)
 walked calls pairs [] classes = classes
-walked calls pairs (event ∷ events) classes = let known = pairs ++ gained calls event in walked calls known events (noted calls known event classes)
+walked calls pairs (event ∷ events) classes = let known = pairs ++ gained calls event in
+    walked calls known events (noted calls known event classes)

@@ -1,5 +1,9 @@
 use Rattle.capture_recorder.proofs.Files.{are_sessions}
+use Rattle.capture_recorder.proofs.Listed.{have_just}
 use Rattle.capture_recorder.proofs.sessions.know_lists.Goals as goal
 
-pub returns : goal.returns
-returns c = λ r count is. are_sessions r is count
+pub returns-clause-files : goal.returns-clause-files
+returns-clause-files c = λ r count is. are_sessions r is count
+
+pub returns-clause-just : goal.returns-clause-just
+returns-clause-just c = have_just

@@ -1,5 +1,5 @@
 use Rattle.std.proofs.Common.{◌≡◌, ◌++◌, drop}
-use Rattle.capture_laws.specs.Sessions.{calls_of}
+use Rattle.captured_calls.specs.Sessions.{calls_of}
 use Rattle.capture_recorder.proofs.sessions.session_calls.Given as goal
 
 abbrev pub invariant-loop-call : goal.invariant-loop-call

@@ -2,7 +2,7 @@ use Rattle.std.proofs.Common.{◌∙◌, ◌+◌, ◌-◌, ◌++◌, List, map, 
 use Rattle.std.specs.List.{range_with_len}
 use Rattle.desk_values.specs.Room.{Room}
 use Rattle.desk_values.specs.declared.capture.Captured.{Captured}
-use Rattle.capture_laws.specs.Sessions.{calls_of, session_lists}
+use Rattle.captured_calls.specs.Sessions.{calls_of, session_lists}
 use Rattle.capture_recorder.proofs.Files.{lists_more}
 use Rattle.capture_recorder.proofs.sessions.sessions_of.Goals as goal
 

@@ -4,7 +4,7 @@ use Rattle.std.specs.List.{list_all}
 use Rattle.std.specs.Option.{option_copied}
 use Rattle.std.specs.Ordering.{nat_cmp}
 use Rattle.desk_values.specs.declared.value.Image.{Image}
-use Rattle.bag_laws.specs.Equality.{same_image}
+use Rattle.divergence.specs.Bags.Equality.{same_image}
 use Rattle.divergence.proofs.equality.agree_on.Given as goal
 
 abbrev pub invariant-loop-image : goal.invariant-loop-image

@@ -2,7 +2,7 @@ use Rattle.std.proofs.Common.{◌≡◌, ℕ, ◌-◌, drop, length}
 use Rattle.std.specs.BTreeMap.{get}
 use Rattle.std.specs.Option.{option_copied}
 use Rattle.std.specs.Ordering.{nat_cmp}
-use Rattle.bag_laws.specs.Equality.{found}
+use Rattle.divergence.specs.Bags.Equality.{found}
 use Rattle.divergence.proofs.equality.by_row.Given as goal
 
 abbrev pub invariant-loop-step : goal.invariant-loop-step

@@ -1,4 +1,4 @@
-use Rattle.bag_laws.proofs.SameRows.{sorted_is}
+use Rattle.divergence.proofs.Bags.SameRows.{sorted_is}
 use Rattle.divergence.proofs.equality.same_bag.Goals as goal
 
 pub returns : goal.returns

@@ -1,4 +1,4 @@
-use Rattle.bag_laws.proofs.SameImages.{images_are}
+use Rattle.divergence.proofs.Bags.SameImages.{images_are}
 use Rattle.divergence.proofs.equality.same_image.Goals as goal
 
 pub returns-then-image-other : goal.returns-then-image-other

@@ -1,5 +1,5 @@
 use Rattle.std.proofs.Common.{◌≡◌, ◌++◌, drop, map}
-use Rattle.capture_verdict.specs.Facts.{fact_of}
+use Rattle.captured_calls.specs.Facts.{fact_of}
 use Rattle.prepare_plan.proofs.facts.facts_of.Given as goal
 
 abbrev pub invariant-loop-call : goal.invariant-loop-call

@@ -1,7 +1,7 @@
 use Rattle.std.proofs.Common.{◌≡◌, drop}
 use Rattle.std.specs.List.{fold}
 use Rattle.desk_values.specs.declared.value.Image.{Image}
-use Rattle.capture_verdict.specs.Facts.{with_table, tables_of_images}
+use Rattle.captured_calls.specs.Facts.{with_table, tables_of_images}
 use Rattle.prepare_plan.proofs.facts.tables_of_images.Given as goal
 
 abbrev pub invariant-loop-image : goal.invariant-loop-image

@@ -1,6 +1,6 @@
 use Rattle.std.proofs.Common.{◌≡◌, ◌++◌, drop}
 use Rattle.prepare_plan.specs.Inside.{shown}
-use Rattle.capture_laws.specs.Stamps.{all_calls}
+use Rattle.captured_calls.specs.Stamps.{all_calls}
 use Rattle.prepare_plan.specs.Lists.{lists_of}
 use Rattle.prepare_plan.proofs.gathering.gathered.Given as goal
 

@@ -1,10 +1,10 @@
 use Rattle.std.proofs.Common.{sym, ap, ◌∙◌, subst, take}
 use Rattle.std.specs.Prelude.{not, Bool}
-use Rattle.capture_laws.specs.Known.{ids_known}
-use Rattle.capture_verdict.specs.Tests.{bad_ids, unless}
+use Rattle.captured_calls.specs.Known.{ids_known}
+use Rattle.captured_calls.specs.Tests.{bad_ids, unless}
 use Rattle.prepare_plan.specs.Inside.{KnowsAll}
-use Rattle.capture_verdict.specs.declared.refusal.Refusal.TheVariants.{Stranger}
-use Rattle.capture_laws.proofs.Scanning.{walk_on}
+use Rattle.captured_calls.specs.declared.refusal.Refusal.TheVariants.{Stranger}
+use Rattle.captured_calls.proofs.Scanning.{walk_on}
 use Rattle.prepare_plan.proofs.Knowing.{ids_more}
 use Rattle.prepare_plan.proofs.known.judge_ids.Goals as goal
 

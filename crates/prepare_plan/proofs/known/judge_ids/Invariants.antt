@@ -1,6 +1,6 @@
 use Rattle.std.proofs.Common.{◌≡◌, [], take, drop}
-use Rattle.capture_laws.specs.Known.{ids_known}
-use Rattle.capture_verdict.specs.Tests.{bad_ids, first_refused}
+use Rattle.captured_calls.specs.Known.{ids_known}
+use Rattle.captured_calls.specs.Tests.{bad_ids, first_refused}
 use Rattle.prepare_plan.specs.Inside.{KnowsAll}
 use Rattle.prepare_plan.proofs.known.judge_ids.Given as goal
 

@@ -5,13 +5,13 @@ use Rattle.std.proofs.lemmas.List.{length-map}
 use denote.Ref.{Bor}
 use Rattle.desk_values.specs.Room.{Room}
 use Rattle.desk_values.specs.declared.capture.Captured.{Captured}
-use Rattle.capture_laws.specs.Sessions.{AreSessionsFrom}
-use Rattle.capture_laws.specs.Stamps.{all_calls, by_stamp}
-use Rattle.capture_laws.proofs.Stamping.{by_stamp_len}
-use Rattle.capture_verdict.specs.declared.refusal.Refusal.{Refusal}
-use Rattle.capture_verdict.specs.Inside.{IsFit}
-use Rattle.capture_verdict.specs.Tests.{bad_stamp}
-use Rattle.capture_verdict.proofs.Legality.{all_stamped, fit_by_stamp, fit_lists, ok_is}
+use Rattle.captured_calls.specs.Sessions.{AreSessionsFrom}
+use Rattle.captured_calls.specs.Stamps.{all_calls, by_stamp}
+use Rattle.captured_calls.proofs.Stamping.{by_stamp_len}
+use Rattle.captured_calls.specs.declared.refusal.Refusal.{Refusal}
+use Rattle.captured_calls.specs.Inside.{IsFit}
+use Rattle.captured_calls.specs.Tests.{bad_stamp}
+use Rattle.captured_calls.proofs.Legality.{all_stamped, fit_by_stamp, fit_lists, ok_is}
 use Rattle.prepare_plan.specs.Inside.{ordered, ordered_or, shown}
 use Rattle.prepare_plan.specs.Lists.{lists_of}
 use Rattle.prepare_plan.proofs.prepared.judged.Goals as goal

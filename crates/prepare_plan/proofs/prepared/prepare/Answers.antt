@@ -6,17 +6,17 @@ use Rattle.desk_values.specs.Room.{Room}
 use Rattle.desk_values.specs.declared.capture.Captured.{Captured}
 use Rattle.object_depends.specs.declared.fact.Fact.{Fact}
 use Rattle.object_depends.specs.Facts.{AreSound}
-use Rattle.capture_verdict.specs.declared.refusal.Refusal.{Refusal}
+use Rattle.captured_calls.specs.declared.refusal.Refusal.{Refusal}
 use Rattle.prepare_plan.specs.declared.prepared.Prepared.{Prepared}
 use Rattle.prepare_plan.specs.Answered.{plan_seen, refusal_told}
 use Rattle.prepare_plan.specs.Lists.{lists_of}
-use Rattle.capture_verdict.specs.Verdict.{IsLegal, Plan, verdict}
-use Rattle.capture_verdict.proofs.Legality.{plan_facts, plan_few, plan_legal, plan_sound}
+use Rattle.captured_calls.specs.Verdict.{IsLegal, Preparation, verdict}
+use Rattle.captured_calls.proofs.Legality.{plan_facts, plan_few, plan_legal, plan_sound}
 use Rattle.prepare_plan.proofs.prepared.prepare.Goals as goal
 
 -- what is said of each plan that the verdict gives holds of an answer
-when_planned : (expected : Result Plan Refusal) (result : Result Prepared Refusal) (P : List Captured → List Fact → Type 0) → Answers plan_seen refusal_told result expected
-    → ((plan : Plan) → expected ≡ Ok plan → P plan.calls plan.facts) → IfOk result (λ prepared. P prepared.calls.items prepared.facts)
+when_planned : (expected : Result Preparation Refusal) (result : Result Prepared Refusal) (P : List Captured → List Fact → Type 0) → Answers plan_seen refusal_told result expected
+    → ((plan : Preparation) → expected ≡ Ok plan → P plan.calls plan.facts) → IfOk result (λ prepared. P prepared.calls.items prepared.facts)
 when_planned expected (Ok prepared) P is each = each (record { calls = prepared.calls.items; facts = prepared.facts }) is
 when_planned expected (Err refusal) P is each = tt
 

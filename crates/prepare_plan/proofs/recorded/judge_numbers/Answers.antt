@@ -1,7 +1,7 @@
 use Rattle.std.proofs.Common.{sym, ap, ◌∙◌, arith, take}
-use Rattle.capture_verdict.specs.Tests.{bad_number}
+use Rattle.captured_calls.specs.Tests.{bad_number}
 use Rattle.replay_history.specs.Capture.{commits_in}
-use Rattle.capture_laws.proofs.Scanning.{taken, walk_on, walk_stops}
+use Rattle.captured_calls.proofs.Scanning.{taken, walk_on, walk_stops}
 use Rattle.prepare_plan.proofs.Walking.{number_fails, number_passes}
 use Rattle.prepare_plan.proofs.recorded.judge_numbers.Goals as goal
 

@@ -1,5 +1,5 @@
 use Rattle.std.proofs.Common.{◌≡◌, ◌≤◌, [], take, drop}
-use Rattle.capture_verdict.specs.Tests.{bad_seen, first_refused}
+use Rattle.captured_calls.specs.Tests.{bad_seen, first_refused}
 use Rattle.replay_history.specs.Capture.{commits_in}
 use Rattle.prepare_plan.proofs.recorded.judge_seen.Given as goal
 

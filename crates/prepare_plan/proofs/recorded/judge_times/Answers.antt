@@ -2,10 +2,10 @@ use Rattle.std.proofs.Common.{◌≡◌, List, sym, subst, refl, ◌∙◌, arit
 use Rattle.std.specs.Prelude.{slice_index, slice_set}
 use Rattle.std.proofs.lemmas.List.{get_or-replicate}
 use Rattle.desk_values.specs.declared.capture.Captured.{Captured}
-use Rattle.capture_verdict.specs.Inside.{IsFit}
-use Rattle.capture_laws.specs.Moments.{ended_in}
-use Rattle.capture_verdict.specs.Tests.{bad_times}
-use Rattle.capture_laws.proofs.Scanning.{each_at, taken, walk_on}
+use Rattle.captured_calls.specs.Inside.{IsFit}
+use Rattle.captured_calls.specs.Moments.{ended_in}
+use Rattle.captured_calls.specs.Tests.{bad_times}
+use Rattle.captured_calls.proofs.Scanning.{each_at, taken, walk_on}
 use Rattle.prepare_plan.proofs.Walking.{ended_after, times_pass}
 use Rattle.prepare_plan.proofs.recorded.judge_times.Goals as goal
 

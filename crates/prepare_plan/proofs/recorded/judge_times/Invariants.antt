@@ -1,7 +1,7 @@
 use Rattle.std.proofs.Common.{◌≡◌, ℕ, ◌<◌, [], take, drop, length}
 use Rattle.std.specs.Prelude.{slice_index}
-use Rattle.capture_laws.specs.Moments.{ended_in}
-use Rattle.capture_verdict.specs.Tests.{bad_times, first_refused}
+use Rattle.captured_calls.specs.Moments.{ended_in}
+use Rattle.captured_calls.specs.Tests.{bad_times, first_refused}
 use Rattle.prepare_plan.proofs.recorded.judge_times.Given as goal
 
 abbrev pub invariant-loop-call : goal.invariant-loop-call

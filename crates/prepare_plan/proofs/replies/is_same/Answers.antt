@@ -1,4 +1,4 @@
-use Rattle.capture_laws.proofs.Sameness.{reply_decided, same_tests}
+use Rattle.captured_calls.proofs.Sameness.{reply_decided, same_tests}
 use Rattle.prepare_plan.proofs.replies.is_same.Goals as goal
 
 pub returns : goal.returns

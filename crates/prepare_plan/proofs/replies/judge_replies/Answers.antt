@@ -1,7 +1,7 @@
 use Rattle.std.proofs.Common.{sym, ◌∙◌, ap, ◌+◌, ℕ, take}
-use Rattle.capture_verdict.specs.Tests.{bad_reply}
+use Rattle.captured_calls.specs.Tests.{bad_reply}
 use Rattle.prepare_plan.proofs.Walking.{reply_passes, run_next}
-use Rattle.capture_laws.proofs.Scanning.{walk_on}
+use Rattle.captured_calls.proofs.Scanning.{walk_on}
 use Rattle.prepare_plan.proofs.replies.judge_replies.Goals as goal
 
 pub loop-call-preserved : goal.loop-call-preserved

@@ -1,7 +1,7 @@
 use Rattle.std.proofs.Common.{◌≡◌, [], take, drop}
 use Rattle.machine_model.specs.State.{opening}
 use Rattle.machine_model.specs.Step.{run}
-use Rattle.capture_verdict.specs.Tests.{asked, bad_reply, first_refused}
+use Rattle.captured_calls.specs.Tests.{asked, bad_reply, first_refused}
 use Rattle.prepare_plan.proofs.replies.judge_replies.Given as goal
 
 abbrev pub invariant-loop-call : goal.invariant-loop-call

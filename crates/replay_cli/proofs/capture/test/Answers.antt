@@ -1,5 +1,5 @@
 use Rattle.prepare_plan.specs.Lists.{lists_of}
-use Rattle.job_laws.proofs.Jobs.{plan_known, plan_moments}
+use Rattle.replay_job.proofs.Jobs.{plan_known, plan_moments}
 use Rattle.replay_cli.proofs.capture.test.Goals as goal
 
 pub returns-in-Ok-clause-known : goal.returns-in-Ok-clause-known

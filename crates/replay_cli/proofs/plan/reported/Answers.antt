@@ -10,4 +10,4 @@ returns c =
     let divergent = c.len-divergent.ensures ∙ lines in
     let calls = ap (λ n. replayed_line n c.len-divergent.result) c.call_count.ensures in
     let line = c.in_ok-line.ensures ∙ calls ∙ ap (replayed_line (length c.args.desk.now.job.calls)) divergent in
-    (c.args.desk.now.history, c.args.desk.now.stage, (c.requires.replay, record { line = line; differs = ap (nat_lt 0) divergent }, c.in_ok-writes.ensures))
+    (c.args.desk.now.history, c.args.desk.now.stage, ((c.requires.replay.replay.complete, c.requires.replay.texts), record { line = line; differs = ap (nat_lt 0) divergent }, c.in_ok-writes.ensures))

@@ -1,6 +1,6 @@
 use Rattle.std.proofs.Common.{◌≡◌, ◌++◌, drop}
 use Rattle.prepare_plan.specs.Lists.{lists_of}
-use Rattle.capture_laws.specs.Sessions.{AreSessionsFrom}
+use Rattle.captured_calls.specs.Sessions.{AreSessionsFrom}
 use Rattle.replay_cli.specs.Done.{session_files}
 use Rattle.replay_cli.proofs.plan.session_writes.Given as goal
 

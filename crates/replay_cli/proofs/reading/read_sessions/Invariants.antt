@@ -1,5 +1,5 @@
 use Rattle.std.proofs.Common.{◌≡◌, length}
-use Rattle.capture_laws.specs.Sessions.{AreSessionsFrom}
+use Rattle.captured_calls.specs.Sessions.{AreSessionsFrom}
 use Rattle.prepare_plan.specs.Lists.{lists_of}
 use Rattle.replay_cli.specs.Decision.{SessionOf}
 use Rattle.replay_cli.proofs.StepLaws.{ReadSoFar}

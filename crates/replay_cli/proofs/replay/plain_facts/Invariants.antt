@@ -1,5 +1,5 @@
 use Rattle.std.proofs.Common.{◌≡◌, ◌++◌, drop, map}
-use Rattle.job_laws.specs.Jobs.{plain_fact}
+use Rattle.replay_job.specs.Jobs.{plain_fact}
 use Rattle.replay_cli.proofs.replay.plain_facts.Given as goal
 
 abbrev pub invariant-loop-call : goal.invariant-loop-call

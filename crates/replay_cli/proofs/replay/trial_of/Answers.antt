@@ -1,6 +1,6 @@
 use Rattle.std.proofs.Common.{◌∙◌, ap, map}
-use Rattle.job_laws.specs.Jobs.{plain_fact}
-use Rattle.job_laws.proofs.Jobs.{trial_sound}
+use Rattle.replay_job.specs.Jobs.{plain_fact}
+use Rattle.replay_job.proofs.Jobs.{trial_sound}
 use Rattle.replay_cli.proofs.replay.trial_of.Goals as goal
 
 pub returns-clause-sound : goal.returns-clause-sound

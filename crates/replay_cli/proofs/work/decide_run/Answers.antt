@@ -1,11 +1,13 @@
-use Rattle.std.proofs.Common.{Err, Ok, ap, sym}
+use Rattle.std.proofs.Common.{Err, Ok, ap, inl, inr, refl, sym}
 use Rattle.std.proofs.lemmas.Result.{err_from_is_err_and}
 use Rattle.replay_cli.specs.declared.capture.Legal.{Legal as Loaded}
-use Rattle.capture_verdict.specs.Verdict.{verdict}
+use Rattle.captured_calls.specs.Verdict.{verdict}
 use Rattle.replay_job.specs.Job.{JobView}
-use Rattle.replay_cli.specs.Decision.{Task, ToReplay, legal_from, run_job}
+use Rattle.replay_cli.specs.declared.words.Command.TheVariants.{Run}
+use Rattle.replay_cli.specs.Decision.{MayBeRefused, MayRefuseCapture, MayRefuseRemap, Task, ToReplay, legal_from, run_job}
 use Rattle.replay_cli.specs.Inside.Work.{legal_of, read_of}
 use Rattle.replay_cli.specs.Steps.{Is}
+use Rattle.replay_cli.proofs.Refusals.{fails_weaker, tested}
 use Rattle.replay_cli.proofs.Sessions.{free_error}
 use Rattle.replay_cli.proofs.StepLaws.{stops_here}
 use Rattle.replay_cli.proofs.Steps.{run_cut, run_tested}
@@ -25,3 +27,22 @@ returns-in_err-legal-clause-step g c =
 
 pub returns-clause-step : goal.returns-clause-step
 returns-clause-step g c = run_tested c.args.capture.now c.args.out (read_of c.in_ok-read.read) _ _ _ _ c.in_ok-read.ensures.step c.args.ways _ _ c.in_ok-remap.remap c.in_ok-remap.ensures.step _ (legal_of c.in_ok-legal.legal, c.in_ok-legal.ensures.says, ap (λ (job : JobView). Ok (ToReplay c.args.out job)) (sym c.in_ok-job.ensures.job)) tt
+
+pub returns-in_err-read-clause-refused : goal.returns-in_err-read-clause-refused
+returns-in_err-read-clause-refused g c =
+    let p = err_from_is_err_and c.from_residual.result c.from_residual.ensures.1 in
+    rw (p.1, p.2) (fails_weaker (MayRefuseCapture c.args.capture.now) (MayBeRefused (Run c.args.capture.now c.args.out c.args.ways)) (λ refusal h. inl h) c.in_err-read.field-0.0 c.in_err-read.ensures.kind)
+
+pub returns-in_err-remap-clause-refused : goal.returns-in_err-remap-clause-refused
+returns-in_err-remap-clause-refused g c =
+    let p = err_from_is_err_and c.from_residual-in_err-remap.result c.from_residual-in_err-remap.ensures.1 in
+    rw (p.1, p.2) (fails_weaker (MayRefuseRemap c.args.ways.remap) (MayBeRefused (Run c.args.capture.now c.args.out c.args.ways)) (λ refusal h. inr h) c.in_err-remap.field-0.0 c.in_err-remap.ensures.kind)
+
+pub returns-in_err-legal-clause-refused : goal.returns-in_err-legal-clause-refused
+returns-in_err-legal-clause-refused g c =
+    let read = read_of c.in_ok-read.read in
+    let p = err_from_is_err_and c.from_residual-in_err-legal.result c.from_residual-in_err-legal.ensures.1 in
+    rw (p.1, p.2) (fails_weaker (MayRefuseCapture c.args.capture.now) (MayBeRefused (Run c.args.capture.now c.args.out c.args.ways)) (λ refusal h. inl h) c.in_err-legal.field-0.0 (tested c.args.capture.now read.start read.sessions c.in_err-legal.field-0.0 c.in_err-legal.ensures.says))
+
+pub returns-clause-task : goal.returns-clause-task
+returns-clause-task g c = (refl, (legal_of c.in_ok-legal.legal, c.in_ok-remap.remap, c.in_ok-job.ensures.job))

@@ -1,4 +1,4 @@
-use Rattle.job_laws.proofs.Jobs.{sound_job}
+use Rattle.replay_job.proofs.Jobs.{sound_job}
 use Rattle.replay_cli.proofs.work.job_of.Goals as goal
 
 pub returns-clause-sound : goal.returns-clause-sound

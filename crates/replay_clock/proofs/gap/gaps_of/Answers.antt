@@ -3,7 +3,7 @@ use Rattle.replay_history.specs.Gap.{IsCallAt}
 use Rattle.replay_clock.specs.declared.gap.Gap.{Gap}
 use Rattle.replay_clock.specs.Inside.{gap_after}
 use Rattle.replay_clock.proofs.Pauses.{ends_more, gaps_more}
-use Rattle.history_laws.proofs.Items.{item_at}
+use Rattle.law_histories.proofs.Items.{item_at}
 use Rattle.replay_clock.proofs.gap.gaps_of.Goals as goal
 
 pub loop-call-preserved : goal.loop-call-preserved

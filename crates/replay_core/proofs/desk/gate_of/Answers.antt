@@ -1,5 +1,5 @@
 use Rattle.replay_job.specs.Job.{seen}
-use Rattle.gate_law.proofs.Gates.{in_place}
+use Rattle.replay_core.proofs.Gates.Gates.{in_place}
 use Rattle.replay_core.proofs.desk.gate_of.Goals as goal
 
 pub gaps_of-requires : goal.gaps_of-requires

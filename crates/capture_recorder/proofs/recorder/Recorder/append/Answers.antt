@@ -11,8 +11,8 @@ use Rattle.machine_model.specs.Step.{reply_in, step}
 use Rattle.capture_recorder.specs.declared.progress.Progress.{Progress}
 use Rattle.capture_recorder.specs.Recording.{Recording, captured, connected_count, cut, is_stranger, kept_ended, recorded}
 use Rattle.capture_recorder.specs.Inside.Keeping.{progress_of}
-use Rattle.capture_laws.proofs.Counts.{count_within}
-use Rattle.capture_laws.specs.Sessions.{is_of}
+use Rattle.captured_calls.proofs.Counts.{count_within}
+use Rattle.captured_calls.specs.Sessions.{is_of}
 use Rattle.capture_recorder.proofs.Keeping.{captured_is, keeps_added, progress}
 use Rattle.capture_recorder.proofs.recorder.Recorder.append.Goals as goal
 

@@ -1,7 +1,7 @@
 use Rattle.std.proofs.Common.{◌∙◌, sym, ap, subst}
 use Rattle.capture_format.specs.SessionFile.{AreCallsOf}
 use Rattle.capture_recorder.specs.Recording.{Recording}
-use Rattle.capture_laws.specs.Sessions.{calls_of}
+use Rattle.captured_calls.specs.Sessions.{calls_of}
 use Rattle.capture_recorder.proofs.Files.{recorded_file}
 use Rattle.capture_recorder.proofs.recorder.Recorder.session.Goals as goal
 

@@ -1,6 +1,6 @@
 use Rattle.std.proofs.Common.{◌∙◌, Some, sym, ap, arith}
-use Rattle.carrying_law.specs.Carried.{each_some}
-use Rattle.carrying_law.proofs.Carrying.{each_fails, each_step}
+use Rattle.id_pairs.specs.Carrying.Carried.{each_some}
+use Rattle.id_pairs.proofs.Carrying.Carrying.{each_fails, each_step}
 use Rattle.divergence.proofs.carry.ListCarry.carry.Goals as goal
 
 pub returns-in-None : goal.returns-in-None

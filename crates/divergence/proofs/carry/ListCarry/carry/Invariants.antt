@@ -1,5 +1,5 @@
 use Rattle.std.proofs.Common.{◌≡◌, take, Some}
-use Rattle.carrying_law.specs.Carried.{each_some}
+use Rattle.id_pairs.specs.Carrying.Carried.{each_some}
 use Rattle.divergence.proofs.carry.ListCarry.carry.Given as goal
 
 abbrev pub invariant-loop-item : goal.invariant-loop-item

@@ -11,7 +11,7 @@ use Rattle.machine_model.specs.Step.{after, committed_in, with_commit}
 use Rattle.machine_model.specs.Answer.{Answer}
 use Rattle.machine_model.specs.Inside.Decision.{committed_by, done_so, session_left}
 use Rattle.machine_model.specs.Draws.{moved}
-use Rattle.machine_model.specs.Sound.{IsSound}
+use Rattle.machine_model.specs.Sound.{IsSoundState}
 use Rattle.machine_model.specs.Machine.{Running}
 use Rattle.machine_model.specs.Inside.Machine.{Keeps}
 use Rattle.std.proofs.lemmas.List.{get_or_default}
@@ -25,7 +25,7 @@ invariant_of-self-2 c =
     let current : List (List Image) = stocked c.enact.new.current.items in
     let a : Answer = done_so (plain_view (session_at old c.args.session)) c.args.decision.reply c.args.decision.deed in
     let was : Running = record { state = old; steps = c.self.inside.steps } in
-    let sound : IsSound (after old c.args.session a) = subst (λ (r : Running). IsSound (after r.state c.args.session (done_so (plain_view (session_at r.state c.args.session)) c.args.decision.reply c.args.decision.deed))) (sym c.self.view_is) c.requires.sound in
+    let sound : IsSoundState (after old c.args.session a) = subst (λ (r : Running). IsSoundState (after r.state c.args.session (done_so (plain_view (session_at r.state c.args.session)) c.args.decision.reply c.args.decision.deed))) (sym c.self.view_is) c.requires.sound in
     let few : c.self.inside.steps < 1048576 = omega (arith, ap (λ (r : Running). r.steps) c.self.view_is, c.requires.steps) in
     let keeps = kept was (stocked c.self.inside.current.items) c.args.session a c.self.invariant.0 few sound in
     let within : c.args.session < length c.self.inside.sessions.items = omega (arith, c.self.invariant.0.sound.count, c.requires.session) in

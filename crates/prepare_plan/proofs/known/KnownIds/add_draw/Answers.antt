@@ -4,7 +4,7 @@ use Rattle.desk_values.specs.declared.value.Value.{Value}
 use Rattle.desk_values.specs.declared.value.Value.TheVariants.{Null, Int, Text, Row, Draw}
 use Rattle.prepare_plan.specs.Inside.{knows, pair_cmp}
 use Rattle.std.specs.Ordering.{is_eq}
-use Rattle.capture_laws.specs.Same.{same_value}
+use Rattle.captured_calls.specs.Same.{same_value}
 use Rattle.prepare_plan.specs.declared.known.KnownIds.{KnownIds}
 use Rattle.prepare_plan.proofs.Knowing.{either, pair_at}
 use Rattle.prepare_plan.proofs.known.KnownIds.add_draw.Goals as goal

@@ -1,7 +1,7 @@
 use Rattle.std.proofs.Common.{◌≡◌, List, drop}
 use Rattle.std.specs.List.{list_any}
 use Rattle.desk_values.specs.declared.value.Value.{Value}
-use Rattle.capture_laws.specs.Known.{is_stranger}
+use Rattle.captured_calls.specs.Known.{is_stranger}
 use Rattle.prepare_plan.specs.Inside.{KnowsAll}
 use Rattle.prepare_plan.proofs.known.KnownIds.is_any_stranger.Given as goal
 

@@ -6,8 +6,8 @@ use Rattle.desk_schema.proofs.Distinct.{all-push}
 use Rattle.replay_job.specs.Events.{IsEvent}
 use Rattle.replay_job.specs.Job.{seen}
 use Rattle.replay_job.specs.Runs.{Executes, Stage, first_stage}
-use Rattle.history_laws.proofs.Truth.{truthful_answer}
-use Rattle.gate_law.proofs.Gates.{answer_follows, open_in_gate}
+use Rattle.law_histories.proofs.Truth.{truthful_answer}
+use Rattle.replay_core.proofs.Gates.Gates.{answer_follows, open_in_gate}
 use Rattle.replay_core.specs.Desk.{DeskView, IsAnswer}
 use Rattle.replay_core.specs.View.{stage_of, view_of}
 use Rattle.replay_core.proofs.Desks.{may_execute, open_call}

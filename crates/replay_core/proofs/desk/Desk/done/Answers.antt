@@ -1,4 +1,4 @@
-use Rattle.gate_law.proofs.Telling.{done_tells}
+use Rattle.replay_core.proofs.Gates.Telling.{done_tells}
 use Rattle.replay_core.proofs.Desks.{iff_then}
 use Rattle.replay_core.proofs.desk.Desk.done.Goals as goal
 

@@ -1,4 +1,4 @@
-use Rattle.gate_law.proofs.Telling.{first_is_free, first_open_tells}
+use Rattle.replay_core.proofs.Gates.Telling.{first_is_free, first_open_tells}
 use Rattle.replay_core.proofs.desk.Desk.first_open.Goals as goal
 
 pub returns-clause-least : goal.returns-clause-least

@@ -3,7 +3,7 @@ use Rattle.std.specs.Prelude.{if◌then◌else◌}
 use Rattle.replay_history.specs.Gap.{pause_of}
 use Rattle.replay_clock.specs.declared.gap.Gap.{Gap}
 use Rattle.replay_job.specs.Job.{seen}
-use Rattle.history_laws.proofs.Items.{item_there}
+use Rattle.law_histories.proofs.Items.{item_there}
 use Rattle.replay_core.proofs.Desks.{gap_at, gap_small, no_gap}
 use Rattle.replay_core.proofs.desk.Desk.pause_before.Goals as goal
 

@@ -1,4 +1,4 @@
-use Rattle.gate_law.proofs.Telling.{pick_tells}
+use Rattle.replay_core.proofs.Gates.Telling.{pick_tells}
 use Rattle.replay_core.proofs.desk.Desk.pick.Goals as goal
 
 pub returns : goal.returns

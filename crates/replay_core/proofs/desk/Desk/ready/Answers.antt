@@ -1,4 +1,4 @@
-use Rattle.gate_law.proofs.Gates.{ready_tells}
+use Rattle.replay_core.proofs.Gates.Gates.{ready_tells}
 use Rattle.replay_core.proofs.Desks.{iff_then}
 use Rattle.replay_core.proofs.desk.Desk.ready.Goals as goal
 

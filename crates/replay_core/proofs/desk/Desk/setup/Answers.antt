@@ -2,7 +2,7 @@ use Rattle.std.proofs.Common.{◌∙◌, ap, length, refl, arith}
 use Rattle.std.proofs.lemmas.Result.{err_from_is_err_and}
 use Rattle.desk_schema.proofs.Files.{sound_start}
 use Rattle.replay_job.specs.Job.{seen}
-use Rattle.gate_law.proofs.Gates.{new_follows}
+use Rattle.replay_core.proofs.Gates.Gates.{new_follows}
 use Rattle.replay_core.proofs.desk.Desk.setup.Goals as goal
 
 pub of-requires : goal.of-requires
@@ -15,7 +15,7 @@ pub invariant_of-result : goal.invariant_of-result
 invariant_of-result c =
     let are = c.in_ok-gaps.ensures in
     record {
-      target = sound_start c.args.job.target c.schema.ensures.valid;
+      target = sound_start c.args.job.target c.know_rules.ensures;
       truthful = rw (are.no_event, are.opened.state, are.pairs_are) refl;
       texts = rw are.no_event tt;
       own = are.own_are ∙ ap length are.pairs_are;

@@ -4,8 +4,8 @@ use Rattle.desk_schema.proofs.Distinct.{all-push}
 use Rattle.replay_job.specs.Events.{IsEvent}
 use Rattle.replay_job.specs.Job.{seen}
 use Rattle.replay_job.specs.Runs.{Executes, first_stage}
-use Rattle.history_laws.proofs.Truth.{truthful_start}
-use Rattle.gate_law.proofs.Gates.{ready_tells, start_follows, start_waits}
+use Rattle.law_histories.proofs.Truth.{truthful_start}
+use Rattle.replay_core.proofs.Gates.Gates.{ready_tells, start_follows, start_waits}
 use Rattle.replay_core.specs.View.{stage_of}
 use Rattle.replay_core.proofs.Desks.{open_call}
 use Rattle.replay_core.proofs.desk.Desk.start.Goals as goal

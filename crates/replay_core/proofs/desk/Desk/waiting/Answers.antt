@@ -1,6 +1,6 @@
 use Rattle.std.proofs.Common.{◌≡◌, false, length, arith}
 use Rattle.std.proofs.lemmas.List.{get_or_past, get_or_read_under}
-use Rattle.gate_law.proofs.Gates.{waiting_tells}
+use Rattle.replay_core.proofs.Gates.Gates.{waiting_tells}
 use Rattle.replay_core.proofs.desk.Desk.waiting.Goals as goal
 
 pub returns-then-stamp-len : goal.returns-then-stamp-len

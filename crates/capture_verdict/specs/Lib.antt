@@ -1,4 +1,0 @@
-pub mod Facts
-pub mod Tests
-pub mod Verdict
-pub mod Inside

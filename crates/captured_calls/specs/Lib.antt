@@ -1,0 +1,12 @@
+pub mod Same
+pub mod Stamps
+pub mod Sessions
+pub mod Known
+pub mod Moments
+pub mod Stamped
+pub mod Scan
+pub mod Numbered
+pub mod Facts
+pub mod Tests
+pub mod Verdict
+pub mod Inside

@@ -1,0 +1,110 @@
+//! Captures in memory, and runs over them.
+
+use desk_files::{Door, MemFiles, MemSink};
+use desk_values::{List, Memory, ReadErr, Stamps, Txt};
+use replay_cli::replay_main;
+use std::alloc::Global;
+use std::sync::Wait;
+use std::thread::Threads;
+use std::time::Clock;
+
+/// Room for the line of a run.
+const LINE_ROOM: u32 = 1000;
+
+/// A file by its name.
+pub type Named = (&'static str, &'static str);
+
+/// The start of a capture of two sessions.
+pub const START: &str = "start 1
+level 1
+svc main rw
+table acct
+col id int 1 9 notnull
+col bal int 0 1000 null
+row 1 0 [i1,i100]
+nextrow 2
+sessions 2
+end
+";
+
+/// Two sessions whose calls stand side by side.
+pub const PAIRS: [Named; 3] = [
+    ("cap/start.cap", START),
+    (
+        "cap/session-000.cap",
+        "session 1 0
+0 0 0 0 - connect tmain > connected [] -
+2 0 0 0 - sql tSELECT%20bal%20FROM%20acct [] > rows [i100] [] -
+4 0 0 0 - sql tCOMMIT [] > committed - [] -
+end
+",
+    ),
+    (
+        "cap/session-001.cap",
+        "session 1 1
+1 0 0 0 - connect tmain > connected [] -
+3 0 0 0 - sql tSELECT%20bal%20FROM%20acct [] > rows [i100] [] -
+5 0 0 0 - sql tCOMMIT [] > committed - [] -
+end
+",
+    ),
+];
+
+/// A session that begins at 500, and whose second call begins 1,000 behind the end of the first.
+pub const PAUSED: [Named; 3] = [
+    ("cap/start.cap", START),
+    (
+        "cap/session-000.cap",
+        "session 1 0
+0 500 600 0 - connect tmain > connected [] -
+1 1600 1600 0 - sql tCOMMIT [] > committed - [] -
+end
+",
+    ),
+    (
+        "cap/session-001.cap",
+        "session 1 1
+end
+",
+    ),
+];
+
+/// A text of at most 1,000 bytes.
+pub fn txt(alloc: Global, text: &str) -> Result<Txt, ReadErr> {
+    match Txt::from_bytes(alloc, text.as_bytes()) {
+        Ok(text) => Ok(text),
+        Err(_) => Err(ReadErr::Bad),
+    }
+}
+
+/// These files, of which no call fails.
+pub fn files_of(alloc: Global, named: &[Named]) -> Result<MemFiles, ReadErr> {
+    let mut files = MemFiles::new(alloc, Stamps::new(alloc));
+    for (name, text) in named {
+        files.put(&txt(alloc, name)?, text.as_bytes())?;
+    }
+    Ok(files)
+}
+
+/// The status and the line of a command.
+pub fn ran<R: Clock + Wait + Threads + Sync, D: Door>(
+    rt: &R,
+    alloc: Global,
+    words: &str,
+    files: &mut MemFiles,
+    door: &D,
+) -> Result<String, anyhow::Error> {
+    let words = words_of(alloc, words)?;
+    let mut out = MemSink::new(alloc, LINE_ROOM, Stamps::new(alloc))?;
+    let status = replay_main(rt, alloc, words.as_slice(), files, door, &mut out);
+    let line = str::from_utf8(out.held().as_slice())?.trim_end();
+    Ok(format!(in alloc; "{status} {line}")?)
+}
+
+fn words_of(alloc: Global, words: &str) -> Result<List<Txt>, ReadErr> {
+    let mut list = List::new(alloc);
+    for word in words.split(' ') {
+        list.push(txt(alloc, word)?)?;
+    }
+    Ok(list)
+}

@@ -1,0 +1,76 @@
+//! Lanes at doors of their own. Each run has two sessions whose calls come in pairs, and a door that holds each call of a pair until
+//! the other one comes: a run that takes one call after the other, in whatever order, does not get past it. Then a door that
+//! keeps the pauses that it is told, and a lane at a desk that is stopped.
+//!
+//! Enters: nothing. Leaves: lines, the same whatever the schedule: the status and the line of each run, and what its door saw. It touches
+//! the standard output, threads and the clock alone.
+#![tactic(auto)]
+
+mod captures;
+mod doors;
+mod stopped;
+
+use captures::{PAIRS, PAUSED, files_of, ran};
+use desk_files::{MemDoor, MemFiles};
+use doors::PairDoor;
+use std::alloc::Global;
+use std::sync::Wait;
+use std::thread::Threads;
+use std::time::Clock;
+
+fn main(rt: HostRuntime) -> Result<(), anyhow::Error> {
+    let alloc = rt.alloc();
+    pairs(&rt, alloc, "run cap out --mode off")?;
+    pairs(&rt, alloc, "run cap out --mode scn")?;
+    pairs(&rt, alloc, "run cap out --mode object")?;
+    pairs(&rt, alloc, "run cap out --mode off --lanes 2")?;
+    pauses(&rt, alloc, "run cap out --mode off --think 33 --connect 0")?;
+    pauses(
+        &rt,
+        alloc,
+        "run cap out --mode off --think 33 --connect 0 --lanes 64",
+    )?;
+    let events = stopped::events(&rt, alloc)?;
+    println!(rt; "a lane at a stopped desk: {events} events")?;
+    Ok(())
+}
+
+// Two sessions whose calls hold each other.
+fn pairs<R: Clock + Wait + Threads + Sync + Print>(
+    rt: &R,
+    alloc: Global,
+    words: &str,
+) -> Result<(), anyhow::Error> {
+    let mut files = files_of(alloc, &PAIRS)?;
+    let door = PairDoor::new();
+    let said = ran(rt, alloc, words, &mut files, &door)?;
+    let (came, spent) = (door.came(), door.is_spent());
+    println!(rt; "{words}: {said}, {came} came, turns spent: {spent}")?;
+    Ok(())
+}
+
+// One session with times between its calls.
+fn pauses<R: Clock + Wait + Threads + Sync + Print>(
+    rt: &R,
+    alloc: Global,
+    words: &str,
+) -> Result<(), anyhow::Error> {
+    let mut files = files_of(alloc, &PAUSED)?;
+    let door = MemDoor::new(alloc);
+    let said = ran(rt, alloc, words, &mut files, &door)?;
+    println!(rt; "{words}: {said}")?;
+    for passed in door.passed(rt)?.as_slice() {
+        let (stamp, micros) = (passed.stamp, passed.micros);
+        println!(rt; "stamp {stamp} pauses {micros}")?;
+    }
+    shown(rt, alloc, &files)
+}
+
+// The journal of a run.
+fn shown<R: Print>(rt: &R, alloc: Global, files: &MemFiles) -> Result<(), anyhow::Error> {
+    let name = captures::txt(alloc, "out/journal.txt")?;
+    if let Some(bytes) = files.held(&name) {
+        print!(rt; "{}", str::from_utf8(bytes.as_slice())?)?;
+    }
+    Ok(())
+}

@@ -1,0 +1,11 @@
+use Rattle.prepare_plan.specs.Lists.{lists_of}
+use Rattle.replay_job.proofs.Jobs.{plan_known, plan_moments}
+use Rattle.case_replays.proofs.jobs.tested.Goals as goal
+
+pub returns-in-Ok-clause-known : goal.returns-in-Ok-clause-known
+returns-in-Ok-clause-known c =
+    plan_known c.args.start.now (lists_of c.args.sessions.now) (record { calls = c.in-Ok.prepared.calls.items; facts = c.in-Ok.prepared.facts }) c.in-Ok.ensures.verdict c.in-Ok.ensures.facts
+
+pub returns-in-Ok-clause-moments : goal.returns-in-Ok-clause-moments
+returns-in-Ok-clause-moments c =
+    plan_moments c.args.start.now (lists_of c.args.sessions.now) (record { calls = c.in-Ok.prepared.calls.items; facts = c.in-Ok.prepared.facts }) c.in-Ok.ensures.verdict c.requires.lists

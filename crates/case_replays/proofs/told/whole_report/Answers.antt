@@ -1,0 +1,14 @@
+use Rattle.std.proofs.Common.{List, subst, sym}
+use Rattle.desk_values.specs.declared.capture.Event.{Event}
+use Rattle.replay_job.specs.Job.{IsReplayable, JobView, seen}
+use Rattle.replay_job.specs.Runs.{IsCompleteFor}
+use Rattle.case_replays.proofs.told.whole_report.Goals as goal
+
+pub report_of-requires-clause-replayable : goal.report_of-requires-clause-replayable
+report_of-requires-clause-replayable c = subst IsReplayable (sym c.job.ensures) c.requires.kept.sound.replayable
+
+pub report_of-requires-clause-complete : goal.report_of-requires-clause-complete
+report_of-requires-clause-complete c =
+    let desk = c.args.desk.now in
+    let whole = c.all_answered_is_complete.ensures desk c.requires.kept c.requires.all in
+    (desk.stage, subst (λ (h : List Event). IsCompleteFor (seen c.job.result.now) h desk.stage) (sym c.history.ensures) (subst (λ (j : JobView). IsCompleteFor j desk.history desk.stage) (sym c.job.ensures) whole.replay.complete))

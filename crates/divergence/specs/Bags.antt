@@ -1,0 +1,3 @@
+-- Rows as bags, and images as maps from rows.
+pub mod Equality
+pub mod Laws

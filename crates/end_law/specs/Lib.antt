@@ -1,4 +1,0 @@
-pub mod Answers
-pub mod Tables
-pub mod Twins
-pub mod Laws

@@ -1,8 +1,0 @@
--- What the proofs of the crate, and of those above, share.
-pub mod Members
-pub mod Giving
-pub mod Steps
-pub mod Runs
-pub mod Starts
-pub mod Known
-pub mod Apart

@@ -1,5 +1,0 @@
-use Rattle.given_ids.proofs.Known.{given_after, known_after}
-use Rattle.given_ids.proofs.laws.given_where_known.Goals as goal
-
-pub returns : goal.returns
-returns c = λ start calls last value run. (known_after start calls last value run, given_after start calls last value run)

@@ -1,5 +1,0 @@
-use Rattle.given_ids.proofs.Apart.{learnt_given}
-use Rattle.given_ids.proofs.laws.learnt_ids_are_given.Goals as goal
-
-pub returns : goal.returns
-returns c = λ captured replayed. learnt_given captured replayed

@@ -1,3 +1,0 @@
-pub mod Counters
-pub mod Given
-pub mod Pairs

@@ -1,5 +1,0 @@
-use Rattle.job_laws.proofs.Jobs.{trial_sound_job}
-use Rattle.job_laws.proofs.laws.trials_can_be_replayed.Goals as goal
-
-pub returns : goal.returns
-returns c = trial_sound_job

@@ -1,0 +1,70 @@
+-- The steps of a command go through where the files are a capture.
+use Rattle.std.proofs.Common.{◌≡◌, ℕ, ◌+◌, ◌-◌, ◌≤◌, List, [], ◌∷◌, length, Option, None, Some, Ok, refl, sym, ap, ◌∙◌, arith}
+use Rattle.std.proofs.lemmas.Bool.{le-ltb}
+use Rattle.std.proofs.lemmas.List.Sums.{sum_by-cons}
+use Rattle.desk_values.specs.declared.capture.Captured.{Captured}
+use Rattle.desk_files.specs.Outside.{FileMap}
+use Rattle.desk_files.specs.Limits.{file_limit}
+use Rattle.replay_cli.specs.Limits.{capture_limit}
+use Rattle.capture_format.specs.declared.start.StartFile.{StartFile}
+use Rattle.prepare_plan.specs.Lists.{all_calls, by_stamp}
+use Rattle.law_commands.specs.Legality.First.{plan_of}
+use Rattle.law_commands.proofs.Legality.Taken.{plan_given}
+use Rattle.replay_cli.specs.declared.words.Command.TheVariants.{Run, Prepare}
+use Rattle.remap_ids.specs.Services.{ServicePair}
+use Rattle.replay_cli.specs.Decision.{Legal, ReadIn, RemapIn, SessionOf, ToReplay, ToTell, legal_from, remap_of, run_job}
+use Rattle.replay_cli.specs.Steps.{Reading, file_in, file_of}
+use Rattle.replay_cli.specs.FileNames.{session_names, start_name}
+use Rattle.law_commands.specs.Commands.Complete.{AreCapture, AreThere, HasRemap, CapturesArePrepared, CapturesAreReplayed, IsThere, LegalCapturesArePrepared, LegalCapturesAreReplayed, total}
+use Rattle.replay_cli.proofs.Endings.{verdict_is}
+
+-- a file that is there is read where there is room
+file_read : (files : FileMap) (room : ℕ) (name bytes : List ℕ) → IsThere files name bytes → length bytes ≤ room → file_in files room name ≡ Ok bytes
+file_read files room name bytes there small =
+    ap (λ (file : Option (List ℕ)). file_of file room name) there.0
+    ∙ rw (le-ltb file_limit (length bytes) there.1, le-ltb room (length bytes) small) refl
+
+-- so are those of the sessions
+all_read : (files : FileMap) (room session : ℕ) (names texts : List (List ℕ)) (lists : List (List Captured)) → AreThere files session names texts lists → total texts ≤ room → Reading SessionOf files room session names (Ok lists)
+all_read files room session [] [] [] there small = refl
+all_read files room session (name ∷ names) (bytes ∷ texts) (calls ∷ lists) there small =
+    let first : total (bytes ∷ texts) ≡ length bytes + total texts = sum_by-cons (λ b. length b) bytes texts in
+    (bytes, file_read files room name bytes there.0 (omega (arith, first, small)), (calls, there.1, (lists, all_read files (room - length bytes) (session + 1) names texts lists there.2 (omega (arith, first, small)), refl)))
+all_read files room session [] (bytes ∷ texts) lists there small = absurd there
+all_read files room session [] [] (calls ∷ lists) there small = absurd there
+all_read files room session (name ∷ names) [] lists there small = absurd there
+all_read files room session (name ∷ names) (bytes ∷ texts) [] there small = absurd there
+
+-- and those of a capture
+capture_read : (files : FileMap) (folder : List ℕ) (file : StartFile) (lists : List (List Captured)) → AreCapture files folder file lists → ReadIn files folder (Ok (record { start = file.start; sessions = lists }))
+capture_read files folder file lists are =
+    let room : length are.bytes ≤ capture_limit = omega (arith, are.together) in
+    let left : total are.texts ≤ capture_limit - length are.bytes = omega (arith, are.together) in (
+      record { file = file; left = capture_limit - length are.bytes },
+      (are.bytes, file_read files capture_limit (start_name folder) are.bytes are.there room, (file, are.start, refl)),
+      (lists, all_read files (capture_limit - length are.bytes) 0 (session_names folder file.sessions) are.texts lists are.sessions left, refl),
+    )
+
+-- and the remap file
+remap_read : (files : FileMap) (name : Option (List ℕ)) (services : List ServicePair) → HasRemap files name services → RemapIn files name (Ok services)
+remap_read files None services none = ap (λ pairs. Ok pairs) (sym none)
+remap_read files (Some name) services has = (has.0, file_read files file_limit name has.0 has.1 has.1.1, ap remap_of has.2)
+
+pub replayed : CapturesAreReplayed
+replayed words files folder out ways file lists services plan command are has is =
+    let legal : Legal = record { start = file.start; calls = plan.calls; facts = plan.facts } in
+    verdict_is words files (Run folder out ways) (ToReplay out (run_job legal services ways)) command
+    (record { start = file.start; sessions = lists }, capture_read files folder file lists are, (services, remap_read files ways.remap services has, (legal, ap (legal_from file.start) is, refl)))
+
+pub prepared : CapturesArePrepared
+prepared words files folder out file lists plan command are is =
+    verdict_is words files (Prepare folder out) (ToTell out plan.facts) command
+    (record { start = file.start; sessions = lists }, capture_read files folder file lists are, (record { start = file.start; calls = plan.calls; facts = plan.facts }, ap (legal_from file.start) is, refl))
+
+pub legal_replayed : LegalCapturesAreReplayed
+legal_replayed words files folder out ways file lists services command are has can =
+    replayed words files folder out ways file lists services (plan_of file.start (by_stamp (all_calls lists))) command are has (plan_given file.start lists can.0 can.1 can.2)
+
+pub legal_prepared : LegalCapturesArePrepared
+legal_prepared words files folder out file lists command are can =
+    prepared words files folder out file lists (plan_of file.start (by_stamp (all_calls lists))) command are (plan_given file.start lists can.0 can.1 can.2)

@@ -1,0 +1,3 @@
+-- On which words and files a command does its work.
+pub mod Complete
+pub mod Ends

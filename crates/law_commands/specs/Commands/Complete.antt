@@ -1,0 +1,80 @@
+-- When the files of a folder are a capture, told without the steps of a command.
+use Rattle.std.specs.Prelude.{◌≡◌, ℕ, ◌+◌, ◌≤◌, List, [], ◌∷◌, length, Option, None, Some, Ok}
+use Rattle.std.specs.FinMap.{get}
+use Rattle.std.specs.List.{sum_by}
+use Rattle.desk_values.specs.declared.capture.Captured.{Captured}
+use Rattle.desk_files.specs.Outside.{FileMap}
+use Rattle.desk_files.specs.Limits.{file_limit}
+use Rattle.replay_cli.specs.Limits.{capture_limit}
+use Rattle.capture_format.specs.declared.start.StartFile.{StartFile}
+use Rattle.capture_format.specs.StartFile.{IsStartFile}
+use Rattle.capture_format.specs.SessionFile.{IsSessionFile}
+use Rattle.prepare_plan.specs.Lists.{all_calls, by_stamp}
+use Rattle.captured_calls.specs.Verdict.{CanBeLegal, Preparation, verdict}
+use Rattle.captured_calls.specs.Facts.{facts_of}
+use Rattle.remap_ids.specs.Services.{ServicePair, services_of}
+use Rattle.replay_cli.specs.declared.options.Ways.{Ways}
+use Rattle.replay_cli.specs.declared.words.Command.TheVariants.{Run, Prepare}
+use Rattle.replay_cli.specs.Command.{command_of}
+use Rattle.replay_cli.specs.Decision.{Verdict, ToReplay, ToTell, run_job}
+use Rattle.replay_cli.specs.FileNames.{session_names, start_name}
+
+-- the file of this name is there, with these bytes, and within the limit of one file
+abbrev pub IsThere : FileMap → List ℕ → List ℕ → Type 0
+IsThere files name bytes = (get files name ≡ Some bytes) × (length bytes ≤ file_limit)
+
+-- the files of these names are those of the sessions from this one on, with these calls
+abbrev pub AreThere : FileMap → ℕ → List (List ℕ) → List (List ℕ) → List (List Captured) → Type 0
+AreThere files session [] [] [] = Unit {0}
+AreThere files session (name ∷ names) (bytes ∷ texts) (calls ∷ lists) = IsThere files name bytes
+    × IsSessionFile session bytes calls × AreThere files (session + 1) names texts lists
+AreThere files session names texts lists = ⊥
+
+-- how many bytes the texts have together
+abbrev pub total : List (List ℕ) → ℕ
+total texts = sum_by (λ bytes. length bytes) texts
+
+-- the files of a folder are this start and these calls of its sessions
+pub record AreCapture (files : FileMap) (folder : List ℕ) (file : StartFile) (lists : List (List Captured)) : Type 0 where
+  pub bytes : List ℕ
+  pub texts : List (List ℕ)
+  pub there : IsThere files (start_name folder) bytes
+  pub start : IsStartFile bytes file
+  pub sessions : AreThere files 0 (session_names folder file.sessions) texts lists
+  pub together : length bytes + total texts ≤ capture_limit
+
+-- the remap file is there and says these services; or none is named, and there are none
+abbrev pub HasRemap : FileMap → Option (List ℕ) → List ServicePair → Type 0
+HasRemap files None services = services ≡ []
+HasRemap files (Some name) services = (bytes : List ℕ) × IsThere files name bytes × (services_of bytes ≡ Ok services)
+
+abbrev pub CapturesAreReplayed : Type 0
+CapturesAreReplayed = (words : List (List ℕ)) (files : FileMap) (folder out : List ℕ) (ways : Ways)
+    (file : StartFile) (lists : List (List Captured)) (services : List ServicePair) (plan : Preparation)
+    → command_of words ≡ Some (Run folder out ways) → AreCapture files folder file lists
+    → HasRemap files ways.remap services → verdict file.start lists ≡ Ok plan
+    → Verdict words files
+    (Ok (ToReplay out (run_job (record { start = file.start; calls = plan.calls; facts = plan.facts }) services ways)))
+
+abbrev pub CapturesArePrepared : Type 0
+CapturesArePrepared =
+    (words : List (List ℕ)) (files : FileMap) (folder out : List ℕ) (file : StartFile) (lists : List (List Captured)) (plan : Preparation)
+    → command_of words ≡ Some (Prepare folder out) → AreCapture files folder file lists → verdict file.start lists ≡ Ok plan
+    → Verdict words files (Ok (ToTell out plan.facts))
+
+-- where some order of the calls is a legal capture, they are replayed, by stamp
+abbrev pub LegalCapturesAreReplayed : Type 0
+LegalCapturesAreReplayed = (words : List (List ℕ)) (files : FileMap) (folder out : List ℕ) (ways : Ways)
+    (file : StartFile) (lists : List (List Captured)) (services : List ServicePair)
+    → command_of words ≡ Some (Run folder out ways) → AreCapture files folder file lists
+    → HasRemap files ways.remap services → CanBeLegal file.start (all_calls lists)
+    → let calls = by_stamp (all_calls lists) in
+    Verdict words files
+    (Ok (ToReplay out (run_job (record { start = file.start; calls = calls; facts = facts_of file.start.schema calls }) services ways)))
+
+-- and which wait for which is told
+abbrev pub LegalCapturesArePrepared : Type 0
+LegalCapturesArePrepared =
+    (words : List (List ℕ)) (files : FileMap) (folder out : List ℕ) (file : StartFile) (lists : List (List Captured))
+    → command_of words ≡ Some (Prepare folder out) → AreCapture files folder file lists → CanBeLegal file.start (all_calls lists)
+    → Verdict words files (Ok (ToTell out (facts_of file.start.schema (by_stamp (all_calls lists)))))

@@ -1,0 +1,49 @@
+-- What a replay that is done has written. That its job can be replayed follows from what the words and the files come to.
+use Rattle.std.specs.Prelude.{◌≡◌, ℕ, List, length}
+use Rattle.desk_values.specs.declared.capture.Event.{Event}
+use Rattle.machine_model.specs.State.{State}
+use Rattle.replay_history.specs.declared.mode.Mode.{Mode}
+use Rattle.replay_history.specs.Texts.{journal_text}
+use Rattle.replay_job.specs.Job.{JobView}
+use Rattle.replay_job.specs.Replays.{IsSoundJob}
+use Rattle.replay_job.specs.Runs.{Stage, end_tables}
+use Rattle.replay_report.specs.JournalFile.{IsJournal}
+use Rattle.law_replays.specs.End.Answers.{HasNoWriteDivergence, IsAgain, WaitsForCommits}
+use Rattle.law_replays.specs.End.Laws.{IsAsCaptured}
+use Rattle.law_replays.specs.End.Tables.{AreCarried, CameTo}
+use Rattle.replay_cli.specs.declared.plan.Plan.{Plan}
+use Rattle.replay_cli.specs.Done.{IsDoneBy, IsQuiet}
+use Rattle.replay_cli.specs.Lines.{replayed_line}
+
+-- the journal that is written is that of the replay's history, and of no other
+abbrev pub JournalsTellTheirHistory : Type 0
+JournalsTellTheirHistory = (out : List ℕ) (job : JobView) (plan : Plan) (history : List Event) (last : Stage)
+    → IsDoneBy out job plan history last
+    → IsJournal (journal_text job.mode history) job.mode history
+    × ((mode : Mode) (other : List Event) → IsJournal (journal_text job.mode history) mode other
+    → (mode ≡ job.mode) × (other ≡ history))
+
+-- so the files and the line are those of one history alone
+abbrev pub PlansTellTheirHistory : Type 0
+PlansTellTheirHistory = (out : List ℕ) (job : JobView) (plan : Plan) (history other : List Event) (last later : Stage)
+    → IsDoneBy out job plan history last → IsDoneBy out job plan other later → other ≡ history
+
+-- where a run does again what the capture did, nothing differs: each reply is the captured one, and the tables are so too
+abbrev pub RunsAgainAreQuiet : Type 0
+RunsAgainAreQuiet = (out : List ℕ) (job : JobView) (plan : Plan) (history : List Event) (last : Stage)
+    → IsSoundJob job → IsAgain job → IsDoneBy out job plan history last
+    → IsQuiet plan × (plan.line ≡ replayed_line (length job.calls) 0) × IsAsCaptured job history last
+
+-- where calls wait for commits and no commit differs, the tables are the captured ones, each row number and each id replaced
+abbrev pub TablesAreCarried : Type 0
+TablesAreCarried = (out : List ℕ) (job : JobView) (plan : Plan) (history : List Event) (last : Stage) (captured : State)
+    → IsSoundJob job → WaitsForCommits job.mode
+    → IsDoneBy out job plan history last → HasNoWriteDivergence job history → CameTo job captured
+    → AreCarried last.pairs (end_tables captured) (end_tables last.state)
+
+-- so they are where the run ends with 0
+abbrev pub QuietRunsCarryTables : Type 0
+QuietRunsCarryTables = (out : List ℕ) (job : JobView) (plan : Plan) (history : List Event) (last : Stage) (captured : State)
+    → IsSoundJob job → WaitsForCommits job.mode
+    → IsDoneBy out job plan history last → IsQuiet plan → CameTo job captured
+    → AreCarried last.pairs (end_tables captured) (end_tables last.state)

@@ -1,0 +1,3 @@
+-- Which captures the verdict takes, and where it refuses the others.
+pub mod First
+pub mod Tables

@@ -1,0 +1,45 @@
+//! Laws of what the words and the files come to.
+
+ghost use Rattle.law_commands.specs.Commands.Complete.{CapturesArePrepared, CapturesAreReplayed, LegalCapturesArePrepared, LegalCapturesAreReplayed};
+ghost use Rattle.law_commands.specs.Commands.Ends.{JournalsTellTheirHistory, PlansTellTheirHistory, QuietRunsCarryTables, RunsAgainAreQuiet, TablesAreCarried};
+
+/// Completeness of `run`: where the words are its command, the files of the capture are there, each within the limit of one
+/// file and all within that of a capture, the remap file says services where one is named, and the calls are accepted, the calls are to be replayed. By the clause `each` of
+/// `replay_main` the command then ends with its work done, or by a fault or want of memory.
+pub fn captures_are_replayed()
+    ensures { CapturesAreReplayed }
+{}
+
+/// The same of `prepare`.
+pub fn captures_are_prepared()
+    ensures { CapturesArePrepared }
+{}
+
+/// And in the words of a legal capture alone: where some order of the calls is one, they are replayed, by stamp.
+pub fn legal_captures_are_replayed()
+    ensures { LegalCapturesAreReplayed }
+{}
+
+/// The same of `prepare`.
+pub fn legal_captures_are_prepared()
+    ensures { LegalCapturesArePrepared }
+{}
+
+/// The journal that is written tells one history: the one that the replay had, that is reported on and that the other files are of.
+pub fn journals_tell_their_history()
+    ensures journal { JournalsTellTheirHistory }
+    ensures plan { PlansTellTheirHistory }
+{}
+
+/// A run that does again what the capture did, in its order, from its start and by its services, prints that no call differs; each
+/// reply of its journal is the captured one, and it ends in the captured state, whose tables it writes.
+pub fn runs_again_are_quiet()
+    ensures { RunsAgainAreQuiet }
+{}
+
+/// In the captured order and in the order of commits, the tables that are written are the captured ones, each row number and each id
+/// replaced by the one that stands for it in the replay, where no commit differs; and so wherever no call differs.
+pub fn tables_are_carried()
+    ensures carried { TablesAreCarried }
+    ensures quiet { QuietRunsCarryTables }
+{}

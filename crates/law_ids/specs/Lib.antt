@@ -1,0 +1,4 @@
+pub mod Counters
+pub mod Given
+pub mod Pairs
+pub mod Replays

@@ -1,0 +1,2 @@
+-- The pairs of a replay.
+pub mod Laws

@@ -1,0 +1,2 @@
+-- What the report on a replay names.
+pub mod Laws

@@ -1,0 +1,3 @@
+-- Which ids a step tells.
+pub mod Own
+pub mod Laws

@@ -1,0 +1,4 @@
+pub mod Rows
+pub mod Renaming
+pub mod Ranks
+pub mod Applies

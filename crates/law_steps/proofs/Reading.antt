@@ -1,0 +1,442 @@
+-- What a transaction that only reads sees.
+use Rattle.std.proofs.Common.{◌≡◌, ◌∙◌, ◌≤◌, inl, inr, ℕ, Bool, true, false, List, [], ◌∷◌, length, map, set, get_or, refl, sym, ap, subst, arith}
+use Rattle.std.proofs.lemmas.Bool.{cases_eq, cases_lt}
+use Rattle.std.specs.Prelude.{◌&&◌, ◌||◌, if◌then◌else◌, is_none, is_some, IfSome, IsSomeAnd, Option, None, Some}
+use Rattle.std.specs.List.{AllByRecursion}
+use Rattle.desk_values.specs.declared.call.Call.{Call}
+use Rattle.desk_values.specs.declared.call.Reply.{Reply}
+use Rattle.desk_values.specs.declared.value.Image.{Image}
+use Rattle.desk_values.specs.declared.value.Value.{Value}
+use Rattle.desk_values.specs.declared.fault.Fault.{Fault}
+use Rattle.desk_values.specs.declared.fault.Fault.TheVariants.{AlreadyConnected, NotConnected, ReadOnly, UnderWay, UnknownService}
+use Rattle.desk_schema.specs.declared.schema.Rights.{Rights}
+use Rattle.desk_schema.specs.Schema.{SchemaView, columns_of}
+use Rattle.desk_schema.specs.Start.{StartView}
+use Rattle.sql_tree.specs.declared.tree.Key.{Key}
+use Rattle.sql_tree.specs.Plain.{Asked, Term, Plan, select, next, insert, update, delete, commit, rollback, set_read_only}
+use Rattle.machine_model.specs.declared.session.Session.{Session}
+use Rattle.machine_model.specs.Answer.{Answer, answer, delete_causes, delete_effect, done, ended, executed, insert_causes, insert_effect, new_row, reply_of, ruled, select_causes, select_effect, unchanged, unless, update_causes, update_effect}
+use Rattle.machine_model.specs.declared.causes.Causes.{Causes}
+use Rattle.machine_model.specs.declared.effect.Effect.{Effect}
+use Rattle.machine_model.specs.Causes.{connect_fault, disconnect_fault, is_read_only, is_under_way, needs_write_access, ranked, statement_fault}
+use Rattle.machine_model.specs.Draws.{draws_of}
+use Rattle.desk_values.specs.declared.call.Outcome.TheVariants.{Connected, Disconnected, Marked}
+use Rattle.machine_model.specs.Found.{Environment}
+use Rattle.machine_model.specs.Request.{Request, connect, disconnect, unreadable, unsound, statement, request_of, table_in}
+use Rattle.machine_model.specs.State.{State, disconnected, opening, session_at}
+use Rattle.machine_model.specs.Step.{answer_in, committed_in, reply_in, run, session_after, snapshot_after, step, with_commit}
+use Rattle.machine_model.specs.Rows.{lay, lay_all, of_table}
+use Rattle.machine_model.specs.View.{View, commits_seen, others, plain_view, rows_seen, view_of, with_table}
+use Rattle.machine_model.proofs.Members.{each_repeated, each_set, each_weaker, one_of}
+use Rattle.law_steps.specs.Reading.{IsReading, MarkedSessionsRead, OnlyMarkedSessionsRead, Requests, ReadersAreAnsweredTheSame, ReadersAreLeft, ReadersSeeTheSame, SnapshotsAreWithin, ends_transaction, rows_in}
+use Rattle.law_steps.proofs.Leaving.{Keeps, beyond_at, commits_longer, left_at, others_are_left, runs_add, same_session, sessions_stay, taken_in_front, view_own, view_reads, view_rights}
+
+-- ---- a statement of a session that reads leaves it as it was
+
+abbrev KeepsOn : View → Answer → Type 0
+KeepsOn view a = ends_transaction a.reply.outcome ≡ false → Keeps view a
+
+unless_on : (view : View) (draws : List Value) (fault : Option Fault) (a : Answer) → KeepsOn view a → KeepsOn view (unless view draws fault a)
+unless_on view draws None a keeps = keeps
+unless_on view draws (Some fault) a keeps = λ goes. record { made = refl; rights = refl; reads_only = refl; own = refl }
+
+-- where there is a fault, whatever the answer else
+forbidden : (view : View) (draws : List Value) (fault : Option Fault) (a : Answer) → is_some fault ≡ true → KeepsOn view (unless view draws fault a)
+forbidden view draws None a some = absurd (let never : false ≡ true = some in cc)
+forbidden view draws (Some fault) a some = λ goes. record { made = refl; rights = refl; reads_only = refl; own = refl }
+
+module _ (view : View) (reads : view.reads_only ≡ true) where
+  told_first : (none needs marks : Bool) (last : Option Fault) → needs ≡ true → is_some (if none then Some NotConnected else if needs && (marks || view.reads_only) then Some ReadOnly else last) ≡ true
+  told_first true needs marks last is = refl
+  told_first false needs true last is = rw is refl
+  told_first false needs false last is = rw (is, reads) refl
+
+  no_writing : (plan : Plan ℕ) → needs_write_access plan ≡ true → is_some (statement_fault view plan) ≡ true
+  unfolding statement_fault
+  no_writing plan needs = told_first (is_none view.rights) (needs_write_access plan) (is_read_only view.rights) _ needs
+
+  module _ (schema : SchemaView) (next_values : List ℕ) (row : ℕ) (env : Environment) where
+    abbrev does : Plan ℕ → Answer
+    does plan = executed schema view next_values row env plan
+
+    writes : (plan : Plan ℕ) → needs_write_access plan ≡ true → KeepsOn view (unless view [] (statement_fault view plan) (does plan))
+    writes plan needs = forbidden view [] (statement_fault view plan) (does plan) (no_writing plan needs)
+
+    planned : (plan : Plan ℕ) → KeepsOn view (unless view [] (statement_fault view plan) (does plan))
+    planned (select table asked condition keys true) = writes (select table asked condition keys true) refl
+    planned (select table asked condition keys false) =
+        let plan = select table asked condition keys false in
+        unless_on view [] (statement_fault view plan) (does plan)
+        (unless_on view [] (ranked (select_causes env view asked condition false)) (done table view [] (select_effect env view asked condition keys false)) (λ goes. record { made = refl; rights = refl; reads_only = refl; own = refl }))
+    planned (next sequence) = writes (next sequence) refl
+    planned (insert table named entries) = writes (insert table named entries) refl
+    planned (update table changes condition) = writes (update table changes condition) refl
+    planned (delete table condition) = writes (delete table condition) refl
+    planned commit = unless_on view [] (statement_fault view commit) (does commit) (λ goes. absurd (cc))
+    planned rollback = unless_on view [] (statement_fault view rollback) (does rollback) (λ goes. absurd (cc))
+    planned set_read_only = unless_on view [] (statement_fault view set_read_only) (does set_read_only) (λ goes. record { made = refl; rights = refl; reads_only = sym reads; own = refl })
+
+  module _ (connected : is_some view.rights ≡ true) (schema : SchemaView) (next_values : List ℕ) (row : ℕ) where
+    already : (service : Option Rights) → is_some (connect_fault view service) ≡ true
+    already service = rw connected refl
+
+    answered : (request : Request) → KeepsOn view (answer schema view next_values row request)
+    answered (connect service) = forbidden view [] (connect_fault view service) (record (unchanged view (reply_of Connected [] None)) { rights = service }) (already service)
+    answered disconnect = unless_on view [] (disconnect_fault view) (ended None Disconnected) (λ goes. absurd (cc))
+    answered unreadable = λ goes. record { made = refl; rights = refl; reads_only = refl; own = refl }
+    answered (unsound table fault) = λ goes. record { made = refl; rights = refl; reads_only = refl; own = refl }
+    answered (statement plan binds) = planned schema next_values row (record { level = schema.level; binds = binds }) plan
+
+-- ---- a step
+
+some_at : (snapshot : Option ℕ) (P : ℕ → Type 0) → IsSomeAnd snapshot P → is_some snapshot ≡ true
+some_at None P is = absurd is
+some_at (Some n) P is = refl
+
+module _ (state : State) (session : ℕ) (is : IsReading state session) where
+  own_step : (call : Call) → ends_transaction (reply_in state session call).outcome ≡ false → session_at (step state session call) session ≡ session_at state session
+  own_step call goes =
+      let request = request_of state.start.schema call in
+      let table = table_in request in
+      let a = answer_in state session call in
+      let view = view_of state session table in
+      let reads : view.reads_only ≡ true = view_reads state session table ∙ some_at (session_at state session).snapshot _ is.commit in
+      let connected : is_some view.rights ≡ true = ap is_some (view_rights state session table) ∙ is.connected in
+      let keeps : Keeps view a = answered view reads connected state.start.schema state.next_values state.next_row request goes in
+      let left = session_after (session_at state session) (length state.commits) a in
+      let same : left ≡ session_at state session = same_session (session_at state session) (length state.commits) a (keeps.rights ∙ view_rights state session table) (keeps.reads_only ∙ view_reads state session table) (keeps.own ∙ view_own state session table) in
+      ap (λ (sessions : List Session). get_or sessions session disconnected) (sessions_stay state session left same)
+
+  any_step : (by : ℕ) (call : Call) → (by ≡ session → ends_transaction (reply_in state by call).outcome ≡ false) → session_at (step state by call) session ≡ session_at state session
+  any_step by call goes = elim (cases_eq session by) [
+    | inl same ↦ subst (λ (s : ℕ). session_at (step state s call) session ≡ session_at state session) same (own_step call (subst (λ (s : ℕ). ends_transaction (reply_in state s call).outcome ≡ false) (sym same) (goes (sym same))))
+    | inr apart ↦ others_are_left state by session call apart
+  ]
+
+within_more : (snapshot : Option ℕ) (few many : ℕ) → few ≤ many → IsSomeAnd snapshot (λ n. n ≤ few) → IsSomeAnd snapshot (λ n. n ≤ many)
+within_more None few many le is = is
+within_more (Some n) few many le is = omega (arith, is, le)
+
+reads_on : (state : State) (session by : ℕ) (call : Call) → IsReading state session → session_at (step state by call) session ≡ session_at state session → IsReading (step state by call) session
+reads_on state session by call is same = record {
+  connected = ap (λ (s : Session). is_some s.rights) same ∙ is.connected;
+  commit = subst (λ (s : Session). IsSomeAnd s.snapshot (λ n. n ≤ length (step state by call).commits)) (sym same)
+      (within_more (session_at state session).snapshot (length state.commits) (length (step state by call).commits) (commits_longer state.commits (committed_in (reply_in state by call).outcome)) is.commit);
+}
+
+pub readers_are_left : ReadersAreLeft
+readers_are_left state session [] is goes = (refl, is)
+readers_are_left state session (call ∷ calls) is goes =
+    let same = any_step state session is call.0 call.1 goes.0 in
+    let rest = readers_are_left (step state call.0 call.1) session calls (reads_on state session call.0 call.1 is same) goes.1 in
+    (rest.0 ∙ same, rest.1)
+
+-- ---- what is seen
+
+seen_in_front : (snapshot : Option ℕ) (commits : List (List Image)) (images : List Image) → IsSomeAnd snapshot (λ n. n ≤ length commits) → commits_seen snapshot (with_commit commits images) ≡ commits_seen snapshot commits
+seen_in_front None commits images is = absurd is
+seen_in_front (Some n) commits images is = taken_in_front n commits images is
+
+rows_stay : (state : State) (session by : ℕ) (call : Call) (table : ℕ) → IsReading state session → session_at (step state by call) session ≡ session_at state session → rows_in (step state by call) session table ≡ rows_in state session table
+rows_stay state session by call table is same =
+    let before = session_at state session in
+    let images = committed_in (reply_in state by call).outcome in
+    ap (λ (s : Session). rows_seen state.start.rows (with_commit state.commits images) s table) same
+    ∙ ap (λ (commits : List (List Image)). lay (lay_all (of_table table state.start.rows) (map (of_table table) commits)) (of_table table before.own.changes)) (seen_in_front before.snapshot state.commits images is.commit)
+
+pub readers_see_the_same : ReadersSeeTheSame
+readers_see_the_same state session table [] is goes = refl
+readers_see_the_same state session table (call ∷ calls) is goes =
+    let same = any_step state session is call.0 call.1 goes.0 in
+    readers_see_the_same (step state call.0 call.1) session table calls (reads_on state session call.0 call.1 is same) goes.1
+    ∙ rows_stay state session call.0 call.1 table is same
+
+-- ---- what is answered
+
+unless_same : (view other : View) (draws : List Value) (fault : Option Fault) (a b : Answer) → a.reply ≡ b.reply → (unless view draws fault a).reply ≡ (unless other draws fault b).reply
+unless_same view other draws None a b same = same
+unless_same view other draws (Some fault) a b same = refl
+
+module _ (table : ℕ) (asked : Asked ℕ) (condition : Option (Term ℕ)) (keys : List (Key ℕ)) (binds : List Value) where
+  abbrev plain : Plan ℕ
+  plain = select table asked condition keys false
+
+  -- the reply to a SELECT that locks no row, by what it depends on
+  abbrev selected : SchemaView → Session → List Image → Reply
+  selected schema session rows = (answer schema (with_table (plain_view session) [] table rows) [] 0 (statement plain binds)).reply
+
+  alone : (schema : SchemaView) (session : Session) (rows : List Image) (beside : List Session) (next_values : List ℕ) (row : ℕ) → (answer schema (with_table (plain_view session) beside table rows) next_values row (statement plain binds)).reply ≡ selected schema session rows
+  unfolding statement_fault
+  alone schema session rows beside next_values row =
+      let env : Environment = record { level = schema.level; binds = binds } in
+      let view = with_table (plain_view session) beside table rows in
+      let other = with_table (plain_view session) [] table rows in
+      unless_same view other [] (statement_fault view plain) (executed schema view next_values row env plain) (executed schema other [] 0 env plain)
+      (unless_same view other [] (ranked (select_causes env view asked condition false)) (done table view [] (select_effect env view asked condition keys false)) (done table other [] (select_effect env other asked condition keys false)) refl)
+
+  selects : (state : State) (session : ℕ) (call : Call) → Requests state call plain binds → reply_in state session call ≡ selected state.start.schema (session_at state session) (rows_in state session table)
+  selects state session call asks =
+      subst (λ (r : Request). (answer state.start.schema (view_of state session (table_in r)) state.next_values state.next_row r).reply ≡ selected state.start.schema (session_at state session) (rows_in state session table)) (sym asks)
+      (alone state.start.schema (session_at state session) (rows_in state session table) (others state.sessions session) state.next_values state.next_row)
+
+pub readers_are_answered_the_same : ReadersAreAnsweredTheSame
+readers_are_answered_the_same state session calls call table asked condition keys binds is goes asks =
+    let new = run state calls in
+    let start : new.start ≡ state.start = (runs_add state calls).start in
+    let still : Requests new call (plain table asked condition keys binds) binds = subst (λ (s : StartView). request_of s.schema call ≡ statement (plain table asked condition keys binds) binds) (sym start) asks in
+    selects table asked condition keys binds new session call still
+    ∙ ap (λ (s : StartView). selected table asked condition keys binds s.schema (session_at new session) (rows_in new session table)) start
+    ∙ ap (λ (s : Session). selected table asked condition keys binds state.start.schema s (rows_in new session table)) (readers_are_left state session calls is goes).0
+    ∙ ap (λ (rows : List Image). selected table asked condition keys binds state.start.schema (session_at state session) rows) (readers_see_the_same state session table calls is goes)
+    ∙ sym (selects table asked condition keys binds state session call asks)
+
+-- ---- every snapshot is one of a session that reads
+
+abbrev ReadsConnected : Answer → Type 0
+ReadsConnected a = a.reads_only ≡ true → is_some a.rights ≡ true
+
+unless_when : (view : View) (draws : List Value) (fault : Option Fault) (a : Answer) → (view.reads_only ≡ true → is_some view.rights ≡ true) → (fault ≡ None → ReadsConnected a) → ReadsConnected (unless view draws fault a)
+unless_when view draws None a before keeps = keeps refl
+unless_when view draws (Some fault) a before keeps = before
+
+rights_there : (rights : Option Rights) (rest : Option Fault) → (if is_none rights then Some NotConnected else rest) ≡ None → is_some rights ≡ true
+rights_there None rest is = absurd (cc)
+rights_there (Some rights) rest is = refl
+
+has_rights : (view : View) (plan : Plan ℕ) → statement_fault view plan ≡ None → is_some view.rights ≡ true
+unfolding statement_fault
+has_rights view plan is = rights_there view.rights _ is
+
+service_there : (rights service : Option Rights) → (if is_some rights then Some AlreadyConnected else if is_none service then Some UnknownService else None) ≡ None → is_some service ≡ true
+service_there None None is = absurd (cc)
+service_there None (Some service) is = refl
+service_there (Some rights) service is = absurd (cc)
+
+module _ (schema : SchemaView) (view : View) (before : view.reads_only ≡ true → is_some view.rights ≡ true) (next_values : List ℕ) (row : ℕ) where
+  ruled_connected : (table : ℕ) (draws : List Value) (causes : Causes) (effect : Effect) → is_some view.rights ≡ true → ReadsConnected (ruled table view draws causes effect)
+  ruled_connected table draws causes effect there = unless_when view draws (ranked causes) (done table view draws effect) before (λ none reads. there)
+
+  executed_connected : (env : Environment) (plan : Plan ℕ) → is_some view.rights ≡ true → ReadsConnected (executed schema view next_values row env plan)
+  executed_connected env (select table asked condition keys for_update) there = ruled_connected table [] (select_causes env view asked condition for_update) (select_effect env view asked condition keys for_update) there
+  executed_connected env (next sequence) there = λ reads. there
+  executed_connected env (insert table named entries) there =
+      let draws = draws_of (insert table named entries) next_values in
+      let new = new_row env (columns_of schema.tables table) draws row table named entries in
+      ruled_connected table draws (insert_causes env (columns_of schema.tables table) view draws new entries) (insert_effect new) there
+  executed_connected env (update table changes condition) there = ruled_connected table [] (update_causes env (columns_of schema.tables table) view changes condition) (update_effect env view changes condition) there
+  executed_connected env (delete table condition) there = ruled_connected table [] (delete_causes env view condition) (delete_effect env view condition) there
+  executed_connected env commit there = λ reads. there
+  executed_connected env rollback there = λ reads. there
+  executed_connected env set_read_only there = λ reads. there
+
+  answer_connected : (request : Request) → ReadsConnected (answer schema view next_values row request)
+  answer_connected (connect service) = unless_when view [] (connect_fault view service) (record (unchanged view (reply_of Connected [] None)) { rights = service }) before (λ none reads. service_there view.rights service none)
+  answer_connected disconnect = unless_when view [] (disconnect_fault view) (ended None Disconnected) before (λ none reads. absurd (cc))
+  answer_connected unreadable = before
+  answer_connected (unsound table fault) = before
+  answer_connected (statement plan binds) =
+      let env : Environment = record { level = schema.level; binds = binds } in
+      unless_when view [] (statement_fault view plan) (executed schema view next_values row env plan) before (λ none. executed_connected env plan (has_rights view plan none))
+
+-- the session reads at one of so many commits, if at any, and is connected then
+record IsWithin (commits : ℕ) (session : Session) : Type 0 where
+  commit : IfSome session.snapshot (λ n. n ≤ commits)
+  connected : is_some session.snapshot ≡ true → is_some session.rights ≡ true
+
+commit_after : (reads : Bool) (snapshot : Option ℕ) (commits : ℕ) → IfSome snapshot (λ n. n ≤ commits) → IfSome (snapshot_after reads snapshot commits) (λ n. n ≤ commits)
+commit_after false snapshot commits is = tt
+commit_after true None commits is = omega arith
+commit_after true (Some n) commits is = is
+
+reads_after : (reads : Bool) (snapshot : Option ℕ) (commits : ℕ) → is_some (snapshot_after reads snapshot commits) ≡ true → reads ≡ true
+reads_after false snapshot commits is = absurd (cc)
+reads_after true snapshot commits is = refl
+
+within_less : (snapshot : Option ℕ) (few many : ℕ) → few ≤ many → IfSome snapshot (λ n. n ≤ few) → IfSome snapshot (λ n. n ≤ many)
+within_less None few many le is = tt
+within_less (Some n) few many le is = omega (arith, is, le)
+
+weaker_within : (few many : ℕ) → few ≤ many → (session : Session) → IsWithin few session → IsWithin many session
+weaker_within few many le session is = record { commit = within_less session.snapshot few many le is.commit; connected = is.connected }
+
+nobody_within : IsWithin 0 disconnected
+nobody_within = record { commit = tt; connected = λ never. absurd (cc) }
+
+abbrev AreWithin : State → Type 0
+AreWithin state = AllByRecursion (IsWithin (length state.commits)) state.sessions
+
+module _ (state : State) (are : AreWithin state) where
+  at_session : (session : ℕ) → IsWithin (length state.commits) (session_at state session)
+  at_session session = one_of (IsWithin (length state.commits)) state.sessions session disconnected (weaker_within 0 (length state.commits) (omega arith) disconnected nobody_within) are
+
+  view_connected : (session : ℕ) (table : Option ℕ) → (view_of state session table).reads_only ≡ true → is_some (view_of state session table).rights ≡ true
+  view_connected session table reads = ap is_some (view_rights state session table) ∙ (at_session session).connected (sym (view_reads state session table) ∙ reads)
+
+  within_step : (session : ℕ) (call : Call) → AreWithin (step state session call)
+  within_step session call =
+      let request = request_of state.start.schema call in
+      let a = answer_in state session call in
+      let before = session_at state session in
+      let commits = length state.commits in
+      let left = session_after before commits a in
+      let now : IsWithin commits left = record {
+        commit = commit_after a.reads_only before.snapshot commits (at_session session).commit;
+        connected = λ some. answer_connected state.start.schema (view_of state session (table_in request)) (view_connected session (table_in request)) state.next_values state.next_row request (reads_after a.reads_only before.snapshot commits some);
+      } in
+      each_weaker (IsWithin commits) (IsWithin (length (step state session call).commits)) (weaker_within commits (length (step state session call).commits) (commits_longer state.commits (committed_in a.reply.outcome)))
+      (set state.sessions session left) (each_set (IsWithin commits) state.sessions session left now are)
+
+within_run : (state : State) (calls : List (ℕ × Call)) → AreWithin state → AreWithin (run state calls)
+within_run state [] are = are
+within_run state (call ∷ calls) are = within_run (step state call.0 call.1) calls (within_step state are call.0 call.1)
+
+some_here : (snapshot : Option ℕ) (commits n : ℕ) → snapshot ≡ Some n → IfSome snapshot (λ k. k ≤ commits) → IsSomeAnd snapshot (λ k. k ≤ commits)
+some_here None commits n is le = cc
+some_here (Some k) commits n is le = le
+
+pub snapshots_are_within : SnapshotsAreWithin
+snapshots_are_within start calls session n is =
+    let state = run (opening start) calls in
+    let here = at_session state (within_run (opening start) calls (each_repeated (IsWithin 0) 64 disconnected nobody_within)) session in
+    record { connected = here.connected (ap is_some is); commit = some_here (session_at state session).snapshot (length state.commits) n is here.commit }
+
+-- ---- how a transaction comes to read
+
+-- the answer marks a session that is connected and did not read before
+record Begins (view : View) (a : Answer) : Type 0 where
+  reads : a.reads_only ≡ true
+  before : view.reads_only ≡ false
+  connected : is_some a.rights ≡ true
+
+abbrev BeginsIfMarked : View → Answer → Type 0
+BeginsIfMarked view a = a.reply.outcome ≡ Marked → Begins view a
+
+unless_marked : (view : View) (draws : List Value) (fault : Option Fault) (a : Answer) → (fault ≡ None → BeginsIfMarked view a) → BeginsIfMarked view (unless view draws fault a)
+unless_marked view draws None a begins = begins refl
+unless_marked view draws (Some fault) a begins = λ never. absurd (cc)
+
+first_false : (a b c d : Bool) → (a || b || c || d) ≡ false → a ≡ false
+first_false true b c d is = absurd (let never : true ≡ false = is in cc)
+first_false false b c d is = refl
+
+not_under_way : (none under : Bool) → (if none then Some NotConnected else if under then Some UnderWay else None) ≡ None → under ≡ false
+not_under_way true under is = absurd (cc)
+not_under_way false true is = absurd (cc)
+not_under_way false false is = refl
+
+marks_open : (view : View) → statement_fault view set_read_only ≡ None → view.reads_only ≡ false
+unfolding statement_fault
+marks_open view is = first_false view.reads_only _ _ _ (not_under_way (is_none view.rights) (is_under_way view) is)
+
+module _ (schema : SchemaView) (view : View) (next_values : List ℕ) (row : ℕ) where
+  ruled_marked : (table : ℕ) (draws : List Value) (causes : Causes) (effect : Effect) → (effect.outcome ≡ Marked → ⊥) → BeginsIfMarked view (ruled table view draws causes effect)
+  ruled_marked table draws causes effect never = unless_marked view draws (ranked causes) (done table view draws effect) (λ none is. absurd (never is))
+
+  executed_marked : (env : Environment) (plan : Plan ℕ) → statement_fault view plan ≡ None → BeginsIfMarked view (executed schema view next_values row env plan)
+  executed_marked env (select table asked condition keys for_update) none = ruled_marked table [] (select_causes env view asked condition for_update) (select_effect env view asked condition keys for_update) (λ never. cc)
+  executed_marked env (next sequence) none = λ never. absurd (cc)
+  executed_marked env (insert table named entries) none =
+      let draws = draws_of (insert table named entries) next_values in
+      let new = new_row env (columns_of schema.tables table) draws row table named entries in
+      ruled_marked table draws (insert_causes env (columns_of schema.tables table) view draws new entries) (insert_effect new) (λ never. cc)
+  executed_marked env (update table changes condition) none = ruled_marked table [] (update_causes env (columns_of schema.tables table) view changes condition) (update_effect env view changes condition) (λ never. cc)
+  executed_marked env (delete table condition) none = ruled_marked table [] (delete_causes env view condition) (delete_effect env view condition) (λ never. cc)
+  executed_marked env commit none = λ never. absurd (cc)
+  executed_marked env rollback none = λ never. absurd (cc)
+  executed_marked env set_read_only none = λ is. record { reads = refl; before = marks_open view none; connected = has_rights view set_read_only none }
+
+  answer_marked : (request : Request) → BeginsIfMarked view (answer schema view next_values row request)
+  answer_marked (connect service) = unless_marked view [] (connect_fault view service) (record (unchanged view (reply_of Connected [] None)) { rights = service }) (λ none never. absurd (cc))
+  answer_marked disconnect = unless_marked view [] (disconnect_fault view) (ended None Disconnected) (λ none never. absurd (cc))
+  answer_marked unreadable = λ never. absurd (cc)
+  answer_marked (unsound table fault) = λ never. absurd (cc)
+  answer_marked (statement plan binds) =
+      let env : Environment = record { level = schema.level; binds = binds } in
+      unless_marked view [] (statement_fault view plan) (executed schema view next_values row env plan) (λ none. executed_marked env plan none)
+
+begun : (reads : Bool) (snapshot : Option ℕ) (commits : ℕ) → reads ≡ true → is_some snapshot ≡ false → snapshot_after reads snapshot commits ≡ Some commits
+begun true None commits is before = refl
+begun true (Some n) commits is before = absurd (let never : true ≡ false = before in cc)
+begun false snapshot commits is before = absurd (let never : false ≡ true = is in cc)
+
+pub marked_sessions_read : MarkedSessionsRead
+marked_sessions_read state session call within is =
+    let request = request_of state.start.schema call in
+    let table = table_in request in
+    let view = view_of state session table in
+    let a = answer_in state session call in
+    let new = step state session call in
+    let before = session_at state session in
+    let begins : Begins view a = answer_marked state.start.schema view state.next_values state.next_row request is in
+    let left = left_at state session call within in
+    let snapshot : (session_at new session).snapshot ≡ Some (length state.commits) =
+    ap (λ (s : Session). s.snapshot) left ∙ begun a.reads_only before.snapshot (length state.commits) begins.reads (sym (view_reads state session table) ∙ begins.before) in (
+      record {
+        connected = ap (λ (s : Session). is_some s.rights) left ∙ begins.connected;
+        commit = subst (λ (o : Option ℕ). IsSomeAnd o (λ n. n ≤ length new.commits)) (sym snapshot) (commits_longer state.commits (committed_in a.reply.outcome));
+      },
+      snapshot,
+    )
+
+-- ---- and comes to read only so
+
+abbrev OnlyMarked : View → Answer → Type 0
+OnlyMarked view a = view.reads_only ≡ false → a.reads_only ≡ true → a.reply.outcome ≡ Marked
+
+-- the answer reads only where the view does
+as_before : (view : View) (reads : Bool) {X : Type 0} → reads ≡ view.reads_only → view.reads_only ≡ false → reads ≡ true → X
+as_before view reads same before is = absurd (let never : false ≡ true = sym before ∙ sym same ∙ is in cc)
+
+unless_only : (view : View) (draws : List Value) (fault : Option Fault) (a : Answer) → OnlyMarked view a → OnlyMarked view (unless view draws fault a)
+unless_only view draws None a only = only
+unless_only view draws (Some fault) a only = as_before view view.reads_only refl
+
+module _ (schema : SchemaView) (view : View) (next_values : List ℕ) (row : ℕ) where
+  ruled_only : (table : ℕ) (draws : List Value) (causes : Causes) (effect : Effect) → OnlyMarked view (ruled table view draws causes effect)
+  ruled_only table draws causes effect = unless_only view draws (ranked causes) (done table view draws effect) (as_before view view.reads_only refl)
+
+  executed_only : (env : Environment) (plan : Plan ℕ) → OnlyMarked view (executed schema view next_values row env plan)
+  executed_only env (select table asked condition keys for_update) = ruled_only table [] (select_causes env view asked condition for_update) (select_effect env view asked condition keys for_update)
+  executed_only env (next sequence) = as_before view view.reads_only refl
+  executed_only env (insert table named entries) =
+      let draws = draws_of (insert table named entries) next_values in
+      let new = new_row env (columns_of schema.tables table) draws row table named entries in
+      ruled_only table draws (insert_causes env (columns_of schema.tables table) view draws new entries) (insert_effect new)
+  executed_only env (update table changes condition) = ruled_only table [] (update_causes env (columns_of schema.tables table) view changes condition) (update_effect env view changes condition)
+  executed_only env (delete table condition) = ruled_only table [] (delete_causes env view condition) (delete_effect env view condition)
+  executed_only env commit = λ before never. absurd (let no : false ≡ true = never in cc)
+  executed_only env rollback = λ before never. absurd (let no : false ≡ true = never in cc)
+  executed_only env set_read_only = λ before is. refl
+
+  answer_only : (request : Request) → OnlyMarked view (answer schema view next_values row request)
+  answer_only (connect service) = unless_only view [] (connect_fault view service) (record (unchanged view (reply_of Connected [] None)) { rights = service }) (as_before view view.reads_only refl)
+  answer_only disconnect = unless_only view [] (disconnect_fault view) (ended None Disconnected) (λ before never. absurd (let no : false ≡ true = never in cc))
+  answer_only unreadable = as_before view view.reads_only refl
+  answer_only (unsound table fault) = as_before view view.reads_only refl
+  answer_only (statement plan binds) =
+      let env : Environment = record { level = schema.level; binds = binds } in
+      unless_only view [] (statement_fault view plan) (executed schema view next_values row env plan) (executed_only env plan)
+
+module _ (state : State) (session n : ℕ) (call : Call) (reads_not : (session_at state session).snapshot ≡ None) where
+  own_mark : (session_at (step state session call) session).snapshot ≡ Some n → (reply_in state session call).outcome ≡ Marked
+  own_mark reads = elim (cases_lt session (length state.sessions)) [
+    | inl within ↦ (
+        let request = request_of state.start.schema call in
+        let table = table_in request in
+        let a = answer_in state session call in
+        let before = session_at state session in
+        let now : snapshot_after a.reads_only before.snapshot (length state.commits) ≡ Some n = sym (ap (λ (s : Session). s.snapshot) (left_at state session call within)) ∙ reads in
+        answer_only state.start.schema (view_of state session table) state.next_values state.next_row request
+        (view_reads state session table ∙ ap is_some reads_not) (reads_after a.reads_only before.snapshot (length state.commits) (ap is_some now)))
+    | inr past ↦ absurd (let never : None ≡ Some n = sym (ap (λ (s : Session). s.snapshot) (beyond_at state session call past)) ∙ reads in cc)
+  ]
+
+pub only_marked_sessions_read : OnlyMarkedSessionsRead
+only_marked_sessions_read state session by n call reads_not reads = elim (cases_eq session by) [
+  | inl same ↦ (
+    sym same,
+    subst (λ (s : ℕ). (reply_in state s call).outcome ≡ Marked) same
+        (own_mark state session n call reads_not (subst (λ (s : ℕ). (session_at (step state s call) session).snapshot ≡ Some n) (sym same) reads)),
+  )
+  | inr apart ↦ absurd (let never : None ≡ Some n = sym reads_not ∙ sym (ap (λ (s : Session). s.snapshot) (others_are_left state by session call apart)) ∙ reads in cc)
+]

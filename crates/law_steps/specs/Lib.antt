@@ -1,0 +1,5 @@
+pub mod Fits
+pub mod Held
+pub mod Holding
+pub mod Leaving
+pub mod Reading

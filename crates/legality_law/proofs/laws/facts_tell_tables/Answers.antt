@@ -1,8 +1,0 @@
-use Rattle.legality_law.proofs.Tables.{references_told, writes_told}
-use Rattle.legality_law.proofs.laws.facts_tell_tables.Goals as goal
-
-pub returns-clause-writes : goal.returns-clause-writes
-returns-clause-writes c = writes_told
-
-pub returns-clause-references : goal.returns-clause-references
-returns-clause-references c = references_told

@@ -1,5 +1,0 @@
-use Rattle.pairs_law.proofs.Learnt.{pairs_learnt}
-use Rattle.pairs_law.proofs.laws.pairs_are_learnt.Goals as goal
-
-pub returns : goal.returns
-returns c = pairs_learnt

@@ -1,5 +1,0 @@
-use Rattle.renamed_rows.proofs.Totals.{same_total}
-use Rattle.renamed_rows.proofs.laws.totals_under_renaming.Goals as goal
-
-pub returns : goal.returns
-returns c = λ pairs level binds sent t rows others given bags. same_total pairs level binds sent given t rows others bags

@@ -1,3 +1,0 @@
-pub mod Bags
-pub mod Images
-pub mod Laws

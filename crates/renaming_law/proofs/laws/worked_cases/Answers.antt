@@ -1,5 +1,0 @@
-use Rattle.renaming_law.proofs.Cases.{every_id_changes, one_id_twice}
-use Rattle.renaming_law.proofs.laws.worked_cases.Goals as goal
-
-pub returns : goal.returns
-returns c = record { changed = every_id_changes; twice = one_id_twice }

@@ -1,6 +1,0 @@
-pub mod Cases
-pub mod Inputs
-pub mod Twins
-pub mod Replies
-pub mod Order
-pub mod Laws

@@ -1,0 +1,108 @@
+-- How reading and testing the files of a command may fail, by the words alone.
+use Rattle.std.proofs.Common.{◌≡◌, ℕ, zero, suc, ◌<◌, ◌≤◌, ◌⊎◌, inl, inr, List, [], ◌∷◌, ◌++◌, length, get_or, Option, None, Some, Result, Ok, Err, refl, sym, ap, subst, ◌∙◌, arith}
+use Rattle.std.specs.Prelude.{IsErrOf, IsNone}
+use Rattle.std.proofs.Math.ListN.{get_or-append}
+use Rattle.std.proofs.Math.Seq.{get_or-append_seam}
+use Rattle.desk_values.specs.declared.capture.Captured.{Captured}
+use Rattle.desk_values.specs.Limits.{session_limit}
+use Rattle.desk_schema.specs.Start.{StartView}
+use Rattle.captured_calls.specs.declared.refusal.Refusal.{Refusal as Illegal}
+use Rattle.captured_calls.specs.Verdict.{Preparation as Planned, verdict}
+use Rattle.replay_cli.specs.declared.failure.Refusal.{Refusal}
+use Rattle.replay_cli.specs.declared.failure.Refusal.TheVariants.{Missing, TooLong, BadLine, BadRemap, NotLegal}
+use Rattle.replay_cli.specs.declared.failure.Failure.{Failure}
+use Rattle.replay_cli.specs.declared.failure.Failure.TheVariants.{BadCommand, Refused, DeviceFault, OutOfMemory}
+use Rattle.replay_cli.specs.declared.plan.Plan.{Plan}
+use Rattle.replay_cli.specs.declared.words.Command.{Command}
+use Rattle.replay_cli.specs.Decision.{IsFileIn, MayFail, MayRefuseCapture, SessionOf, StartOf, legal_from}
+use Rattle.replay_cli.specs.Ending.{MayComeTo}
+use Rattle.replay_cli.specs.FileNames.{session_name, session_names, start_name}
+use Rattle.replay_cli.specs.Steps.{Is}
+use Rattle.replay_cli.specs.Inside.Steps.{IsAmong, IsUntaken, RefusesOne, Stops}
+use Rattle.replay_cli.proofs.Sessions.{count_names}
+
+pub fails_weaker : (may more : Refusal → Type 0) → ((refusal : Refusal) → may refusal → more refusal) → (failure : Failure) → MayFail may failure → MayFail more failure
+fails_weaker may more f BadCommand h = absurd h
+fails_weaker may more f (Refused refusal) h = f refusal h
+fails_weaker may more f DeviceFault h = tt
+fails_weaker may more f OutOfMemory h = tt
+
+-- ---- a capture
+
+pub untaken_in : (folder name : List ℕ) → IsFileIn folder name → (refusal : Refusal) → IsUntaken name refusal → MayRefuseCapture folder refusal
+untaken_in folder name is (Missing other) e = subst (IsFileIn folder) (sym e) is
+untaken_in folder name is (TooLong other) e = subst (IsFileIn folder) (sym e) is
+untaken_in folder name is (BadLine other line) e = absurd e
+untaken_in folder name is (BadRemap row) e = absurd e
+untaken_in folder name is (NotLegal cause) e = absurd e
+
+pub bad_start : (folder name bytes : List ℕ) → name ≡ start_name folder → (failure : Failure) → Stops (StartOf name bytes) failure → MayFail (MayRefuseCapture folder) failure
+bad_start folder name bytes is BadCommand h = absurd h
+bad_start folder name bytes is (Refused refusal) h = subst (MayRefuseCapture folder) (sym h.2) (inl is, (bytes, inl h.1.0))
+bad_start folder name bytes is DeviceFault h = tt
+bad_start folder name bytes is OutOfMemory h = tt
+
+pub untaken_among : (names : List (List ℕ)) (place : ℕ) (name : List ℕ) → place < length names → name ≡ get_or names place name → (refusal : Refusal) → IsUntaken name refusal → RefusesOne names refusal
+untaken_among names place name within is (Missing other) e = subst (IsAmong names) (sym e) (place, within, is)
+untaken_among names place name within is (TooLong other) e = subst (IsAmong names) (sym e) (place, within, is)
+untaken_among names place name within is (BadLine other line) e = absurd e
+untaken_among names place name within is (BadRemap row) e = absurd e
+untaken_among names place name within is (NotLegal cause) e = absurd e
+
+pub bad_among : (names : List (List ℕ)) (place session : ℕ) (name bytes : List ℕ) → place < length names → name ≡ get_or names place name → (failure : Failure) → Stops (SessionOf session name bytes) failure → MayFail (RefusesOne names) failure
+bad_among names place session name bytes within is BadCommand h = absurd h
+bad_among names place session name bytes within is (Refused refusal) h = subst (RefusesOne names) (sym h.2) ((place, within, is), (bytes, inr (session, h.1.0)))
+bad_among names place session name bytes within is DeviceFault h = tt
+bad_among names place session name bytes within is OutOfMemory h = tt
+
+below_or_last : (i n : ℕ) → i < suc n → (i < n) ⊎ (i ≡ n)
+below_or_last i zero below = inr (omega (arith, below))
+below_or_last zero (suc n) below = inl (omega arith)
+below_or_last (suc i) (suc n) below = elim (below_or_last i n (omega (arith, below))) [ inl less ↦ inl (omega (arith, less)) | inr same ↦ inr (omega (arith, same)) ]
+
+-- the name at a place among those of sessions
+name_at : (folder : List ℕ) (n i : ℕ) (d : List ℕ) → i < n → get_or (session_names folder n) i d ≡ session_name folder i
+name_at folder zero i d below = absurd (omega (arith, below))
+name_at folder (suc n) i d below = elim (below_or_last i n below) [
+  | inl less ↦ get_or-append (session_names folder n) (session_name folder n ∷ []) d i (let count = count_names folder n in omega (arith, count, less)) ∙ name_at folder n i d less
+  | inr same ↦
+      let last : length (session_names folder n) ≡ i = count_names folder n ∙ sym same in
+      ap (λ (k : ℕ). get_or (session_names folder n ++ session_name folder n ∷ []) k d) (sym last) ∙ get_or-append_seam (session_names folder n) (session_name folder n) [] d ∙ ap (session_name folder) (sym same)
+]
+
+among_in : (folder : List ℕ) (n : ℕ) (name : List ℕ) → n ≤ session_limit → IsAmong (session_names folder n) name → IsFileIn folder name
+among_in folder n name few among =
+    let count = count_names folder n in
+    let below : among.0 < n = omega (arith, count, among.1) in
+    inr (among.0, omega (arith, below, few), among.2 ∙ name_at folder n among.0 name below)
+
+pub one_in : (folder : List ℕ) (n : ℕ) → n ≤ session_limit → (refusal : Refusal) → RefusesOne (session_names folder n) refusal → MayRefuseCapture folder refusal
+one_in folder n few (Missing name) among = among_in folder n name few among
+one_in folder n few (TooLong name) among = among_in folder n name few among
+one_in folder n few (BadLine name line) bad = (among_in folder n name few bad.0, bad.1)
+one_in folder n few (BadRemap row) none = absurd none
+one_in folder n few (NotLegal cause) none = absurd none
+
+legal_refused : (start : StartView) (answer : Result Planned Illegal) (refusal : Refusal) → legal_from start answer ≡ Err refusal → (cause : Illegal) × (answer ≡ Err cause) × (refusal ≡ NotLegal cause)
+legal_refused start (Ok planned) refusal e = absurd (cc e)
+legal_refused start (Err cause) refusal e = (cause, refl, cc (e))
+
+pub tested : (folder : List ℕ) (start : StartView) (lists : List (List Captured)) (failure : Failure) → Stops (Is (legal_from start (verdict start lists))) failure → MayFail (MayRefuseCapture folder) failure
+tested folder start lists BadCommand h = absurd h
+tested folder start lists (Refused refusal) h = let found = legal_refused start (verdict start lists) refusal h in subst (MayRefuseCapture folder) (sym found.2) (start, lists, found.1)
+tested folder start lists DeviceFault h = tt
+tested folder start lists OutOfMemory h = tt
+
+-- ---- what words may come to
+
+pub short_of_memory : (command : Option Command) → MayComeTo command (Err OutOfMemory)
+short_of_memory None = inr refl
+short_of_memory (Some command) = tt
+
+pub only_no_command : (command : Option Command) (done : Result Plan Failure) → MayComeTo command done → IsErrOf done BadCommand → IsNone command
+only_no_command None done may is = refl
+only_no_command (Some command) (Ok plan) may is = absurd (cc is)
+only_no_command (Some command) (Err BadCommand) may is = absurd may
+only_no_command (Some command) (Err (Refused refusal)) may is = absurd (cc is)
+only_no_command (Some command) (Err DeviceFault) may is = absurd (cc is)
+only_no_command (Some command) (Err OutOfMemory) may is = absurd (cc is)

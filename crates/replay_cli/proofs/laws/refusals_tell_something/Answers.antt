@@ -1,0 +1,11 @@
+use Rattle.replay_cli.proofs.Causes.{causes_have_text, lines_from_one, rows_from_one}
+use Rattle.replay_cli.proofs.laws.refusals_tell_something.Goals as goal
+
+pub returns-clause-line : goal.returns-clause-line
+returns-clause-line c = lines_from_one
+
+pub returns-clause-row : goal.returns-clause-row
+returns-clause-row c = rows_from_one
+
+pub returns-clause-cause : goal.returns-clause-cause
+returns-clause-cause c = causes_have_text

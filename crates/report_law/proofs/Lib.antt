@@ -1,2 +1,0 @@
-mod Classed
-pub mod Named

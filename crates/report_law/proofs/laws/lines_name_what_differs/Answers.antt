@@ -1,8 +1,0 @@
-use Rattle.report_law.proofs.Named.{lines_name, no_line_none}
-use Rattle.report_law.proofs.laws.lines_name_what_differs.Goals as goal
-
-pub returns-clause-named : goal.returns-clause-named
-returns-clause-named c = lines_name
-
-pub returns-clause-none : goal.returns-clause-none
-returns-clause-none c = no_line_none
