@@ -29,7 +29,8 @@ use Rattle.replay_cli.specs.Command.{calls_of, command_of, generate_of, prepare_
 use Rattle.replay_cli.specs.FileNames.{session_names}
 use Rattle.replay_cli.specs.Options as option
 use Rattle.replay_cli.specs.Path.{is_path}
-use Rattle.replay_cli.specs.Inside.Limits.{HasLimits, HasWays}
+use Rattle.replay_cli.specs.Inside.Limits.{HasLimits, HasWays, IsLaneCount}
+use Rattle.replay_worker.specs.Limits.{lane_limit}
 use Rattle.replay_cli.specs.Decision.{Legal, Read, ReadIn, RunIn, SessionOf, Task, ToReplay, Verdict, VerdictOf, legal_from, run_job}
 use Rattle.replay_cli.specs.Done.{IsReplayOf}
 use Rattle.replay_cli.specs.Steps.{Reading}
@@ -97,12 +98,22 @@ few_percents (Some m) n e = few m (nat_le m 1000) refl e where
   few m true within e = let same : m ≡ n = cc e in let low = leb-true m 1000 within in omega (arith, same, low)
   few m false within e = absurd (cc e)
 
+few_lanes : (found : Option ℕ) (n : ℕ) → option.within_lanes found ≡ Some n → IsLaneCount n
+few_lanes None n e = absurd (cc e)
+few_lanes (Some m) n e = few m (nat_le 1 m) (nat_le m lane_limit) refl refl e where
+  few : (m : ℕ) (some few : Bool) → nat_le 1 m ≡ some → nat_le m lane_limit ≡ few → (if some && few then Some m else None) ≡ Some n → IsLaneCount n
+  few m true true least most e = let same : m ≡ n = cc e in let low = leb-true 1 m least in let high = leb-true m lane_limit most in (omega (arith, same, low), omega (arith, same, high))
+  few m true false least most e = absurd (cc e)
+  few m false true least most e = absurd (cc e)
+  few m false false least most e = absurd (cc e)
+
 option_limits : (options : Options) (name value : List ℕ) → HasLimits options → IfSome (option.with_option options name value) HasLimits
 option_limits options name value limits =
-    either HasLimits (bytes_eq name (codes "--mode")) _ _ (kept options.mode (mode_of value) (λ mode. record options { mode = Some mode }) (λ mode is. record { think = limits.think; connect = limits.connect }))
-    (either HasLimits (bytes_eq name (codes "--think")) _ _ (kept options.think (option.percent_of value) (λ percent. record options { think = Some percent }) (λ percent is. record { think = few_percents (number_of value) percent is; connect = limits.connect }))
-    (either HasLimits (bytes_eq name (codes "--connect")) _ _ (kept options.connect (option.percent_of value) (λ percent. record options { connect = Some percent }) (λ percent is. record { think = limits.think; connect = few_percents (number_of value) percent is }))
-    (either HasLimits (bytes_eq name (codes "--remap")) _ _ (kept options.remap (option.path_of value) (λ path. record options { remap = Some path }) (λ path is. record { think = limits.think; connect = limits.connect })) tt)))
+    either HasLimits (bytes_eq name (codes "--mode")) _ _ (kept options.mode (mode_of value) (λ mode. record options { mode = Some mode }) (λ mode is. record { think = limits.think; connect = limits.connect; lanes = limits.lanes }))
+    (either HasLimits (bytes_eq name (codes "--think")) _ _ (kept options.think (option.percent_of value) (λ percent. record options { think = Some percent }) (λ percent is. record { think = few_percents (number_of value) percent is; connect = limits.connect; lanes = limits.lanes }))
+    (either HasLimits (bytes_eq name (codes "--connect")) _ _ (kept options.connect (option.percent_of value) (λ percent. record options { connect = Some percent }) (λ percent is. record { think = limits.think; connect = few_percents (number_of value) percent is; lanes = limits.lanes }))
+    (either HasLimits (bytes_eq name (codes "--remap")) _ _ (kept options.remap (option.path_of value) (λ path. record options { remap = Some path }) (λ path is. record { think = limits.think; connect = limits.connect; lanes = limits.lanes }))
+    (either HasLimits (bytes_eq name (codes "--lanes")) _ _ (kept options.lanes (option.lanes_of value) (λ lanes. record options { lanes = Some lanes }) (λ lanes is. record { think = limits.think; connect = limits.connect; lanes = few_lanes (number_of value) lanes is })) tt))))
 
 then_limits : (found : Option Options) (next : Options → Option Options) → IfSome found HasLimits → ((more : Options) → HasLimits more → IfSome (next more) HasLimits) → IfSome (option_and_then next found) HasLimits
 then_limits None next limits more = tt
@@ -119,10 +130,10 @@ default_limit None few = omega arith
 default_limit (Some n) few = few
 
 ways_limits : (words : List (List ℕ)) → IfSome (option.ways_of words) HasWays
-ways_limits words = whole_limits (option.options_from option.no_options words) (all_limits option.no_options words (record { think = tt; connect = tt })) where
+ways_limits words = whole_limits (option.options_from option.no_options words) (all_limits option.no_options words (record { think = tt; connect = tt; lanes = tt })) where
   whole_limits : (found : Option Options) → IfSome found HasLimits → IfSome (option_map option.whole found) HasWays
   whole_limits None limits = tt
-  whole_limits (Some options) limits = record { think = default_limit options.think limits.think; connect = default_limit options.connect limits.connect }
+  whole_limits (Some options) limits = record { think = default_limit options.think limits.think; connect = default_limit options.connect limits.connect; lanes = limits.lanes }
 
 -- ---- the words
 

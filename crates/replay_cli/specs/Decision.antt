@@ -12,7 +12,7 @@ use Rattle.capture_format.specs.StartFile.{IsBadStart, IsStartFile}
 use Rattle.capture_format.specs.SessionFile.{IsBadSession, IsSessionFile}
 use Rattle.object_depends.specs.declared.fact.Fact.{Fact}
 use Rattle.captured_calls.specs.declared.refusal.Refusal.{Refusal as Illegal}
-use Rattle.captured_calls.specs.Verdict as plan
+use Rattle.captured_calls.specs.Verdict.{Preparation, verdict}
 use Rattle.replay_cli.specs.declared.capture.Opened.{Opened}
 use Rattle.replay_cli.specs.Limits.{capture_limit}
 use Rattle.replay_cli.specs.declared.failure.Refusal.{Refusal}
@@ -58,7 +58,7 @@ pub record Legal : Type 0 where
   pub facts : List Fact
 
 -- the start and the plan of its calls, or the cause why there is none
-abbrev pub legal_from : StartView → Result plan.Plan Illegal → Result Legal Refusal
+abbrev pub legal_from : StartView → Result Preparation Illegal → Result Legal Refusal
 legal_from start (Ok p) = Ok (record { start = start; calls = p.calls; facts = p.facts })
 legal_from start (Err cause) = Err (NotLegal cause)
 
@@ -109,13 +109,13 @@ abbrev pub RunIn : FileMap → List ℕ → List ℕ → Ways → Result Task Re
 RunIn files capture out ways =
     Then (ReadIn files capture) (λ read.
     Then (RemapIn files ways.remap) (λ remap.
-    Then (Is (legal_from read.start (plan.verdict read.start read.sessions))) (λ legal.
+    Then (Is (legal_from read.start (verdict read.start read.sessions))) (λ legal.
     Is (Ok (ToReplay out (run_job legal remap ways))))))
 
 abbrev pub PrepareIn : FileMap → List ℕ → List ℕ → Result Task Refusal → Type 0
 PrepareIn files capture out =
     Then (ReadIn files capture) (λ read.
-    Then (Is (legal_from read.start (plan.verdict read.start read.sessions))) (λ legal.
+    Then (Is (legal_from read.start (verdict read.start read.sessions))) (λ legal.
     Is (Ok (ToTell out legal.facts))))
 
 abbrev pub Decides : Command → FileMap → Result Task Refusal → Type 0
@@ -141,7 +141,7 @@ MayRefuseCapture folder (Missing name) = IsFileIn folder name
 MayRefuseCapture folder (TooLong name) = IsFileIn folder name
 MayRefuseCapture folder (BadLine name line) = IsFileIn folder name × IsBadOfSome line
 MayRefuseCapture folder (BadRemap row) = ⊥
-MayRefuseCapture folder (NotLegal cause) = (start : StartView) × (lists : List (List Captured)) × (plan.verdict start lists ≡ Err cause)
+MayRefuseCapture folder (NotLegal cause) = (start : StartView) × (lists : List (List Captured)) × (verdict start lists ≡ Err cause)
 
 -- how the remap file may be, if one is named
 abbrev pub MayRefuseRemap : Option (List ℕ) → Refusal → Type 0

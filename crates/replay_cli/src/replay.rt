@@ -20,7 +20,7 @@ pub fn trial_of(alloc: Global, start: &Start, calls: &CallList) -> Result<Job, M
     ensures trial { IfOk result (λ job. IsTrial start.now calls.now.items (seen job)) }
     ensures sound { IfOk result (λ job. IsSoundJob (seen job)) }
 {
-    let _ = start.schema();
+    start.know_rules();
     let begins = start.copy()?;
     let target = start.copy()?;
     let copies = calls.copy()?;

@@ -99,7 +99,7 @@ fn job_of(legal: Legal, remap: Remap, ways: &Ways) -> Result<Job, Memory>
     ensures job { IfOk result (λ job. seen job ≡ run_job (legal_of legal) remap ways.now) }
     ensures sound { IfOk result (λ job. IsSoundJob (seen job)) }
 {
-    let _ = legal.start.schema();
+    legal.start.know_rules();
     let target = legal.start.copy()?;
     Ok(Job {
         start: legal.start,

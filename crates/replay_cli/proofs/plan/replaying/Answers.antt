@@ -6,4 +6,4 @@ use Rattle.replay_cli.specs.Done.{IsDone}
 use Rattle.replay_cli.proofs.plan.replaying.Goals as goal
 
 pub returns : goal.returns
-returns c = subst (λ (j : JobView). IfOk c.reported.result (λ plan. IsDone (ToReplay c.args.out.now j) plan)) c.in_ok-desk.ensures.job c.reported.ensures
+returns g c = subst (λ (j : JobView). IfOk c.reported.result (λ plan. IsDone (ToReplay c.args.out.now j) plan)) c.in_ok-desk.ensures.job c.reported.ensures
