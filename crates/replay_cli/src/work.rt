@@ -1,6 +1,7 @@
 //! What a command has to do, by its words and the files.
 
-ghost use Rattle.std.specs.Prelude.{◌≡◌, ◌≤◌, IfOk, IfErr, length};
+ghost use Rattle.std.specs.Option.{unwrap_or};
+ghost use Rattle.std.specs.Prelude.{◌≡◌, ◌≤◌, IfOk, IfErr, length, max, min};
 ghost use Rattle.desk_files.specs.Outside.{Told};
 ghost use Rattle.replay_job.specs.Job.{AreKnownOf, HasMoments, seen};
 ghost use Rattle.replay_job.specs.Replays.{IsSoundJob};
@@ -9,6 +10,7 @@ ghost use Rattle.replay_cli.specs.Inside.Limits.{HasWays, IsLaneCount, IsWithinL
 ghost use Rattle.replay_cli.specs.Decision.{Decides, IsTaskOf, MayBeRefused, MayFail, PrepareIn, RunIn, run_job};
 ghost use Rattle.replay_cli.specs.Inside.Work.{IsWork, legal_of, task_of};
 ghost use Rattle.captured_calls.specs.Verdict.{IsLegal};
+ghost use Rattle.replay_worker.specs.Limits.{lane_limit};
 ghost use Rattle.replay_cli.specs.Inside.Steps.{Step, seen_as};
 
 use crate::capture::{Legal, read_capture, test};
@@ -82,7 +84,8 @@ fn decide_run<F: Files>(
 /// How many lanes there are: as many as sessions where that is not said, and at least one.
 fn lanes_of(ways: &Ways, sessions: usize) -> u32
     requires { HasWays ways.now }
-    ensures { IsLaneCount result }
+    ensures limits { IsLaneCount result }
+    ensures value { result ≡ unwrap_or ways.now.lanes (max 1 (min sessions lane_limit)) }
 {
     match ways.lanes {
         Some(lanes) => lanes,

@@ -1,2 +1,3 @@
 -- Words of private clauses. They need not be believed.
 pub mod Turns
+pub mod Seats

@@ -17,6 +17,7 @@ pub fn finish<R: Clock + Wait, D: Door>(rt: &R, desk: &mut Desk, door: &D) -> Re
     requires { desk.old.stopped ≡ false }
     ensures all { OnOk result (AnswersAll desk.new.job.calls desk.new.history) }
     ensures job { desk.new.job ≡ desk.old.job }
+    ensures going { desk.new.stopped ≡ false }
     ensures goes_on { GoesOn desk.old.history desk.new.history }
 {
     let count = desk.job().calls.len();

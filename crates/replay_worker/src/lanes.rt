@@ -8,7 +8,7 @@ use crate::finishing::finish;
 use crate::seats::{home_of, join, seats_of};
 use crate::turns::{Turn, settle, take};
 use desk_files::Door;
-use desk_values::{List, Memory, SESSION_LIMIT, Stamps};
+use desk_values::{Memory, Reserved, SESSION_LIMIT, Stamps};
 use replay_core::Desk;
 use replay_job::Job;
 use std::alloc::Global;
@@ -66,7 +66,8 @@ pub fn run_all<R: Clock + Wait + Threads + Sync, D: Door>(
 {
     let kept = job.copy()?;
     let seats = seats_of(alloc, job.calls.as_slice(), lanes)?;
-    let home = List::with_capacity(alloc, SESSION_LIMIT)?;
+    let mut home = Reserved::new(alloc);
+    home.reserve(SESSION_LIMIT as u32)?;
     let desk = Desk::setup(alloc, job)?;
     let found = run_lanes(rt, desk, door, seats.as_slice(), home);
     let desk = own(alloc, found, kept)?;
@@ -79,7 +80,7 @@ fn run_lanes<R: Clock + Wait + Threads + Sync, D: Door>(
     desk: Desk,
     door: &D,
     seats: &[Stamps],
-    home: Stamps,
+    home: Reserved<u32>,
 ) -> Desk {
     let shared = Mutex::new(desk);
     let turn = Condvar::new();
@@ -95,7 +96,7 @@ fn start_lanes<R: Clock + Wait + Threads + Sync, D: Door>(
     turn: &Condvar,
     door: &D,
     seats: &[Stamps],
-    home: Stamps,
+    home: Reserved<u32>,
 ) {
     thread::scope(thread::scope_env(), rt, |scope| {
         let mut joined = [false; 64];
