@@ -1,5 +1,7 @@
 //! A door that holds calls.
 
+ghost use Rattle.std.specs.Prelude.{◌<◌};
+
 use desk_files::Door;
 use std::sync::Wait;
 use std::sync::atomic::{AtomicU64, Ordering};
