@@ -60,7 +60,8 @@ pub fn look_at_all<R: Clock + Wait + Threads + Sync>(
     random: &mut Random,
     laws: &mut Laws,
 ) -> Result<(), anyhow::Error> {
-    match rounds.input.starts.first() {
+    let input = rounds.input;
+    match input.starts.first() {
         Some(start) => rounds_of(alloc, rounds, start, random, laws),
         None => Err(anyhow!("no start file")),
     }
@@ -90,7 +91,8 @@ fn round<R: Clock + Wait + Threads + Sync>(
 ) -> Result<(), anyhow::Error> {
     let most = rounds.amount.calls;
     let calls = most.saturating_sub(random.below(most / 2 + 1));
-    let kinds = rounds.input.kinds.as_slice();
+    let input = rounds.input;
+    let kinds = input.kinds.as_slice();
     let sessions = random_capture(alloc, start, kinds, random, calls, rounds.amount.sessions)?;
     captured(alloc, rounds, start, &sessions, random, laws)
 }
@@ -198,11 +200,12 @@ fn replay_next<R: Clock + Wait + Threads + Sync>(
     requires sessions { length sessions.now ≤ 64 }
     requires lists { AreSessionsFrom 0 (lists_of sessions.now) }
 {
-    let start = random.place(rounds.input.starts.len());
-    let service = random.place(rounds.input.services.len().saturating_mul(2));
-    let services = one_or_none(rounds.input.services.as_slice(), service);
+    let input = rounds.input;
+    let start = random.place(input.starts.len());
+    let service = random.place(input.services.len().saturating_mul(2));
+    let services = one_or_none(input.services.as_slice(), service);
     let again = start == 0 && services.is_empty();
-    match rounds.input.starts.get(start) {
+    match input.starts.get(start) {
         Some(target) => {
             let replay = Replay {
                 target,
@@ -292,7 +295,7 @@ fn by_lanes<R: Clock + Wait + Threads + Sync>(
     requires lists { AreSessionsFrom 0 (lists_of sessions.now) }
 {
     let job = job_for(alloc, case.start, sessions, replay)?;
-    let lanes = 2 + random.below(7);
+    let lanes = 2 + random.below(7).min(6);
     let board = run_by_lanes(rt, alloc, job, lanes, u64::from(random.below(1000)))?;
     laws.note_order(rises(board.events()));
     Ok(board)
