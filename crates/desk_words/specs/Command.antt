@@ -1,0 +1,105 @@
+-- Which words are a command, and which command.
+use Rattle.std.specs.Prelude.{ℕ, ◌&&◌, nat_le, Bool, if◌then◌else◌, List, length, codes, Option, None, Some, option_map}
+use Rattle.std.specs.Option.{option_map_or}
+use Rattle.std.specs.Str.{bytes_eq}
+use Rattle.clap.specs.Words.{Row, Text, fault_of, first_of, subcommand_of}
+use Rattle.clap.specs.Walk.{is_empty}
+use Rattle.desk_values.specs.Reading.{◌>>=◌, number_of}
+use Rattle.replay_history.specs.Limits.{percent_limit}
+use Rattle.replay_history.specs.Mode.{mode_of}
+use Rattle.replay_history.specs.declared.mode.Mode.TheVariants.{Order}
+use Rattle.desk_words.specs.Desk.{desk}
+use Rattle.desk_words.specs.Limits.{connection_limit, default_port, generated_limit, lane_limit, path_limit, port_limit, whole}
+use Rattle.desk_words.specs.declared.ways.Ways.{Ways}
+use Rattle.desk_words.specs.declared.words.Command.{Command}
+use Rattle.desk_words.specs.declared.words.Command.TheVariants.{Run, Prepare, Serve, Generate, Trial}
+
+-- ---- which values are good
+
+-- a path: 1 to 900 bytes
+abbrev pub path_in : Text → Option Text
+path_in text = if nat_le 1 (length text) && nat_le (length text) path_limit then Some text else None
+
+abbrev pub between : ℕ → ℕ → ℕ → Option ℕ
+between least most n = if nat_le least n && nat_le n most then Some n else None
+
+-- a number between these, in digits without a leading zero
+abbrev pub number_in : ℕ → ℕ → Text → Option ℕ
+number_in least most text = number_of text >>= between least most
+
+-- a percentage
+abbrev pub percent_in : Text → Option ℕ
+percent_in text = number_in 0 percent_limit text
+
+-- ---- where they stand
+
+-- the good value at a place
+abbrev pub placed : {X : Type 0} → Text → (Text → Option X) → List Row → Option X
+placed name good values = first_of name values >>= good
+
+-- the good value of an option; where the option is not said, what it then is
+abbrev pub chosen : {X : Type 0} → Text → (Text → Option X) → X → List Row → Option X
+chosen name good unsaid values = option_map_or good (first_of name values) (Some unsaid)
+
+-- the same, of an option without which nothing stands there
+abbrev pub maybe : {X : Type 0} → Text → (Text → Option X) → List Row → Option (Option X)
+maybe name good values = chosen name (λ text. option_map Some (good text)) None values
+
+-- ---- what they make
+
+abbrev pub ways_in : List Row → Option Ways
+ways_in values = do
+  mode ← chosen (codes "mode") mode_of Order values
+  think ← chosen (codes "think") percent_in whole values
+  connect ← chosen (codes "connect") percent_in whole values
+  remap ← maybe (codes "remap") path_in values
+  lanes ← maybe (codes "lanes") (number_in 1 lane_limit) values
+  Some (record { mode = mode; think = think; connect = connect; remap = remap; lanes = lanes })
+
+abbrev pub run_in : List Row → Option Command
+run_in values = do
+  capture ← placed (codes "capture") path_in values
+  out ← placed (codes "out") path_in values
+  ways ← ways_in values
+  Some (Run capture out ways)
+
+abbrev pub prepare_in : List Row → Option Command
+prepare_in values = do
+  capture ← placed (codes "capture") path_in values
+  out ← placed (codes "out") path_in values
+  Some (Prepare capture out)
+
+abbrev pub serve_in : List Row → Option Command
+serve_in values = do
+  capture ← placed (codes "capture") path_in values
+  start ← placed (codes "start") path_in values
+  connections ← placed (codes "connections") (number_in 1 connection_limit) values
+  port ← chosen (codes "port") (number_in 1 port_limit) default_port values
+  Some (Serve capture start connections port)
+
+abbrev pub generate_in : List Row → Option Command
+generate_in values = do
+  calls ← placed (codes "calls") (number_in 1 generated_limit) values
+  out ← placed (codes "out") path_in values
+  Some (Generate calls out)
+
+abbrev pub trial_in : List Row → Option Command
+trial_in values = option_map Trial (placed (codes "calls") (number_in 1 generated_limit) values)
+
+-- the command with this first word, by the values that were found behind it
+abbrev pub command_in : Text × List Row → Option Command
+command_in found =
+    if bytes_eq found.0 (codes "run") then run_in found.1
+    else if bytes_eq found.0 (codes "prepare") then prepare_in found.1
+    else if bytes_eq found.0 (codes "serve") then serve_in found.1
+    else if bytes_eq found.0 (codes "generate") then generate_in found.1
+    else if bytes_eq found.0 (codes "trial") then trial_in found.1
+    else None
+
+-- `clap` takes the words: there is no error that it gives for them
+abbrev pub is_taken : List Text → Bool
+is_taken words = is_empty (fault_of desk words)
+
+-- The command that the words are: `clap` takes them, and each value that it finds is good.
+unfoldable pub command_of : List Text → Option Command
+command_of words = if is_taken words then subcommand_of desk words >>= command_in else None

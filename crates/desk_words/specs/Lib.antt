@@ -1,0 +1,5 @@
+pub mod Limits
+pub mod Desk
+pub mod Command
+pub mod Within
+pub mod Inside

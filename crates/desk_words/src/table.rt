@@ -1,0 +1,50 @@
+//! The forms of a command: what the words may be.
+
+ghost use Rattle.std.specs.Prelude.{◌≡◌, map};
+ghost use Rattle.desk_words.specs.Desk.{all_forms, seen};
+
+/// What a first word may be, and the words behind it.
+#[derive(Clone, Copy, Debug)]
+pub struct Form {
+    /// The first word.
+    pub name: &'static str,
+    /// What the words behind it tell, in their order. Each has to be there.
+    pub places: &'static [&'static str],
+    /// The names of the options. Each may be said once, anywhere behind the first word, as `--NAME VALUE` or `--NAME=VALUE`.
+    pub options: &'static [&'static str],
+}
+
+static FORMS: [Form; 5] = [
+    Form {
+        name: "run",
+        places: &["capture", "out"],
+        options: &["mode", "think", "connect", "remap", "lanes"],
+    },
+    Form {
+        name: "prepare",
+        places: &["capture", "out"],
+        options: &[],
+    },
+    Form {
+        name: "serve",
+        places: &["capture", "start", "connections"],
+        options: &["port"],
+    },
+    Form {
+        name: "generate",
+        places: &["calls", "out"],
+        options: &[],
+    },
+    Form {
+        name: "trial",
+        places: &["calls"],
+        options: &[],
+    },
+];
+
+/// The forms, in the order in which they are told.
+pub fn forms() -> &'static [Form]
+    ensures { map seen result.now ≡ all_forms }
+{
+    &FORMS
+}
