@@ -1,0 +1,5 @@
+pub mod Limits
+pub mod Heads
+pub mod Decisions
+pub mod Requests
+pub mod Inside
