@@ -4,3 +4,5 @@ pub mod Answers
 pub mod Writes
 pub mod Memory
 pub mod Stored
+pub mod Sources
+pub mod Hosts
