@@ -6,3 +6,4 @@ pub mod Memory
 pub mod Stored
 pub mod Sources
 pub mod Hosts
+pub mod MemoryHosts

@@ -38,6 +38,11 @@ pub record MemorySink : Type 0 where
 abbrev pub refuses : MemorySink → List ℕ → Bool
 refuses sink bytes = fails_now sink.calls || nat_lt sink.room (length sink.held + length bytes)
 
+-- the bytes left in a source in memory, and its calls
+pub record MemorySource : Type 0 where
+  pub rest : List ℕ
+  pub calls : Calls
+
 -- how the values above are stored
 abbrev pub calls_code : Coded Calls
 calls_code = code_by (List ℕ × (ℕ × ℕ)) (coded× (coded_list coded_ℕ) (coded× coded_ℕ coded_ℕ))
@@ -50,3 +55,7 @@ memory_files_code = code_by (FileMap × Calls) (coded× (code (coded_list coded_
 abbrev pub memory_sink_code : Coded MemorySink
 memory_sink_code = code_by (List ℕ × (ℕ × Calls)) (coded× (coded_list coded_ℕ) (coded× coded_ℕ calls_code))
     (λ m. (m.held, (m.room, m.calls))) (λ p. record { held = p.0; room = p.1.0; calls = p.1.1 }) (λ _. refl)
+
+abbrev pub memory_source_code : Coded MemorySource
+memory_source_code = code_by (List ℕ × Calls) (coded× (coded_list coded_ℕ) calls_code)
+    (λ m. (m.rest, m.calls)) (λ p. record { rest = p.0; calls = p.1 }) (λ _. refl)

@@ -1,0 +1,111 @@
+ghost use Rattle.std.specs.Prelude.{◌≡◌, None, IfOk, IfSome, IsSomeAnd, IsOk};
+ghost use Rattle.desk_files.specs.Outside.{counted, raised};
+ghost use Rattle.desk_files.specs.Answers.{print_ending};
+ghost use Rattle.desk_files.specs.Hosts.{accept_ending};
+
+use crate::fault::Failed;
+use crate::host::Host;
+use crate::real_stream::{RealSink, RealSource};
+use desk_values::Memory;
+use std::io;
+use std::io::ErrorKind;
+use std::marker::Model;
+use std::net::{Ipv4Addr, Net, Shutdown, TcpListener, TcpStream};
+
+/// The connections that come in at a port of 127.0.0.1, which it does not tell. Before `listen` each
+/// `accept` fails. Contracts see the count of faults.
+#[derive(Drop)]
+pub struct RealHost<'a, R> {
+    system: &'a R,
+    listener: Option<TcpListener>,
+    faults: u64,
+}
+
+impl<'a, R> Model for RealHost<'a, R> {
+    ghost use Rattle.std.specs.Prelude.{ℕ};
+
+    ghost Value = { ℕ };
+
+    ghost view = { λ a. a.faults };
+}
+
+impl<'a, R> RealHost<'a, R> {
+    /// A host that does not listen yet, over the network of `system`, with no fault so far.
+    pub fn new(system: &'a R) -> Self
+        ensures { result ≡ 0 }
+    {
+        RealHost {
+            system,
+            listener: None,
+            faults: 0,
+        }
+    }
+
+    fn count_fault(&mut self)
+        ensures { self.new ≡ raised self.old }
+    {
+        self.faults = self.faults.saturating_add(1);
+    }
+}
+
+impl<R: Net<Listener = TcpListener, Stream = TcpStream>> Host for RealHost<'_, R> {
+    type In = RealSource<TcpStream>;
+
+    type Out = RealSink<TcpStream>;
+
+    ghost content = { λ _. None };
+
+    ghost faults = { λ count. count };
+
+    fn listen(&mut self, port: u16) -> Result<(), Failed>
+        ensures { self.new ≡ counted (print_ending result) self.old }
+    {
+        match TcpListener::bind(self.system, (Ipv4Addr::LOCALHOST, port)) {
+            Ok(listener) => {
+                self.listener = Some(listener);
+                Ok(())
+            }
+            Err(_) => {
+                self.count_fault();
+                Err(Failed)
+            }
+        }
+    }
+
+    /// Waits until a connection comes in. It never answers `None`.
+    fn accept(&mut self) -> Result<Option<(RealSource<TcpStream>, RealSink<TcpStream>)>, Failed>
+        ensures some { IfOk result (λ taken. IsSomeAnd taken (λ pair. (pair.0 ≡ 0) × (pair.1 ≡ 0))) }
+        ensures count { self.new ≡ counted (accept_ending result) self.old }
+    {
+        match accept_ends(&self.listener) {
+            Ok(ends) => Ok(Some(ends)),
+            Err(_) => {
+                self.count_fault();
+                Err(Failed)
+            }
+        }
+    }
+
+    /// Closes the stream. It never answers `Memory`.
+    fn back(&mut self, input: RealSource<TcpStream>, _output: RealSink<TcpStream>) -> Result<(), Memory>
+        ensures ok { IsOk result }
+        ensures count { self.new ≡ self.old }
+    {
+        // A stream that the other side has closed cannot be shut down, and is closed all the same.
+        let _ = input.stream().shutdown(Shutdown::Both);
+        Ok(())
+    }
+}
+
+// The next connection's two ends. What is written goes out at once, since answers are short.
+fn accept_ends(listener: &Option<TcpListener>) -> io::Result<(RealSource<TcpStream>, RealSink<TcpStream>)>
+    ensures { IfOk result (λ pair. (pair.0 ≡ 0) × (pair.1 ≡ 0)) }
+{
+    let Some(listener) = listener else {
+        return Err(io::Error::from(ErrorKind::NotConnected));
+    };
+    let (stream, _) = listener.accept()?;
+    stream.set_nodelay(true)?;
+    let output = RealSink::new(stream.try_clone()?);
+    Ok((RealSource::new(stream), output))
+}

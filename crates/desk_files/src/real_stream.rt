@@ -1,0 +1,103 @@
+ghost use Rattle.std.specs.Prelude.{◌≡◌, ◌≤◌, None, length, IfOk};
+ghost use Rattle.desk_files.specs.Outside.{counted};
+ghost use Rattle.desk_files.specs.Answers.{print_ending};
+ghost use Rattle.desk_files.specs.Sources.{source_ending};
+
+use crate::fault::Failed;
+use crate::sink::Sink;
+use crate::source::Source;
+use std::io::{ErrorKind, Read, Write};
+use std::marker::Model;
+
+/// How often a call that the system interrupted is asked in all.
+pub(crate) const ASKED: usize = 1024;
+
+/// What a stream of the system sends, which it does not tell. Contracts see the count of faults.
+#[derive(Drop)]
+pub struct RealSource<S> {
+    stream: S,
+    faults: u64,
+}
+
+impl<S> Model for RealSource<S> {
+    ghost use Rattle.std.specs.Prelude.{ℕ};
+
+    ghost Value = { ℕ };
+
+    ghost view = { λ a. a.faults };
+}
+
+impl<S> RealSource<S> {
+    /// The source that `stream` is, with no fault so far.
+    pub fn new(stream: S) -> Self
+        ensures { result ≡ 0 }
+    {
+        RealSource { stream, faults: 0 }
+    }
+
+    pub(crate) fn stream(&self) -> &S {
+        &self.stream
+    }
+}
+
+impl<S: Read> Source for RealSource<S> {
+    ghost content = { λ _. None };
+
+    ghost faults = { λ count. count };
+
+    /// A read that the system interrupted is asked again.
+    fn read(&mut self, buffer: &mut [u8]) -> Result<usize, Failed>
+        ensures fits { IfOk result (λ n. n ≤ length buffer.new) }
+        ensures count { self.new ≡ counted (source_ending result) self.old }
+    {
+        for _ in 0..ASKED {
+            match self.stream.read(buffer) {
+                Ok(read) => return Ok(read),
+                Err(error) if error.kind() == ErrorKind::Interrupted => {}
+                Err(_) => break,
+            }
+        }
+        self.faults = self.faults.saturating_add(1);
+        Err(Failed)
+    }
+}
+
+/// What a stream of the system is sent, which it does not tell. Contracts see the count of faults.
+#[derive(Drop)]
+pub struct RealSink<S> {
+    stream: S,
+    faults: u64,
+}
+
+impl<S> Model for RealSink<S> {
+    ghost use Rattle.std.specs.Prelude.{ℕ};
+
+    ghost Value = { ℕ };
+
+    ghost view = { λ a. a.faults };
+}
+
+impl<S> RealSink<S> {
+    /// The sink that `stream` is, with no fault so far.
+    pub fn new(stream: S) -> Self
+        ensures { result ≡ 0 }
+    {
+        RealSink { stream, faults: 0 }
+    }
+}
+
+impl<S: Write> Sink for RealSink<S> {
+    ghost content = { λ _. None };
+
+    ghost faults = { λ count. count };
+
+    fn write(&mut self, bytes: &[u8]) -> Result<(), Failed>
+        ensures { self.new ≡ counted (print_ending result) self.old }
+    {
+        if self.stream.write_all(bytes).is_err() {
+            self.faults = self.faults.saturating_add(1);
+            return Err(Failed);
+        }
+        Ok(())
+    }
+}
