@@ -53,3 +53,7 @@ AppendsPart-write (Err e) old new bytes ok err = (0, rw err (search rules))
 pub OnOk-any : {T E : Type 0} (r : Result T E) → OnOk r ⊤
 OnOk-any (Ok x) = tt
 OnOk-any (Err e) = tt
+
+-- the count of a device that counts each of its calls that failed
+pub Counts-of : (ending : Ending) (fb fa : ℕ) → fa ≡ counted ending fb → Counts ending fb fa
+Counts-of ending fb fa count = rw count (Counts-counted ending fb)

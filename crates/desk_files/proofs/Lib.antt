@@ -2,3 +2,4 @@ pub mod StoredLemmas
 pub mod FileLaws
 pub mod DeviceLaws
 pub mod WriteLaws
+pub mod HostLaws

@@ -1,5 +1,5 @@
 -- What contracts see of a host in memory.
-use Rattle.std.specs.Prelude.{◌≡◌, ℕ, List, [], ◌∷◌, map, Option, None, Some, Result, Ok, Err, refl}
+use Rattle.std.specs.Prelude.{◌≡◌, List, [], ◌∷◌, map, Option, None, Some, Result, Ok, Err, refl}
 use Rattle.std.specs.Coded.{Coded, code_by, coded×, coded_list}
 use Rattle.desk_files.specs.declared.fault.Failed.{Failed}
 use Rattle.desk_files.specs.declared.mem_host.MemConn.{MemConn}

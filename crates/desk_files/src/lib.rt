@@ -1,8 +1,9 @@
-//! The outside world as traits: files by name, a sink of bytes, and a door by which time passes.
+//! The outside world as traits: files by name, a sink and a source of bytes, a host of connections, and
+//! a door by which time passes.
 //!
-//! Enters: names, bytes and times. Leaves: bytes, times, and which fault came. The objects in memory
-//! touch nothing but memory; the real ones touch the system's files, its standard output and its
-//! clock, and nothing is claimed of what those hold or tell.
+//! Enters: names, bytes, connections and times. Leaves: bytes, times, and which fault came. The objects
+//! in memory touch nothing but memory; the real ones touch the system's files, its standard output, its
+//! network and its clock, and nothing is claimed of what those hold or tell.
 #![tactic(auto)]
 
 mod calls;

@@ -1,4 +1,4 @@
-ghost use Rattle.std.specs.Prelude.{◌≡◌, ◌≤◌, ◌<◌, ◌↔◌, length, take, drop, IfOk, OnErr, IsErr, IsTrue, Some};
+ghost use Rattle.std.specs.Prelude.{◌≡◌, ◌≤◌, ◌<◌, ◌↔◌, [], length, drop, IfOk, OnErr, IsErr, IsTrue, Some};
 ghost use Rattle.desk_files.specs.Outside.{is_failed};
 ghost use Rattle.desk_files.specs.Sources.{Gives, source_ending};
 ghost use Rattle.desk_files.specs.Memory.{no_calls, after_call, fails_now};
@@ -11,7 +11,7 @@ use std::marker::Model;
 
 /// A source in memory, which tells the bytes left. Its reads are numbered from 0. A read fails exactly
 /// where its number was given to [`MemSource::new`]; it then changes nothing but the count of faults. A
-/// read copies what it takes and nothing else.
+/// read fills the buffer where enough is left, and copies nothing else.
 #[derive(Drop)]
 pub struct MemSource {
     bytes: Bytes,
@@ -55,6 +55,7 @@ impl Source for MemSource {
         ensures failed { IsErr result ↔ IsTrue (fails_now self.old.calls) }
         ensures fits { IfOk result (λ n. n ≤ length buffer.new) }
         ensures gives { IfOk result (λ n. Gives n buffer.new self.old.rest (Some self.new.rest)) }
+        ensures fills { IfOk result (λ n. n < length buffer.new → self.new.rest ≡ []) }
         ensures err { OnErr result (self.new.rest ≡ self.old.rest) }
         ensures calls { self.new.calls ≡ after_call self.old.calls (is_failed (source_ending result)) }
     {
@@ -75,6 +76,7 @@ fn copy_front(from: &[u8], to: &mut [u8]) -> usize
     ensures length { length to.new ≡ length to.old }
     ensures gives { Gives result to.new from.now (Some (drop result from.now)) }
     ensures fits { result ≤ length to.new }
+    ensures fills { result < length to.new → drop result from.now ≡ [] }
 {
     let len = from.len().min(to.len());
     to[..len].copy_from_slice(&from[..len]);

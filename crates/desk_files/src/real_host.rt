@@ -1,4 +1,4 @@
-ghost use Rattle.std.specs.Prelude.{◌≡◌, None, IfOk, IfSome, IsSomeAnd, IsOk};
+ghost use Rattle.std.specs.Prelude.{◌≡◌, None, IfOk, IfSome, IsSome, IsOk};
 ghost use Rattle.desk_files.specs.Outside.{counted, raised};
 ghost use Rattle.desk_files.specs.Answers.{print_ending};
 ghost use Rattle.desk_files.specs.Hosts.{accept_ending};
@@ -74,7 +74,8 @@ impl<R: Net<Listener = TcpListener, Stream = TcpStream>> Host for RealHost<'_, R
 
     /// Waits until a connection comes in. It never answers `None`.
     fn accept(&mut self) -> Result<Option<(RealSource<TcpStream>, RealSink<TcpStream>)>, Failed>
-        ensures some { IfOk result (λ taken. IsSomeAnd taken (λ pair. (pair.0 ≡ 0) × (pair.1 ≡ 0))) }
+        ensures some { IfOk result (λ taken. IsSome taken) }
+        ensures fresh { IfOk result (λ taken. IfSome taken (λ pair. (pair.0 ≡ 0) × (pair.1 ≡ 0))) }
         ensures count { self.new ≡ counted (accept_ending result) self.old }
     {
         match accept_ends(&self.listener) {
@@ -87,7 +88,11 @@ impl<R: Net<Listener = TcpListener, Stream = TcpStream>> Host for RealHost<'_, R
     }
 
     /// Closes the stream. It never answers `Memory`.
-    fn back(&mut self, input: RealSource<TcpStream>, _output: RealSink<TcpStream>) -> Result<(), Memory>
+    fn back(
+        &mut self,
+        input: RealSource<TcpStream>,
+        _output: RealSink<TcpStream>,
+    ) -> Result<(), Memory>
         ensures ok { IsOk result }
         ensures count { self.new ≡ self.old }
     {
@@ -98,7 +103,9 @@ impl<R: Net<Listener = TcpListener, Stream = TcpStream>> Host for RealHost<'_, R
 }
 
 // The next connection's two ends. What is written goes out at once, since answers are short.
-fn accept_ends(listener: &Option<TcpListener>) -> io::Result<(RealSource<TcpStream>, RealSink<TcpStream>)>
+fn accept_ends(
+    listener: &Option<TcpListener>,
+) -> io::Result<(RealSource<TcpStream>, RealSink<TcpStream>)>
     ensures { IfOk result (λ pair. (pair.0 ≡ 0) × (pair.1 ≡ 0)) }
 {
     let Some(listener) = listener else {

@@ -6,11 +6,12 @@ ghost use Rattle.desk_files.specs.Sources.{source_ending};
 use crate::fault::Failed;
 use crate::sink::Sink;
 use crate::source::Source;
+use std::io;
 use std::io::{ErrorKind, Read, Write};
 use std::marker::Model;
 
-/// How often a call that the system interrupted is asked in all.
-pub(crate) const ASKED: usize = 1024;
+/// How often a read that the system interrupted is asked in all.
+const ASKED: usize = 1024;
 
 /// What a stream of the system sends, which it does not tell. Contracts see the count of faults.
 #[derive(Drop)]
@@ -50,16 +51,27 @@ impl<S: Read> Source for RealSource<S> {
         ensures fits { IfOk result (λ n. n ≤ length buffer.new) }
         ensures count { self.new ≡ counted (source_ending result) self.old }
     {
-        for _ in 0..ASKED {
-            match self.stream.read(buffer) {
-                Ok(read) => return Ok(read),
-                Err(error) if error.kind() == ErrorKind::Interrupted => {}
-                Err(_) => break,
+        match read_asked(&mut self.stream, buffer) {
+            Ok(read) => Ok(read),
+            Err(_) => {
+                self.faults = self.faults.saturating_add(1);
+                Err(Failed)
             }
         }
-        self.faults = self.faults.saturating_add(1);
-        Err(Failed)
     }
+}
+
+// A read that is asked until the system lets it end.
+fn read_asked<S: Read>(stream: &mut S, buffer: &mut [u8]) -> io::Result<usize>
+    ensures { IfOk result (λ n. n ≤ length buffer.new) }
+{
+    for _ in 0..ASKED {
+        match stream.read(buffer) {
+            Err(error) if error.kind() == ErrorKind::Interrupted => {}
+            read => return read,
+        }
+    }
+    Err(io::Error::from(ErrorKind::Interrupted))
 }
 
 /// What a stream of the system is sent, which it does not tell. Contracts see the count of faults.
