@@ -114,7 +114,8 @@ fn write_into_sink(alloc: Global, fails: &str, steps: &str, to: &mut Bytes) -> R
     Ok(())
 }
 
-fn sent<S: Sink>(sink: &mut S, bytes: &[u8]) -> &'static [u8] {
+/// What comes of a write, through the bound of sinks, as programs call them.
+pub fn sent<S: Sink>(sink: &mut S, bytes: &[u8]) -> &'static [u8] {
     match sink.write(bytes) {
         Ok(()) => b"taken ",
         Err(_) => b"failed ",

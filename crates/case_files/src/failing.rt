@@ -140,3 +140,45 @@ impl<F: OpenFile> OpenFile for FailingFile<F> {
         self.file.sync_data()
     }
 }
+
+/// A stream whose first reads are interrupted, and which has room for so many bytes and then breaks.
+#[derive(Drop)]
+pub struct Uneven {
+    interruptions: u32,
+    room: usize,
+}
+
+impl Uneven {
+    pub fn new(interruptions: u32, room: usize) -> Self {
+        Uneven {
+            interruptions,
+            room,
+        }
+    }
+}
+
+impl Read for Uneven {
+    fn read(&mut self, buf: &mut [u8]) -> io::Result<usize> {
+        if 0 < self.interruptions {
+            self.interruptions -= 1;
+            return Err(io::Error::from(ErrorKind::Interrupted));
+        }
+        let mut from: &[u8] = b"read";
+        from.read(buf)
+    }
+}
+
+impl Write for Uneven {
+    fn write(&mut self, buf: &[u8]) -> io::Result<usize> {
+        if self.room == 0 {
+            return Err(io::Error::from(ErrorKind::BrokenPipe));
+        }
+        let written = buf.len().min(self.room);
+        self.room -= written;
+        Ok(written)
+    }
+
+    fn flush(&mut self) -> io::Result<()> {
+        Ok(())
+    }
+}

@@ -1,14 +1,16 @@
 //! Cases of calls that no command shows by itself, one on each line: what it is of, a word, and what the call is given.
 //! For each it prints what the call gives.
 //!
-//! Enters: lines of the standard input. Leaves: as many lines. It touches the standard input and output, and folders of
-//! its own where it runs. The expected values are worked out by hand from the forms and rules.
+//! Enters: lines of the standard input. Leaves: as many lines. It touches the standard input and output, folders of
+//! its own where it runs, and ports of 127.0.0.1. The expected values are worked out by hand from the forms and rules.
 #![tactic(auto)]
 
+mod connections;
 mod devices;
 mod errors;
 mod failing;
 mod lists;
+mod network;
 mod replies;
 mod system;
 mod values;
@@ -17,6 +19,7 @@ use case_text::first_word;
 use desk_files::{Sink, StdSink};
 use desk_values::{Bytes, List, ReadErr};
 use std::alloc::Global;
+use std::net::{Net, TcpListener, TcpStream};
 use std::rt;
 
 fn main(rt: HostRuntime) -> Result<(), anyhow::Error> {
@@ -31,7 +34,7 @@ fn main(rt: HostRuntime) -> Result<(), anyhow::Error> {
     Ok(())
 }
 
-fn append_answer<R: rt::Files>(
+fn append_answer<R: rt::Files + Net<Listener = TcpListener, Stream = TcpStream>>(
     system: &R,
     alloc: Global,
     line: &str,
@@ -39,10 +42,11 @@ fn append_answer<R: rt::Files>(
 ) -> Result<(), anyhow::Error> {
     let (group, rest) = first_word(line);
     let (word, rest) = first_word(rest);
-    if group == "system" {
-        return system::answer(system, alloc, word, rest, to);
+    match group {
+        "system" => system::answer(system, alloc, word, rest, to),
+        "network" => network::answer(system, alloc, word, rest, to),
+        _ => Ok(append_plain(alloc, group, word, rest, to)?),
     }
-    Ok(append_plain(alloc, group, word, rest, to)?)
 }
 
 fn append_plain(
@@ -57,6 +61,7 @@ fn append_plain(
         "error" => append_text(errors::answer(alloc, word), to),
         "reply" => append_text(replies::answer(alloc, word, rest), to),
         "list" => lists::answer(alloc, word, rest, to),
+        "connection" => connections::answer(alloc, word, rest, to),
         _ => devices::answer(alloc, word, rest, to),
     }
 }
