@@ -23,6 +23,9 @@ use Rattle.machine_model.specs.Machine.{Running}
 use Rattle.machine_model.specs.declared.session.Session.{Session}
 use Rattle.machine_model.specs.State.{State, disconnected, is_given, opening}
 use Rattle.machine_model.specs.Step.{Gives, reply_in, step}
+use Rattle.known_ids.specs.Knowing.{KnowsCalls}
+use Rattle.known_ids.specs.declared.known.KnownIds.{KnownIds}
+use Rattle.capture_recorder.specs.declared.counters.Counters.{Counters}
 use Rattle.capture_recorder.specs.declared.progress.Progress.{Progress}
 use Rattle.capture_recorder.specs.Recording.{IsRecording, Recording, captured, connected_count, cut, is_stranger, kept_began, kept_ended, opened, recorded}
 use Rattle.capture_recorder.specs.Inside.Keeping.{Keeps, progress_of}
@@ -46,7 +49,7 @@ ordered began ended = omega arith
 after_last : (last began : ℕ) → last ≤ last_moment → last ≤ cut (max began last)
 after_last last began limit = omega (arith, limit)
 
-module _ (r : Recording) (engine : Running) (numbered : ℕ) (sessions : List Progress) (keeps : Keeps r engine numbered sessions) (session : ℕ) (within : session < 64) (call : Call) (began ended : ℕ) (given : is_stranger r.state call ≡ false) where
+module _ (r : Recording) (engine : Running) (numbered : ℕ) (sessions : List Progress) (known : KnownIds) (counters : Counters) (keeps : Keeps r engine numbered sessions known counters) (session : ℕ) (within : session < 64) (call : Call) (began ended : ℕ) (given : is_stranger r.state call ≡ false) where
   abbrev new : Captured
   new = captured r session call began ended
 
@@ -95,15 +98,21 @@ module _ (r : Recording) (engine : Running) (numbered : ℕ) (sessions : List Pr
             get_or-set_other sessions session other _ d (λ same. false≢true (sym there ∙ eq-eqb session other (sym same))) ∙ keeps.progress other d below ∙ (λ i. progress (calls i) (end i)))
       ]
 
-  pub keeps_longer : (next : Running) → length r.calls + connected_count (step r.state session call) < 100000 → IsGoodReply (reply_in r.state session call) → next.state ≡ step r.state session call → next.steps ≡ engine.steps + 1
-      → Keeps (recorded r session call began ended) next (numbered + cond (commits (reply_in r.state session call).outcome) 1 0) (set sessions session (progress (session_calls_before r.calls session (length r.calls) + 1) new.ended))
-  keeps_longer next room good state steps = record {
+  abbrev AreAfter : Counters → Type 0
+  AreAfter after = (after.next_row ≡ (step r.state session call).next_row) × (after.next_values.items ≡ (step r.state session call).next_values)
+
+  pub keeps_longer : (next : Running) (after : Counters) → length r.calls + connected_count (step r.state session call) < 100000 → IsGoodReply (reply_in r.state session call) → next.state ≡ step r.state session call → next.steps ≡ engine.steps + 1 → AreAfter after
+      → Keeps (recorded r session call began ended) next (numbered + cond (commits (reply_in r.state session call).outcome) 1 0) (set sessions session (progress (session_calls_before r.calls session (length r.calls) + 1) new.ended)) known after
+  keeps_longer next after room good state steps are_after = record {
     recording = recording_longer room good;
     state = state;
     steps = omega (arith, steps, keeps.steps, length_push r.calls new);
     numbered_is = omega (arith, keeps.numbered_is, count_more (λ (c : Captured). commits c.reply.outcome) r.calls new);
     count = length-set sessions session _ ∙ keeps.count;
     progress = progress_longer;
+    ids = keeps.ids;
+    next_row = are_after.0;
+    next_values = are_after.1;
   }
 
   -- ---- as the code puts it
@@ -115,37 +124,41 @@ module _ (r : Recording) (engine : Running) (numbered : ℕ) (sessions : List Pr
       let end : c.ended ≡ new.ended = e6 ∙ ap (λ (b : ℕ). kept_ended b ended) e5 in
       λ i. record { session = e0 i; place = e1 i; stamp = e2 i; seen = e3 i; number = number i; began = e5 i; ended = end i; call = e7 i; reply = e8 i }
 
-  pub keeps_added : (calls : List Captured) (next : Running) (count : ℕ) (p : Progress) → length r.calls + connected_count (step r.state session call) < 100000 → IsGoodReply (reply_in r.state session call)
+  pub keeps_added : (calls : List Captured) (next : Running) (count : ℕ) (p : Progress) (after : Counters) → length r.calls + connected_count (step r.state session call) < 100000 → IsGoodReply (reply_in r.state session call)
       → next.state ≡ step r.state session call → next.steps ≡ engine.steps + 1 → calls ≡ r.calls ++ new ∷ [] → count ≡ numbered + cond (commits (reply_in r.state session call).outcome) 1 0
-      → p ≡ progress (session_calls_before r.calls session (length r.calls) + 1) new.ended
-      → Keeps (record { start = r.start; calls = calls; state = next.state }) next count (set sessions session p)
-  keeps_added calls next count p room good state steps calls_are count_is p_is =
-      let kept = keeps_longer next room good state steps in
-      let after : Recording = record { start = r.start; calls = calls; state = next.state } in
-      let now : after ≡ recorded r session call began ended = λ i. record { start = r.start; calls = calls_are i; state = state i } in
-      subst (λ (x : Recording). Keeps x next count (set sessions session p)) (sym now)
-      (subst (λ (x : ℕ). Keeps (recorded r session call began ended) next x (set sessions session p)) (sym count_is)
-      (subst (λ (x : Progress). Keeps (recorded r session call began ended) next (numbered + cond (commits (reply_in r.state session call).outcome) 1 0) (set sessions session x)) (sym p_is) kept))
+      → p ≡ progress (session_calls_before r.calls session (length r.calls) + 1) new.ended → AreAfter after
+      → Keeps (record { start = r.start; calls = calls; state = next.state }) next count (set sessions session p) known after
+  keeps_added calls next count p after room good state steps calls_are count_is p_is are_after =
+      let kept = keeps_longer next after room good state steps are_after in
+      let longer : Recording = record { start = r.start; calls = calls; state = next.state } in
+      let now : longer ≡ recorded r session call began ended = λ i. record { start = r.start; calls = calls_are i; state = state i } in
+      subst (λ (x : Recording). Keeps x next count (set sessions session p) known after) (sym now)
+      (subst (λ (x : ℕ). Keeps (recorded r session call began ended) next x (set sessions session p) known after) (sym count_is)
+      (subst (λ (x : Progress). Keeps (recorded r session call began ended) next (numbered + cond (commits (reply_in r.state session call).outcome) 1 0) (set sessions session x) known after) (sym p_is) kept))
 
 -- ---- nothing is recorded yet
 
-pub keeps_none : (start : StartView) (engine : Running) (sessions : List Progress) → engine.state ≡ opening start → engine.steps ≡ 0 → sessions ≡ replicate 64 (progress 0 0) → Keeps (opened start) engine 0 sessions
-keeps_none start engine sessions state steps are = record {
-  recording = record {
-    legal = record { count = omega arith; each = λ k call at. absurd cc; replies = (opening start, refl) };
-    reached = refl;
-    room = omega (arith, count_by-le-length (λ (s : Session). is_some s.rights) (replicate 64 disconnected), length-replicate 64 disconnected);
-    texts = tt;
-  };
-  state = state;
-  steps = steps;
-  numbered_is = refl;
-  count = ap length are;
-  progress = λ session other below. ap (λ (ps : List Progress). get_or ps session other) are ∙ get_or-replicate 64 session (progress 0 0) other below;
-}
+module _ (start : StartView) (known : KnownIds) (counters : Counters) (knows : KnowsCalls known start.rows []) (row : counters.next_row ≡ start.next_row) (values : counters.next_values.items ≡ start.next_values) where
+  keeps_none : (engine : Running) (sessions : List Progress) → engine.state ≡ opening start → engine.steps ≡ 0 → sessions ≡ replicate 64 (progress 0 0) → Keeps (opened start) engine 0 sessions known counters
+  keeps_none engine sessions state steps are = record {
+    recording = record {
+      legal = record { count = omega arith; each = λ k call at. absurd cc; replies = (opening start, refl) };
+      reached = refl;
+      room = omega (arith, count_by-le-length (λ (s : Session). is_some s.rights) (replicate 64 disconnected), length-replicate 64 disconnected);
+      texts = tt;
+    };
+    state = state;
+    steps = steps;
+    numbered_is = refl;
+    count = ap length are;
+    progress = λ session other below. ap (λ (ps : List Progress). get_or ps session other) are ∙ get_or-replicate 64 session (progress 0 0) other below;
+    ids = knows;
+    next_row = row;
+    next_values = values;
+  }
 
-pub keeps_loaded : (start : StartView) (calls : List Captured) (engine : Running) (sessions : List Progress) → calls ≡ [] → engine ≡ record { state = opening start; steps = 0 } → sessions ≡ replicate 64 (progress 0 0) → Keeps (record { start = start; calls = calls; state = engine.state }) engine 0 sessions
-keeps_loaded start calls engine sessions none first are =
-    let loaded = keeps_none start (record { state = opening start; steps = 0 }) sessions refl refl are in
-    subst (λ (cs : List Captured). Keeps (record { start = start; calls = cs; state = engine.state }) engine 0 sessions) (sym none)
-    (subst (λ (e : Running). Keeps (record { start = start; calls = []; state = e.state }) e 0 sessions) (sym first) loaded)
+  pub keeps_loaded : (calls : List Captured) (engine : Running) (sessions : List Progress) → calls ≡ [] → engine ≡ record { state = opening start; steps = 0 } → sessions ≡ replicate 64 (progress 0 0) → Keeps (record { start = start; calls = calls; state = engine.state }) engine 0 sessions known counters
+  keeps_loaded calls engine sessions none first are =
+      let loaded = keeps_none (record { state = opening start; steps = 0 }) sessions refl refl are in
+      subst (λ (cs : List Captured). Keeps (record { start = start; calls = cs; state = engine.state }) engine 0 sessions known counters) (sym none)
+      (subst (λ (e : Running). Keeps (record { start = start; calls = []; state = e.state }) e 0 sessions known counters) (sym first) loaded)

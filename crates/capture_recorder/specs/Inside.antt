@@ -1,3 +1,5 @@
 -- Words of private clauses and of what holds of fields. They need not be believed.
 pub mod Declaring
 pub mod Keeping
+pub mod Given
+pub mod Answered

@@ -7,13 +7,21 @@
 //! are turned away, what closing a session does and what the generated capture is are said by the same function.
 #![tactic(auto)]
 
+mod counters;
+mod door;
+mod evidence;
+mod gathering;
 mod generated;
+mod locked_door;
 mod progress;
 mod recorder;
 mod refusal;
 mod sessions;
 
+pub use door::{CallDoor, Said, SaidList, SaidLists, Turned, TurnedList, TurnedLists};
+pub use gathering::{GatherErr, gather};
 pub use generated::{GENERATED_SESSIONS, generate};
+pub use locked_door::LockedDoor;
 pub use recorder::{ACCEPTED_LIMIT, Recorder, Twice};
 pub use refusal::CallErr;
 pub use sessions::sessions_of;

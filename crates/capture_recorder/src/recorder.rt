@@ -3,17 +3,19 @@
 ghost use Rattle.std.specs.Prelude.{◌≡◌, ◌≢◌, ℕ, ◌+◌, ◌<◌, ◌≤◌, false, if◌then◌else◌, length, IfOk, IfSome, OnOk, OnErr, IsSomeAnd, Some};
 ghost use Rattle.desk_values.specs.Good.{IsGoodReply};
 ghost use Rattle.capture_format.specs.SessionFile.{AreCallsOf};
-ghost use Rattle.machine_model.specs.State.{is_connected, session_at};
+ghost use Rattle.machine_model.specs.State.{is_connected, is_given, session_at};
 ghost use Rattle.machine_model.specs.Step.{reply_in, step};
 ghost use Rattle.capture_recorder.specs.Limits.{accepted_limit};
 ghost use Rattle.capture_recorder.specs.Recording.{IsRecording, Turns, captured, closed, closing_reply, connected_count, cut, is_stranger, kept_ended, opened, recorded, turned_away};
 ghost use Rattle.captured_calls.specs.Sessions.{calls_of};
 
+use crate::counters::Counters;
 use crate::progress::Progress;
 use crate::refusal::CallErr;
 use crate::sessions::session_calls;
 use desk_schema::Start;
-use desk_values::{Call, CallList, Captured, Copied, LAST_MOMENT, Memory, Reply};
+use desk_values::{Call, CallList, Captured, Copied, LAST_MOMENT, Memory, Reply, Value};
+use known_ids::KnownIds;
 use replay_history::commits;
 use std::alloc::Global;
 use std::marker::Model;
@@ -41,6 +43,10 @@ pub struct Recorder {
     calls: CallList,
     numbered: u64,
     sessions: Vec<Progress>,
+    /// The ids of the start's rows.
+    known: KnownIds,
+    /// What the engine gives out next.
+    counters: Counters,
 }
 
 impl Model for Recorder {
@@ -53,7 +59,7 @@ impl Model for Recorder {
     ghost view = { λ a. record { start = a.start; calls = a.calls.items; state = a.engine.state } };
 
     ghost invariant = { λ a. Keeps
-        (record { start = a.start; calls = a.calls.items; state = a.engine.state }) a.engine a.numbered a.sessions.items };
+        (record { start = a.start; calls = a.calls.items; state = a.engine.state }) a.engine a.numbered a.sessions.items a.known a.counters };
 }
 
 impl Recorder {
@@ -64,6 +70,8 @@ impl Recorder {
         let engine = Engine::load(alloc, start)?;
         let start = start.copy()?;
         let sessions = vec![in alloc; Progress { calls: 0, ended: 0 }; 64]?;
+        let known = KnownIds::of_calls(alloc, start.rows().as_slice(), &[])?;
+        let counters = Counters::of_start(alloc, &start)?;
         Ok(Recorder {
             alloc,
             start,
@@ -71,6 +79,8 @@ impl Recorder {
             calls: CallList::new(alloc),
             numbered: 0,
             sessions,
+            known,
+            counters,
         })
     }
 
@@ -119,13 +129,32 @@ impl Recorder {
         ensures turned { Turns result (turned_away self.old call.now) }
         ensures err { OnErr result (self.new ≡ self.old) }
     {
-        if self.calls.len() >= ACCEPTED_LIMIT {
-            return Err(CallErr::Full);
+        match self.refusal(call) {
+            Some(refusal) => Err(refusal),
+            None => Ok(self.record(session, call, began, ended)?),
         }
-        if self.is_stranger(call) {
-            return Err(CallErr::Stranger);
+    }
+
+    /// The same with a call that is handed over, so that it is not copied.
+    pub(crate) fn accept(
+        &mut self,
+        session: u32,
+        call: Call,
+        began: u64,
+        ended: u64,
+    ) -> Result<Twice, CallErr>
+        requires { session < 64 }
+        ensures ok { OnOk result (self.new ≡ recorded self.old session call began ended) }
+        ensures reply { IfOk result (λ twice. twice.reply ≡ reply_in self.old.state session call) }
+        ensures same { IfOk result (λ twice. twice.same ≡ twice.reply) }
+        ensures good { IfOk result (λ twice. IsGoodReply twice.reply) }
+        ensures turned { Turns result (turned_away self.old call) }
+        ensures err { OnErr result (self.new ≡ self.old) }
+    {
+        match self.refusal(&call) {
+            Some(refusal) => Err(refusal),
+            None => Ok(self.record_own(session, call, began, ended)?),
         }
-        Ok(self.record(session, call, began, ended)?)
     }
 
     /// Disconnects a session that is connected at this moment: it records the call and gives its reply. For another
@@ -146,8 +175,21 @@ impl Recorder {
             return Ok(None);
         }
         self.know_recording();
-        let twice = self.append(session, &Call::Disconnect, at, at)?;
+        let twice = self.append(session, Call::Disconnect, at, at)?;
         Ok(Some(twice.reply))
+    }
+
+    /// Why a call is turned away, if it is.
+    fn refusal(&self, call: &Call) -> Option<CallErr>
+        ensures { result ≡ turned_away self.now call.now }
+    {
+        if self.calls.len() >= ACCEPTED_LIMIT {
+            return Some(CallErr::Full);
+        }
+        if self.is_stranger(call) {
+            return Some(CallErr::Stranger);
+        }
+        None
     }
 
     /// Whether some bind is an id that was never given.
@@ -155,9 +197,16 @@ impl Recorder {
         ensures { result ≡ is_stranger self.now.state call.now }
     {
         match call {
-            Call::Sql(_, binds) => binds.as_slice().iter().any(|bind| !self.engine.given(bind)),
+            Call::Sql(_, binds) => binds.as_slice().iter().any(|bind| !self.is_given(bind)),
             _ => false,
         }
+    }
+
+    /// Whether a client can know a value. It looks at no row.
+    fn is_given(&self, value: &Value) -> bool
+        ensures { result ≡ is_given self.now.state value.now }
+    {
+        !value.is_id() || self.known.knows(value, 0) || self.counters.has_given(&self.start, value)
     }
 
     /// Records a call that is not turned away.
@@ -177,6 +226,27 @@ impl Recorder {
         ensures good { IfOk result (λ twice. IsGoodReply twice.reply) }
         ensures err { OnErr result (self.new ≡ self.old) }
     {
+        let call = call.copy()?;
+        self.record_own(session, call, began, ended)
+    }
+
+    /// The same with a call that is handed over.
+    fn record_own(
+        &mut self,
+        session: u32,
+        call: Call,
+        began: u64,
+        ended: u64,
+    ) -> Result<Twice, Memory>
+        requires session { session < 64 }
+        requires given { is_stranger self.old.state call ≡ false }
+        requires room { length self.old.calls < accepted_limit }
+        ensures ok { OnOk result (self.new ≡ recorded self.old session call began ended) }
+        ensures reply { IfOk result (λ twice. twice.reply ≡ reply_in self.old.state session call) }
+        ensures same { IfOk result (λ twice. twice.same ≡ twice.reply) }
+        ensures good { IfOk result (λ twice. IsGoodReply twice.reply) }
+        ensures err { OnErr result (self.new ≡ self.old) }
+    {
         self.know_recording();
         self.append(session, call, began, ended)
     }
@@ -188,25 +258,26 @@ impl Recorder {
         let _numbered = self.numbered;
     }
 
-    /// Records a call for which there is room, also for the disconnects that may follow. Room and copies are taken before the server's step.
+    /// Records a call for which there is room, also for the disconnects that may follow. The room is taken before the
+    /// server's step.
     pub(crate) fn append(
         &mut self,
         session: u32,
-        call: &Call,
+        call: Call,
         began: u64,
         ended: u64,
     ) -> Result<Twice, Memory>
         requires session { session < 64 }
-        requires given { is_stranger self.old.state call.now ≡ false }
-        requires room { length self.old.calls + connected_count (step self.old.state session call.now) < 100000 }
-        ensures ok { OnOk result (self.new ≡ recorded self.old session call.now began ended) }
-        ensures reply { IfOk result (λ twice. twice.reply ≡ reply_in self.old.state session call.now) }
+        requires given { is_stranger self.old.state call ≡ false }
+        requires room { length self.old.calls + connected_count (step self.old.state session call) < 100000 }
+        ensures ok { OnOk result (self.new ≡ recorded self.old session call began ended) }
+        ensures reply { IfOk result (λ twice. twice.reply ≡ reply_in self.old.state session call) }
         ensures same { IfOk result (λ twice. twice.same ≡ twice.reply) }
         ensures good { IfOk result (λ twice. IsGoodReply twice.reply) }
         ensures err { OnErr result (self.new ≡ self.old) }
     {
+        self.start.know_rules();
         self.calls.reserve(1)?;
-        let call = call.copy()?;
         let copies = self.engine.step_copies(session, &call)?;
         let place = self.sessions[session as usize];
         let began = cut(began.max(place.ended));
@@ -228,6 +299,7 @@ impl Recorder {
             calls: place.calls + 1,
             ended,
         };
+        self.counters.note(&copies.first);
         Ok(Twice {
             reply: copies.first,
             same: copies.second,

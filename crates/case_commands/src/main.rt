@@ -4,7 +4,11 @@
 //!   the byte N and `\N*c;` for N times c
 //! - `none NAME`: there is none
 //! - `run CALLS PRINTS WORDS`: runs a command over these files, where calls of the files and of the output with these
-//!   numbers fail; `-` for none. It prints the status, the line and each file that is new or has other bytes, by its name
+//!   numbers fail; `-` for none. It prints the status, the line and each file that is new or has other bytes, by its name, and
+//!   in brackets what each connection was answered that was given back
+//! - `conn READS WRITES ROOM TEXT`: the host of the next run has this connection too, which sends this text, whose reads and writes with
+//!   these numbers fail, and whose output has so much room
+//! - `host CALLS`: calls of that host with these numbers fail
 //! - `word BYTES`, `arguments WORDS`: it prints the word, or the words after the first
 //!
 //! No call waits for its pause. A run of several sessions in a mode other than `order` has one lane, which takes the first
@@ -15,6 +19,7 @@
 //! stand in `tests/commands.in` in the same form.
 #![tactic(auto)]
 
+mod guests;
 mod kept;
 mod runs;
 mod watched;
@@ -22,6 +27,7 @@ mod words;
 
 use case_text::first_word;
 use desk_values::{Bytes, List, ReadErr};
+use guests::Guests;
 use kept::Kept;
 use std::alloc::Global;
 use std::sync::Wait;
@@ -31,8 +37,9 @@ use std::time::Clock;
 fn main(rt: HostRuntime) -> Result<(), anyhow::Error> {
     let alloc = rt.alloc();
     let mut kept = Kept::new(alloc);
+    let mut guests = Guests::new(alloc);
     for line in rt.lines(alloc) {
-        let answer = answer_of(&rt, alloc, &mut kept, line?.as_str())?;
+        let answer = answer_of(&rt, alloc, &mut kept, &mut guests, line?.as_str())?;
         if !answer.is_empty() {
             println!(rt; "{}", str::from_utf8(answer.as_slice())?)?;
         }
@@ -44,12 +51,15 @@ fn answer_of<R: Clock + Wait + Threads + Sync>(
     rt: &R,
     alloc: Global,
     kept: &mut Kept,
+    guests: &mut Guests,
     line: &str,
 ) -> Result<Bytes, ReadErr> {
     let mut answer = List::new(alloc);
     let (word, rest) = first_word(line);
     match word {
-        "run" => runs::append_run(rt, alloc, kept, rest, &mut answer)?,
+        "run" => runs::append_run(rt, alloc, kept, guests, rest, &mut answer)?,
+        "conn" => guests.add(rest)?,
+        "host" => guests.fail(rest)?,
         "word" => words::append_word(alloc, rest, &mut answer)?,
         "arguments" => words::append_arguments(alloc, rest, &mut answer)?,
         _ => kept.set(alloc, word, rest)?,

@@ -1,10 +1,11 @@
 //! Whole runs of commands.
 
+use crate::guests::Guests;
 use crate::kept::Kept;
 use crate::watched::Watched;
 use crate::words::words_of;
 use case_text::{first_word, stamps_of, txt};
-use desk_files::{MemDoor, MemFiles, MemSink};
+use desk_files::{MemDoor, MemFiles, MemHost, MemSink};
 use desk_values::fields::append_u64;
 use desk_values::{Bytes, Memory, ReadErr};
 use replay_cli::replay_main;
@@ -22,6 +23,7 @@ pub fn append_run<R: Clock + Wait + Threads + Sync>(
     rt: &R,
     alloc: Global,
     kept: &Kept,
+    guests: &mut Guests,
     text: &str,
     to: &mut Bytes,
 ) -> Result<(), ReadErr> {
@@ -31,11 +33,21 @@ pub fn append_run<R: Clock + Wait + Threads + Sync>(
     let mut files = Watched::new(alloc, kept.to_files(alloc, stamps_of(alloc, calls)?)?);
     let mut out = MemSink::new(alloc, LINE_ROOM, stamps_of(alloc, prints)?)?;
     let door = MemDoor::new(alloc);
-    let status = replay_main(rt, alloc, words.as_slice(), &mut files, &door, &mut out);
+    let mut host = guests.host()?;
+    let status = replay_main(
+        rt,
+        alloc,
+        words.as_slice(),
+        &mut files,
+        &mut host,
+        &door,
+        &mut out,
+    );
     append_u64(u64::from(status), to)?;
     to.push(b' ')?;
     append_lines(out.held().as_slice(), to)?;
-    append_changed(alloc, kept, &files, to)
+    append_changed(alloc, kept, &files, to)?;
+    append_given_back(&host, to)
 }
 
 // The files that were not there before, or had other bytes, by their names.
@@ -66,10 +78,27 @@ fn append_file(name: &str, bytes: &Bytes, to: &mut Bytes) -> Result<(), Memory> 
     append_lines(bytes.as_slice(), to)
 }
 
-// The bytes, with `/` for the end of a line.
+// What each connection was answered that was given back.
+fn append_given_back(host: &MemHost, to: &mut Bytes) -> Result<(), ReadErr> {
+    for i in 0..usize::MAX {
+        let Some(output) = host.given_back(i) else {
+            return Ok(());
+        };
+        to.append(b" <")?;
+        append_lines(output.held().as_slice(), to)?;
+        to.push(b'>')?;
+    }
+    Ok(())
+}
+
+// The bytes, with `/` for a line feed and `^` for a carriage return.
 fn append_lines(bytes: &[u8], to: &mut Bytes) -> Result<(), Memory> {
     for byte in bytes {
-        to.push(if *byte == b'\n' { b'/' } else { *byte })?;
+        to.push(match byte {
+            b'\n' => b'/',
+            b'\r' => b'^',
+            other => *other,
+        })?;
     }
     Ok(())
 }

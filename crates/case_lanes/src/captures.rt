@@ -1,7 +1,7 @@
 //! Captures in memory, and runs over them.
 
-use desk_files::{Door, MemFiles, MemSink};
-use desk_values::{List, Memory, ReadErr, Stamps, Txt};
+use desk_files::{Door, MemConn, MemConns, MemFiles, MemHost, MemSink};
+use desk_values::{Bytes, List, Memory, ReadErr, Stamps, Txt};
 use replay_cli::replay_main;
 use std::alloc::Global;
 use std::sync::Wait;
@@ -10,6 +10,9 @@ use std::time::Clock;
 
 /// Room for the line of a run.
 const LINE_ROOM: u32 = 1000;
+
+// The request of a client that connects, and no more.
+const CONNECT: &[u8] = b"POST /call HTTP/1.1\r\nContent-Length: 18\r\n\r\n{\"connect\":\"main\"}";
 
 /// A file by its name.
 pub type Named = (&'static str, &'static str);
@@ -92,13 +95,37 @@ pub fn ran<R: Clock + Wait + Threads + Sync, D: Door>(
     alloc: Global,
     words: &str,
     files: &mut MemFiles,
+    conns: MemConns,
     door: &D,
 ) -> Result<String, anyhow::Error> {
     let words = words_of(alloc, words)?;
     let mut out = MemSink::new(alloc, LINE_ROOM, Stamps::new(alloc))?;
-    let status = replay_main(rt, alloc, words.as_slice(), files, door, &mut out);
+    let mut host = MemHost::new(alloc, conns, Stamps::new(alloc))?;
+    let status = replay_main(
+        rt,
+        alloc,
+        words.as_slice(),
+        files,
+        &mut host,
+        door,
+        &mut out,
+    );
     let line = str::from_utf8(out.held().as_slice())?.trim_end();
     Ok(format!(in alloc; "{status} {line}")?)
+}
+
+/// So many connections, each of which connects.
+pub fn guests(alloc: Global, count: u32) -> Result<MemConns, Memory> {
+    let mut conns = MemConns::new(alloc);
+    for _ in 0..count {
+        conns.push(MemConn {
+            input: Bytes::from_slice(alloc, CONNECT)?,
+            room: LINE_ROOM,
+            input_fails: Stamps::new(alloc),
+            output_fails: Stamps::new(alloc),
+        })?;
+    }
+    Ok(conns)
 }
 
 fn words_of(alloc: Global, words: &str) -> Result<List<Txt>, ReadErr> {

@@ -64,3 +64,43 @@ impl Door for PairDoor {
         0
     }
 }
+
+/// Holds its first caller for the time until another one comes for it. Once its turns are spent it holds nobody any more.
+#[derive(Drop)]
+pub struct FirstDoor {
+    came: AtomicU64,
+    turns: AtomicU64,
+}
+
+impl FirstDoor {
+    /// A door to which nobody has come.
+    pub fn new() -> FirstDoor {
+        FirstDoor {
+            came: AtomicU64::new(0),
+            turns: AtomicU64::new(0),
+        }
+    }
+
+    /// Whether its turns are spent.
+    pub fn is_spent(&self) -> bool {
+        TURNS <= self.turns.load(Ordering::SeqCst)
+    }
+}
+
+impl Door for FirstDoor {
+    fn pass<R: Clock + Wait>(&self, _rt: &R, _k: u32, _micros: u64) {}
+
+    fn now<R: Clock + Wait>(&self, rt: &R) -> u64 {
+        if self.came.fetch_add(1, Ordering::SeqCst) > 0 {
+            return 0;
+        }
+        for _turn in 0..TURNS {
+            if 1 < self.came.load(Ordering::SeqCst) {
+                return 0;
+            }
+            self.turns.fetch_add(1, Ordering::SeqCst);
+            thread::sleep(rt, Duration::from_millis(1));
+        }
+        0
+    }
+}

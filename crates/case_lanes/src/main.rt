@@ -1,6 +1,7 @@
 //! Lanes at doors of their own. Each run has two sessions whose calls come in pairs, and a door that holds each call of a pair until
 //! the other one comes: a run that takes one call after the other, in whatever order, does not get past it. Then a door that
-//! keeps the pauses that it is told, and a lane at a desk that is stopped.
+//! keeps the pauses that it is told, and a lane at a desk that is stopped. And two connections to a server, of which the first is held until
+//! the second comes too.
 //!
 //! Enters: nothing. Leaves: lines, the same whatever the schedule: the status and the line of each run, and what its door saw. It touches
 //! the standard output, threads and the clock alone.
@@ -10,9 +11,9 @@ mod captures;
 mod doors;
 mod stopped;
 
-use captures::{PAIRS, PAUSED, files_of, ran};
+use captures::{PAIRS, PAUSED, files_of, guests, ran};
 use desk_files::{MemDoor, MemFiles};
-use doors::PairDoor;
+use doors::{FirstDoor, PairDoor};
 use std::alloc::Global;
 use std::sync::Wait;
 use std::thread::Threads;
@@ -30,6 +31,7 @@ fn main(rt: HostRuntime) -> Result<(), anyhow::Error> {
         alloc,
         "run cap out --mode off --think 33 --connect 0 --lanes 64",
     )?;
+    served(&rt, alloc)?;
     let events = stopped::events(&rt, alloc)?;
     println!(rt; "a lane at a stopped desk: {events} events")?;
     Ok(())
@@ -43,9 +45,22 @@ fn pairs<R: Clock + Wait + Threads + Sync + Print>(
 ) -> Result<(), anyhow::Error> {
     let mut files = files_of(alloc, &PAIRS)?;
     let door = PairDoor::new();
-    let said = ran(rt, alloc, words, &mut files, &door)?;
+    let said = ran(rt, alloc, words, &mut files, guests(alloc, 0)?, &door)?;
     let (came, spent) = (door.came(), door.is_spent());
     println!(rt; "{words}: {said}, {came} came, turns spent: {spent}")?;
+    Ok(())
+}
+
+// Two connections, of which the first is held until the second comes.
+fn served<R: Clock + Wait + Threads + Sync + Print>(
+    rt: &R,
+    alloc: Global,
+) -> Result<(), anyhow::Error> {
+    let mut files = files_of(alloc, &PAIRS)?;
+    let door = FirstDoor::new();
+    let words = "serve made cap/start.cap 2";
+    let said = ran(rt, alloc, words, &mut files, guests(alloc, 2)?, &door)?;
+    println!(rt; "{words}: {said}, turns spent: {}", door.is_spent())?;
     Ok(())
 }
 
@@ -57,7 +72,7 @@ fn pauses<R: Clock + Wait + Threads + Sync + Print>(
 ) -> Result<(), anyhow::Error> {
     let mut files = files_of(alloc, &PAUSED)?;
     let door = MemDoor::new(alloc);
-    let said = ran(rt, alloc, words, &mut files, &door)?;
+    let said = ran(rt, alloc, words, &mut files, guests(alloc, 0)?, &door)?;
     println!(rt; "{words}: {said}")?;
     for passed in door.passed(rt)?.as_slice() {
         let (stamp, micros) = (passed.stamp, passed.micros);

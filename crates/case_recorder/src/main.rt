@@ -7,30 +7,45 @@
 //! - `fill N`: so many commits of session 0; it prints what the last is answered
 //! - `count`: how many calls are recorded, `numbers`: the numbers of each call
 //! - `files N`: the files of the first N sessions
+//! - `doors`, then the lines of a script, up to `gather`: over the start, with the doors of sessions 0 to 3. In a script
+//!   - `N connect SERVICE` and the like: a call through the door of session N, `fill N`: so many commits through that of 0
+//!   - `close N`: the end of a door; it prints how many calls it has said then
+//!   - `said N CALL`: the door of N says at the end that it said this call, and was disconnected
+//!   - `turned N PLACE HELD full CALL`, or `stranger` for `full`: it says at the end that it turned this call away
+//!   - `gather`: the files of the sessions, or where the recorder and the doors differ
 //!
-//! Enters: lines of the standard input. Leaves: lines. It touches the standard input and output alone. The expected
+//! Enters: lines of the standard input. Leaves: lines. It touches the standard input and output alone, and a lock. The expected
 //! lines were worked out by hand and by a program of its own, from the rules of the recorder and not by it.
 #![tactic(auto)]
 
 mod asking;
+mod doors;
 mod shown;
 mod stage;
 mod tape;
+mod together;
 
 use stage::{Stage, told};
 use std::alloc::Global;
+use std::sync::Wait;
+use std::time::Clock;
 
 fn main(rt: HostRuntime) -> Result<(), anyhow::Error> {
     let alloc = rt.alloc();
     let mut stage = Stage::new();
-    run(&rt, alloc, &mut stage)
+    run(&rt, &rt, alloc, &mut stage)
 }
 
-fn run(rt: &HostRuntime, alloc: Global, stage: &mut Stage) -> Result<(), anyhow::Error> {
-    for line in rt.lines(alloc) {
+fn run<R: Clock + Wait>(
+    host: &HostRuntime,
+    rt: &R,
+    alloc: Global,
+    stage: &mut Stage,
+) -> Result<(), anyhow::Error> {
+    for line in host.lines(alloc) {
         let line = line?;
-        if let Some(answer) = told(alloc, stage, line.as_str())? {
-            println!(rt; "{answer}")?;
+        if let Some(answer) = told(rt, alloc, stage, line.as_str())? {
+            println!(host; "{answer}")?;
         }
     }
     Ok(())

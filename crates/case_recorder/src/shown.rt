@@ -2,7 +2,7 @@
 
 use anyhow::anyhow;
 use capture_format::write_reply;
-use capture_recorder::{CallErr, Twice};
+use capture_recorder::{CallErr, Said, Twice};
 use desk_values::{Bytes, Captured, Reply};
 use std::alloc::Global;
 
@@ -24,9 +24,24 @@ pub fn reply(alloc: Global, reply: &Reply) -> Result<String, anyhow::Error> {
 pub fn answer(alloc: Global, answer: Result<Twice, CallErr>) -> Result<String, anyhow::Error> {
     match answer {
         Ok(twice) => reply_once(alloc, &twice),
-        Err(CallErr::Stranger) => Ok(String::from_str(alloc, "stranger")?),
-        Err(CallErr::Full) => Ok(String::from_str(alloc, "full")?),
-        Err(CallErr::Memory) => Err(anyhow!("out of memory")),
+        Err(reason) => refusal(alloc, reason),
+    }
+}
+
+/// Why a call was turned away.
+pub fn refusal(alloc: Global, refusal: CallErr) -> Result<String, anyhow::Error> {
+    match refusal {
+        CallErr::Stranger => Ok(String::from_str(alloc, "stranger")?),
+        CallErr::Full => Ok(String::from_str(alloc, "full")?),
+        CallErr::Memory => Err(anyhow!("out of memory")),
+    }
+}
+
+/// A reply that was said, `-` where there is none.
+pub fn said(alloc: Global, said: &Option<Said>) -> Result<String, anyhow::Error> {
+    match said {
+        Some(said) => reply(alloc, &said.reply),
+        None => Ok(String::from_str(alloc, "-")?),
     }
 }
 

@@ -1,6 +1,7 @@
 //! The lines of cases, one after the other.
 
 use crate::asking::answered;
+use crate::doors::played;
 use crate::tape::Tape;
 use anyhow::anyhow;
 use capture_format::read_start;
@@ -8,6 +9,8 @@ use desk_schema::Start;
 use desk_values::{Bytes, List};
 use std::alloc::Global;
 use std::marker::Model;
+use std::sync::Wait;
+use std::time::Clock;
 
 /// The case that is being told. Contracts see nothing of it.
 #[derive(Drop)]
@@ -15,6 +18,8 @@ pub struct Stage {
     /// The lines of the start file so far, while it is being told.
     start: Option<Bytes>,
     tape: Option<Tape>,
+    /// The lines of a script of doors so far, while it is being told.
+    script: Option<Vec<String>>,
 }
 
 impl Model for Stage {
@@ -29,6 +34,7 @@ impl Stage {
         Stage {
             start: None,
             tape: None,
+            script: None,
         }
     }
 
@@ -64,6 +70,32 @@ impl Stage {
         Ok(())
     }
 
+    // Takes a line of a script of doors. After its last line the answers to all are told.
+    fn direct<R: Clock + Wait>(
+        &mut self,
+        rt: &R,
+        alloc: Global,
+        line: &str,
+    ) -> Result<Option<String>, anyhow::Error> {
+        match &mut self.script {
+            Some(script) if line != "gather" => {
+                script.push(String::from_str(alloc, line)?)?;
+                Ok(None)
+            }
+            _ => self.play(rt, alloc),
+        }
+    }
+
+    fn play<R: Clock + Wait>(
+        &mut self,
+        rt: &R,
+        alloc: Global,
+    ) -> Result<Option<String>, anyhow::Error> {
+        let script = self.script.take().ok_or(anyhow!("no script"))?;
+        let tape = self.tape.as_ref().ok_or(anyhow!("no start"))?;
+        Ok(Some(played(rt, alloc, tape.start(), script.as_slice())?))
+    }
+
     // What a line about the recorded calls is answered.
     fn answer(&mut self, alloc: Global, line: &str) -> Result<String, anyhow::Error> {
         match &mut self.tape {
@@ -74,7 +106,19 @@ impl Stage {
 }
 
 /// What a line is answered; the lines of a start file are not.
-pub fn told(alloc: Global, stage: &mut Stage, line: &str) -> Result<Option<String>, anyhow::Error> {
+pub fn told<R: Clock + Wait>(
+    rt: &R,
+    alloc: Global,
+    stage: &mut Stage,
+    line: &str,
+) -> Result<Option<String>, anyhow::Error> {
+    if stage.script.is_some() {
+        return stage.direct(rt, alloc, line);
+    }
+    if line == "doors" {
+        stage.script = Some(Vec::new(alloc));
+        return Ok(None);
+    }
     if line.starts_with("case ") {
         return Ok(Some(String::from_str(alloc, line)?));
     }

@@ -61,6 +61,11 @@ impl Tape {
         self.recorder.close(session, at)
     }
 
+    /// What it began with.
+    pub fn start(&self) -> &Start {
+        self.recorder.start()
+    }
+
     /// The calls by stamp.
     pub fn calls(&self) -> &[Captured] {
         self.recorder.calls().as_slice()

@@ -1,6 +1,6 @@
 //! Laws of what the words and the files come to.
 
-ghost use Rattle.law_commands.specs.Commands.Complete.{CapturesArePrepared, CapturesAreReplayed, LegalCapturesArePrepared, LegalCapturesAreReplayed};
+ghost use Rattle.law_commands.specs.Commands.Complete.{CapturesAreMade, CapturesArePrepared, CapturesAreReplayed, CapturesAreTried, LegalCapturesArePrepared, LegalCapturesAreReplayed, StartsAreServed};
 ghost use Rattle.law_commands.specs.Commands.Ends.{JournalsTellTheirHistory, PlansTellTheirHistory, QuietRunsCarryTables, RunsAgainAreQuiet, TablesAreCarried};
 
 /// Completeness of `run`: where the words are its command, the files of the capture are there, each within the limit of one
@@ -23,6 +23,17 @@ pub fn legal_captures_are_replayed()
 /// The same of `prepare`.
 pub fn legal_captures_are_prepared()
     ensures { LegalCapturesArePrepared }
+{}
+
+/// The same of `serve`: where the file of the start is there, within the limit of one file, and is one, its start is served.
+pub fn starts_are_served()
+    ensures { StartsAreServed }
+{}
+
+/// The same of `generate` and `trial`, of which the words alone decide.
+pub fn captures_are_made_and_tried()
+    ensures made { CapturesAreMade }
+    ensures tried { CapturesAreTried }
 {}
 
 /// The journal that is written tells one history: the one that the replay had, that is reported on and that the other files are of.

@@ -1,4 +1,3 @@
 pub mod Walking
 pub mod Seating
-pub mod Knowing
 pub mod Places

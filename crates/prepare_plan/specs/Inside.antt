@@ -1,21 +1,13 @@
 -- Words for the steps of the work.
 use Rattle.std.specs.Prelude.{◌≡◌, ℕ, ◌<◌, ◌≤◌, Bool, true, false, List, [], ◌∷◌, length, map, Option, None, Some, Result, Ok, Err, slice_index_or}
-use Rattle.std.specs.BTreeSet.{contains}
-use Rattle.std.specs.declared.cmp.Ordering.{Ordering}
-use Rattle.std.specs.Ordering.{nat_cmp, ordering_then}
-use Rattle.std.specs.List.{filter, list_any}
+use Rattle.std.specs.List.{filter}
 use denote.Ref.{Bor}
 use Rattle.desk_values.specs.Room.{Room}
-use Rattle.desk_values.specs.Ids.{is_id}
-use Rattle.captured_calls.specs.Same.{same_value}
 use Rattle.captured_calls.specs.Stamps.{has_stamp, by_stamp}
-use Rattle.desk_values.specs.declared.value.Value.{Value}
-use Rattle.desk_values.specs.declared.value.Value.TheVariants.{Row, Draw}
 use Rattle.desk_values.specs.declared.capture.Captured.{Captured}
 use Rattle.captured_calls.specs.declared.refusal.Refusal.{Refusal}
 use Rattle.prepare_plan.specs.declared.seats.Seat.{Seat}
 use Rattle.prepare_plan.specs.declared.seats.Seat.TheVariants.{Empty, Taken, Crowded}
-use Rattle.prepare_plan.specs.declared.known.KnownIds.{KnownIds}
 use Rattle.captured_calls.specs.Tests.{bad_stamp}
 use Rattle.prepare_plan.specs.Answered.{told_as}
 
@@ -61,18 +53,3 @@ ordered calls = ordered_or (bad_stamp calls) calls
 
 abbrev pub ordered_seen : Room Captured → Result (List Captured) Refusal
 ordered_seen calls = Ok calls.items
-
--- ---- ids
-
-abbrev pub pair_cmp : ℕ × ℕ → ℕ × ℕ → Ordering
-pair_cmp a b = ordering_then (nat_cmp a.0 b.0) (nat_cmp a.1 b.1)
-
--- whether an id is among those that are known
-abbrev pub knows : KnownIds → Value → Bool
-knows ids (Row n) = contains nat_cmp ids.rows n
-knows ids (Draw sequence n) = contains pair_cmp ids.draws (sequence, n)
-knows ids other = false
-
--- they know just the ids of the list
-abbrev pub KnowsAll : KnownIds → List Value → Type 0
-KnowsAll ids known = (value : Value) → is_id value ≡ true → knows ids value ≡ list_any (same_value value) known

@@ -1,5 +1,5 @@
 -- What a refusal that may be printed names.
-use Rattle.std.proofs.Common.{◌≡◌, ◌≢◌, ℕ, ◌+◌, ◌≤◌, Bool, true, false, List, [], ◌∷◌, ◌++◌, length, length-append, Option, None, Some, Result, Ok, Err, inl, inr, refl, sym, ap, subst, ◌∙◌, arith}
+use Rattle.std.proofs.Common.{◌≡◌, ◌≢◌, ℕ, ◌+◌, ◌≤◌, Bool, true, false, List, [], ◌∷◌, ◌++◌, length, length-append, Option, None, Some, Result, Ok, Err, inl, inr, refl, ap, subst, arith}
 use Rattle.std.specs.Prelude.{codes, if◌then◌else◌, is_some, nat_eq, not}
 use Rattle.std.specs.Fmt.{decimal}
 use Rattle.std.specs.List.{find}
@@ -8,15 +8,15 @@ use Rattle.desk_values.specs.declared.capture.Captured.{Captured}
 use Rattle.desk_schema.specs.Start.{StartView}
 use Rattle.captured_calls.specs.Stamps.{all_calls, by_stamp, count_at, stamps_for}
 use Rattle.captured_calls.specs.declared.refusal.Refusal.{Refusal as Illegal}
-use Rattle.captured_calls.specs.declared.refusal.Refusal.TheVariants.{TooMany, Stamp, Number, Seen, Times, Stranger, Reply}
+use Rattle.captured_calls.specs.declared.refusal.Refusal.TheVariants.{TooMany, Stamp}
 use Rattle.captured_calls.specs.Tests.{bad_ids, bad_number, bad_reply, bad_seen, bad_stamp, bad_times, first_refused, too_many, unless}
-use Rattle.captured_calls.specs.Verdict.{Preparation, fault_of, or_else, verdict, verdict_of}
+use Rattle.captured_calls.specs.Verdict.{Preparation, fault_of, or_else, verdict}
 use Rattle.remap_ids.specs.Services.{ServicePair, goes_on, sent_for, service_pair, services_of, with_pair, with_records}
 use Rattle.remap_ids.specs.declared.remap.RemapErr.{RemapErr}
 use Rattle.remap_ids.specs.declared.remap.RemapErr.TheVariants.{BadRow, TwiceFrom}
 use Rattle.replay_cli.specs.declared.failure.Refusal.TheVariants.{BadLine, BadRemap, NotLegal}
-use Rattle.replay_cli.specs.declared.words.Command.{Command}
-use Rattle.replay_cli.specs.declared.words.Command.TheVariants.{Run, Prepare, Generate, Trial}
+use Rattle.desk_words.specs.declared.words.Command.{Command}
+use Rattle.desk_words.specs.declared.words.Command.TheVariants.{Run, Prepare, Serve, Generate, Trial}
 use Rattle.replay_cli.specs.Decision.{IsBadOfSome, MayBeRefused, MayRefuseRemap, record_of, remap_of}
 use Rattle.replay_cli.specs.Lines.{cause_text}
 
@@ -34,6 +34,7 @@ pub lines_from_one : (command : Command) (name : List ℕ) (line : ℕ) → MayB
 lines_from_one (Run capture out ways) name line (inl h) = bad_line line h.1
 lines_from_one (Run capture out ways) name line (inr h) = no_remap_line ways.remap name line h
 lines_from_one (Prepare capture out) name line h = bad_line line h.1
+lines_from_one (Serve capture start connections port) name line h = let number = h.1.1.number in omega (arith, number)
 lines_from_one (Generate n out) name line h = absurd h
 lines_from_one (Trial n) name line h = absurd h
 
@@ -73,6 +74,7 @@ pub rows_from_one : (command : Command) (row : ℕ) → MayBeRefused command (Ba
 rows_from_one (Run capture out ways) row (inl h) = absurd h
 rows_from_one (Run capture out ways) row (inr h) = named_row ways.remap row h
 rows_from_one (Prepare capture out) row h = absurd h
+rows_from_one (Serve capture start connections port) row h = absurd h
 rows_from_one (Generate n out) row h = absurd h
 rows_from_one (Trial n) row h = absurd h
 
@@ -143,5 +145,6 @@ pub causes_have_text : (command : Command) (cause : Illegal) → MayBeRefused co
 causes_have_text (Run capture out ways) cause (inl h) = cause_told h.0 h.1 cause h.2
 causes_have_text (Run capture out ways) cause (inr h) = no_remap_cause ways.remap cause h
 causes_have_text (Prepare capture out) cause h = cause_told h.0 h.1 cause h.2
+causes_have_text (Serve capture start connections port) cause h = absurd h
 causes_have_text (Generate n out) cause h = absurd h
 causes_have_text (Trial n) cause h = absurd h

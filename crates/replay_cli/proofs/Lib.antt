@@ -3,10 +3,10 @@ pub mod Sessions
 pub mod Made
 pub mod Unique
 pub mod Endings
-pub mod Pairing
 pub mod Steps
 pub mod Written
 pub mod Refusals
 pub mod Sound
 pub mod Causes
 pub mod TheWords
+pub mod Telling

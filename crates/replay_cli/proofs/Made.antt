@@ -13,7 +13,7 @@ use Rattle.captured_calls.specs.Stamped.{HasText}
 use Rattle.prepare_plan.specs.Lists.{lists_of}
 use Rattle.replay_cli.specs.declared.plan.Plan.{Plan}
 use Rattle.replay_cli.specs.Decision.{ToMake, ToTry}
-use Rattle.replay_cli.specs.Done.{IsDone, IsQuiet, IsReplayOf, IsTried, made_calls, made_lists, made_start, session_files, trial_job}
+use Rattle.replay_cli.specs.Done.{IsDoneAlone, IsQuiet, IsReplayOf, IsTried, made_calls, made_lists, made_start, session_files, trial_job}
 use Rattle.replay_cli.specs.Lines.{generated_line, trial_line}
 use Rattle.replay_history.specs.Capture.{commits_in}
 use Rattle.desk_values.specs.declared.capture.Event.{Event}
@@ -67,7 +67,7 @@ four_lists (Err error) items e = e
 -- ---- plans
 
 pub plan_made : {E : Type 0} (result : Result Plan E) (n : ℕ) (out : List ℕ) (start : StartView) (lists : List (List Captured)) → start ≡ made_start n → lists ≡ made_lists n → IfOk result (λ plan. plan.line ≡ generated_line n) → IfOk result IsQuiet
-    → IfOk result (λ plan. plan.writes ≡ session_files out 0 lists ++ record { name = start_name out; bytes = start_text start generated_sessions } ∷ []) → IfOk result (λ plan. IsDone (ToMake n out) plan)
+    → IfOk result (λ plan. plan.writes ≡ session_files out 0 lists ++ record { name = start_name out; bytes = start_text start generated_sessions } ∷ []) → IfOk result (λ plan. IsDoneAlone (ToMake n out) plan)
 plan_made (Ok plan) n out start lists start_is lists_is line quiet writes =
     (line, quiet, writes ∙ ap (λ (ls : List (List Captured)). session_files out 0 ls ++ record { name = start_name out; bytes = start_text start generated_sessions } ∷ []) lists_is ∙ ap (λ (s : StartView). session_files out 0 (made_lists n) ++ record { name = start_name out; bytes = start_text s generated_sessions } ∷ []) start_is)
 plan_made (Err error) n out start lists start_is lists_is line quiet writes = line
@@ -92,7 +92,7 @@ trial_replay start calls job history last is told = (
 )
 
 pub plan_tried : {E : Type 0} (result : Result Plan E) (n : ℕ) (start : StartView) (calls : List Captured) → start ≡ made_start n → calls ≡ made_calls n → IfOk result (λ plan. plan.line ≡ trial_line n (length calls) (commits_in calls))
-    → IfOk result (λ plan. IsTried start calls) → IfOk result IsQuiet → IfOk result (λ plan. plan.writes ≡ []) → IfOk result (λ plan. IsDone (ToTry n) plan)
+    → IfOk result (λ plan. IsTried start calls) → IfOk result IsQuiet → IfOk result (λ plan. plan.writes ≡ []) → IfOk result (λ plan. IsDoneAlone (ToTry n) plan)
 plan_tried (Ok plan) n start calls start_is calls_is line replay quiet writes = (
   line ∙ ap (λ (cs : List Captured). trial_line n (length cs) (commits_in cs)) calls_is,
   subst (λ (s : StartView). IsTried s (made_calls n)) start_is (subst (λ (cs : List Captured). IsTried start cs) calls_is replay),

@@ -11,19 +11,20 @@ use Rattle.captured_calls.specs.Verdict.{Preparation as Planned, verdict}
 use Rattle.replay_cli.specs.declared.failure.Refusal.{Refusal}
 use Rattle.replay_cli.specs.declared.failure.Refusal.TheVariants.{Missing, TooLong, BadLine, BadRemap, NotLegal}
 use Rattle.replay_cli.specs.declared.failure.Failure.{Failure}
-use Rattle.replay_cli.specs.declared.failure.Failure.TheVariants.{BadCommand, Refused, DeviceFault, OutOfMemory}
+use Rattle.replay_cli.specs.declared.failure.Failure.TheVariants.{BadCommand, Refused, Differs, DeviceFault, OutOfMemory}
 use Rattle.replay_cli.specs.declared.plan.Plan.{Plan}
-use Rattle.replay_cli.specs.declared.words.Command.{Command}
-use Rattle.replay_cli.specs.Decision.{IsFileIn, MayFail, MayRefuseCapture, SessionOf, StartOf, legal_from}
-use Rattle.replay_cli.specs.Ending.{MayComeTo}
+use Rattle.desk_words.specs.declared.words.Command.{Command}
+use Rattle.replay_cli.specs.Decision.{IsFileIn, MayRefuseCapture, MayRefuseStart, SessionOf, StartOf, legal_from}
+use Rattle.replay_cli.specs.Ending.{Hosting, MayComeTo}
 use Rattle.replay_cli.specs.FileNames.{session_name, session_names, start_name}
 use Rattle.replay_cli.specs.Steps.{Is}
-use Rattle.replay_cli.specs.Inside.Steps.{IsAmong, IsUntaken, RefusesOne, Stops}
+use Rattle.replay_cli.specs.Inside.Steps.{IsAmong, IsUntaken, MayFail, RefusesOne, Stops}
 use Rattle.replay_cli.proofs.Sessions.{count_names}
 
 pub fails_weaker : (may more : Refusal → Type 0) → ((refusal : Refusal) → may refusal → more refusal) → (failure : Failure) → MayFail may failure → MayFail more failure
 fails_weaker may more f BadCommand h = absurd h
 fails_weaker may more f (Refused refusal) h = f refusal h
+fails_weaker may more f (Differs finding) h = absurd h
 fails_weaker may more f DeviceFault h = tt
 fails_weaker may more f OutOfMemory h = tt
 
@@ -39,6 +40,7 @@ untaken_in folder name is (NotLegal cause) e = absurd e
 pub bad_start : (folder name bytes : List ℕ) → name ≡ start_name folder → (failure : Failure) → Stops (StartOf name bytes) failure → MayFail (MayRefuseCapture folder) failure
 bad_start folder name bytes is BadCommand h = absurd h
 bad_start folder name bytes is (Refused refusal) h = subst (MayRefuseCapture folder) (sym h.2) (inl is, (bytes, inl h.1.0))
+bad_start folder name bytes is (Differs finding) h = absurd h
 bad_start folder name bytes is DeviceFault h = tt
 bad_start folder name bytes is OutOfMemory h = tt
 
@@ -52,6 +54,7 @@ untaken_among names place name within is (NotLegal cause) e = absurd e
 pub bad_among : (names : List (List ℕ)) (place session : ℕ) (name bytes : List ℕ) → place < length names → name ≡ get_or names place name → (failure : Failure) → Stops (SessionOf session name bytes) failure → MayFail (RefusesOne names) failure
 bad_among names place session name bytes within is BadCommand h = absurd h
 bad_among names place session name bytes within is (Refused refusal) h = subst (RefusesOne names) (sym h.2) ((place, within, is), (bytes, inr (session, h.1.0)))
+bad_among names place session name bytes within is (Differs finding) h = absurd h
 bad_among names place session name bytes within is DeviceFault h = tt
 bad_among names place session name bytes within is OutOfMemory h = tt
 
@@ -90,19 +93,33 @@ legal_refused start (Err cause) refusal e = (cause, refl, cc (e))
 pub tested : (folder : List ℕ) (start : StartView) (lists : List (List Captured)) (failure : Failure) → Stops (Is (legal_from start (verdict start lists))) failure → MayFail (MayRefuseCapture folder) failure
 tested folder start lists BadCommand h = absurd h
 tested folder start lists (Refused refusal) h = let found = legal_refused start (verdict start lists) refusal h in subst (MayRefuseCapture folder) (sym found.2) (start, lists, found.1)
+tested folder start lists (Differs finding) h = absurd h
 tested folder start lists DeviceFault h = tt
 tested folder start lists OutOfMemory h = tt
 
+-- ---- the file of a start
+
+pub untaken_start : (name : List ℕ) (refusal : Refusal) → IsUntaken name refusal → MayRefuseStart name refusal
+untaken_start name (Missing other) e = e
+untaken_start name (TooLong other) e = e
+untaken_start name (BadLine other line) e = absurd e
+untaken_start name (BadRemap row) e = absurd e
+untaken_start name (NotLegal cause) e = absurd e
+
+pub bad_file : (name bytes : List ℕ) (failure : Failure) → Stops (StartOf name bytes) failure → MayFail (MayRefuseStart name) failure
+bad_file name bytes BadCommand h = absurd h
+bad_file name bytes (Refused refusal) h = subst (MayRefuseStart name) (sym h.2) (refl, (bytes, h.1.0))
+bad_file name bytes (Differs finding) h = absurd h
+bad_file name bytes DeviceFault h = tt
+bad_file name bytes OutOfMemory h = tt
+
 -- ---- what words may come to
 
-pub short_of_memory : (command : Option Command) → MayComeTo command (Err OutOfMemory)
-short_of_memory None = inr refl
-short_of_memory (Some command) = tt
-
-pub only_no_command : (command : Option Command) (done : Result Plan Failure) → MayComeTo command done → IsErrOf done BadCommand → IsNone command
-only_no_command None done may is = refl
-only_no_command (Some command) (Ok plan) may is = absurd (cc is)
-only_no_command (Some command) (Err BadCommand) may is = absurd may
-only_no_command (Some command) (Err (Refused refusal)) may is = absurd (cc is)
-only_no_command (Some command) (Err DeviceFault) may is = absurd (cc is)
-only_no_command (Some command) (Err OutOfMemory) may is = absurd (cc is)
+pub only_no_command : (command : Option Command) (h : Hosting) (done : Result Plan Failure) → MayComeTo command h done → IsErrOf done BadCommand → IsNone command
+only_no_command None h done may is = refl
+only_no_command (Some command) h (Ok plan) may is = absurd (cc is)
+only_no_command (Some command) h (Err BadCommand) may is = absurd may
+only_no_command (Some command) h (Err (Refused refusal)) may is = absurd (cc is)
+only_no_command (Some command) h (Err (Differs finding)) may is = absurd (cc is)
+only_no_command (Some command) h (Err DeviceFault) may is = absurd (cc is)
+only_no_command (Some command) h (Err OutOfMemory) may is = absurd (cc is)

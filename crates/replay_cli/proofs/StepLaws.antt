@@ -4,7 +4,7 @@ use Rattle.std.proofs.Math.Seq.{drop-cons}
 use Rattle.desk_files.specs.Outside.{FileMap, Told}
 use Rattle.replay_cli.specs.declared.failure.Refusal.{Refusal}
 use Rattle.replay_cli.specs.declared.failure.Failure.{Failure}
-use Rattle.replay_cli.specs.declared.failure.Failure.TheVariants.{BadCommand, Refused, DeviceFault, OutOfMemory}
+use Rattle.replay_cli.specs.declared.failure.Failure.TheVariants.{BadCommand, Refused, Differs, DeviceFault, OutOfMemory}
 use Rattle.replay_cli.specs.Steps.{Is, Reading, Then, file_in}
 use Rattle.replay_cli.specs.Inside.Steps.{Answered, Faults, FailedAt, FaultFree, Step, Stops}
 use Rattle.desk_files.proofs.WriteLaws.{told}
@@ -23,12 +23,14 @@ told_at {T = T} P before after same h = let Q : Option T → Type 0 = λ c. Told
 pub stops_here : {X Y : Type 0} (want : Result X Refusal → Type 0) (next : X → Result Y Refusal → Type 0) (failure : Failure) → Stops want failure → Stops (Then want next) failure
 stops_here want next BadCommand h = absurd h
 stops_here want next (Refused refusal) h = inl h
+stops_here want next (Differs finding) h = absurd h
 stops_here want next DeviceFault h = tt
 stops_here want next OutOfMemory h = tt
 
 pub stops_then : {X Y : Type 0} (want : Result X Refusal → Type 0) (next : X → Result Y Refusal → Type 0) (x : X) (failure : Failure) → want (Ok x) → Stops (next x) failure → Stops (Then want next) failure
 stops_then want next x BadCommand is h = absurd h
 stops_then want next x (Refused refusal) is h = inr (x, is, h)
+stops_then want next x (Differs finding) is h = absurd h
 stops_then want next x DeviceFault is h = tt
 stops_then want next x OutOfMemory is h = tt
 
@@ -63,6 +65,7 @@ step_pure want c f result h free = record { says = told c (λ files u. h files) 
   faults (Ok x) free = refl
   faults (Err BadCommand) free = absurd free
   faults (Err (Refused refusal)) free = refl
+  faults (Err (Differs finding)) free = absurd free
   faults (Err DeviceFault) free = absurd free
   faults (Err OutOfMemory) free = refl
 
@@ -91,6 +94,7 @@ module _ {X : Type 0} (parsed : ℕ → List ℕ → List ℕ → Result X Refus
   stop_at : (failure : Failure) → Stops (Reading parsed files room place (name ∷ drop (i + 1) names)) failure → Stops whole failure
   stop_at BadCommand h = h
   stop_at (Refused refusal) h = from_name (Err refusal) (inl h)
+  stop_at (Differs finding) h = absurd h
   stop_at DeviceFault h = tt
   stop_at OutOfMemory h = tt
 
@@ -119,6 +123,7 @@ module _ {X : Type 0} (parsed : ℕ → List ℕ → List ℕ → Result X Refus
     unfailed : (failure : Failure) → FaultFree {X = X} (Err failure) → f2 ≡ f0 → FailedAt failure f0 f2
     unfailed BadCommand free e = absurd free
     unfailed (Refused refusal) free e = e
+    unfailed (Differs finding) free e = absurd free
     unfailed DeviceFault free e = absurd free
     unfailed OutOfMemory free e = e
 

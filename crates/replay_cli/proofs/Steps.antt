@@ -5,7 +5,7 @@ use Rattle.captured_calls.specs.Verdict.{verdict}
 use Rattle.remap_ids.specs.Services.{ServicePair}
 use Rattle.replay_cli.specs.declared.failure.Failure.{Failure}
 use Rattle.replay_cli.specs.declared.failure.Refusal.{Refusal}
-use Rattle.replay_cli.specs.declared.options.Ways.{Ways}
+use Rattle.desk_words.specs.declared.ways.Ways.{Ways}
 use Rattle.replay_cli.specs.Decision.{PrepareIn, Read, ReadIn, RemapIn, RunIn, Task, ToReplay, ToTell, legal_from, run_job}
 use Rattle.replay_cli.specs.Steps.{Is, Then}
 use Rattle.replay_cli.specs.Inside.Steps.{Answered, FaultFree, Step}

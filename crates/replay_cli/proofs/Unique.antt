@@ -14,15 +14,15 @@ use Rattle.replay_cli.specs.Limits.{capture_limit}
 use Rattle.replay_cli.specs.declared.failure.Refusal.{Refusal}
 use Rattle.replay_cli.specs.declared.failure.Refusal.TheVariants.{BadLine}
 use Rattle.replay_cli.specs.declared.failure.Failure.{Failure}
-use Rattle.replay_cli.specs.declared.failure.Failure.TheVariants.{BadCommand, Refused, DeviceFault, OutOfMemory}
-use Rattle.replay_cli.specs.declared.words.Command.{Command}
-use Rattle.replay_cli.specs.declared.words.Command.TheVariants.{Run, Prepare, Generate, Trial}
-use Rattle.replay_cli.specs.Command.{command_of}
+use Rattle.replay_cli.specs.declared.failure.Failure.TheVariants.{BadCommand, Refused, Differs, DeviceFault, OutOfMemory}
+use Rattle.desk_words.specs.declared.words.Command.{Command}
+use Rattle.desk_words.specs.declared.words.Command.TheVariants.{Run, Prepare, Serve, Generate, Trial}
+use Rattle.desk_words.specs.Command.{command_of}
 use Rattle.replay_cli.specs.FileNames.{session_names, start_name}
 use Rattle.desk_files.specs.Limits.{file_limit}
 use Rattle.remap_ids.specs.Services.{ServicePair, services_of}
-use Rattle.replay_cli.specs.declared.options.Ways.{Ways}
-use Rattle.replay_cli.specs.Decision.{Decides, Failing, Legal, OpenedIn, PrepareIn, Read, ReadIn, Reads, RemapIn, RunIn, SessionOf, StartOf, Task, ToMake, ToReplay, ToTell, ToTry, Verdict, VerdictOf, legal_from, remap_of, run_job}
+use Rattle.desk_words.specs.declared.ways.Ways.{Ways}
+use Rattle.replay_cli.specs.Decision.{Decides, Failing, Legal, OpenedIn, PrepareIn, Read, ReadIn, Reads, RemapIn, RunIn, ServeIn, SessionOf, StartIn, StartOf, Task, ToMake, ToReplay, ToServe, ToTell, ToTry, Verdict, VerdictOf, legal_from, remap_of, run_job}
 use Rattle.replay_cli.specs.Steps.{Is, Reading, Then, file_in}
 
 abbrev pub IsOne : {X : Type 0} → (Result X Refusal → Type 0) → Type 0
@@ -133,9 +133,17 @@ module _ (files : FileMap) (capture out : List ℕ) where
   prepare_one = then_one (ReadIn files capture) (λ read. Then (Is (legal_from read.start (verdict read.start read.sessions))) told_of) (read_one files capture) (λ read is.
       then_one (Is (legal_from read.start (verdict read.start read.sessions))) told_of (legal_one read.start read.sessions) (λ legal tested. is_one (Ok (ToTell out legal.facts))))
 
+start_in_one : (files : FileMap) (name : List ℕ) → IsOne (StartIn files name)
+start_in_one files name = then_one (Is (file_in files file_limit name)) (StartOf name) (is_one (file_in files file_limit name)) (λ bytes held. start_one name bytes)
+
+serve_one : (files : FileMap) (capture name : List ℕ) (connections port : ℕ) → IsOne (ServeIn files capture name connections port)
+serve_one files capture name connections port =
+    then_one (StartIn files name) (λ file. Is (Ok (ToServe capture file.start connections port))) (start_in_one files name) (λ file read. is_one (Ok (ToServe capture file.start connections port)))
+
 decides_one : (command : Command) (files : FileMap) → IsOne (Decides command files)
 decides_one (Run capture out ways) files = run_one files capture out ways
 decides_one (Prepare capture out) files = prepare_one files capture out
+decides_one (Serve capture start connections port) files = serve_one files capture start connections port
 decides_one (Generate n out) files = is_one (Ok (ToMake n out))
 decides_one (Trial n) files = is_one (Ok (ToTry n))
 
@@ -149,12 +157,15 @@ failing_one want one (Ok x) (Err (Refused s)) h k = ap failed_of (one (Ok x) (Er
 failing_one want one (Err (Refused r)) (Ok y) h k = ap failed_of (one (Err r) (Ok y) h k)
 failing_one want one (Err (Refused r)) (Err (Refused s)) h k = ap failed_of (one (Err r) (Err s) h k)
 failing_one want one (Ok x) (Err BadCommand) h k = absurd k
+failing_one want one (Ok x) (Err (Differs finding)) h k = absurd k
 failing_one want one (Ok x) (Err DeviceFault) h k = absurd k
 failing_one want one (Ok x) (Err OutOfMemory) h k = absurd k
 failing_one want one (Err (Refused r)) (Err BadCommand) h k = absurd k
+failing_one want one (Err (Refused r)) (Err (Differs finding)) h k = absurd k
 failing_one want one (Err (Refused r)) (Err DeviceFault) h k = absurd k
 failing_one want one (Err (Refused r)) (Err OutOfMemory) h k = absurd k
 failing_one want one (Err BadCommand) b h k = absurd h
+failing_one want one (Err (Differs finding)) b h k = absurd h
 failing_one want one (Err DeviceFault) b h k = absurd h
 failing_one want one (Err OutOfMemory) b h k = absurd h
 

@@ -18,16 +18,16 @@ use Rattle.replay_cli.specs.Limits.{capture_limit}
 use Rattle.replay_cli.specs.declared.failure.Refusal.{Refusal}
 use Rattle.replay_cli.specs.declared.failure.Refusal.TheVariants.{Missing, TooLong, BadLine, BadRemap, NotLegal}
 use Rattle.replay_cli.specs.declared.failure.Failure.{Failure}
-use Rattle.replay_cli.specs.declared.failure.Failure.TheVariants.{BadCommand, Refused, DeviceFault, OutOfMemory}
-use Rattle.replay_cli.specs.declared.words.Command.{Command}
-use Rattle.replay_cli.specs.declared.words.Command.TheVariants.{Run, Prepare, Generate, Trial}
+use Rattle.replay_cli.specs.declared.failure.Failure.TheVariants.{BadCommand, Refused, Differs, DeviceFault, OutOfMemory}
+use Rattle.desk_words.specs.declared.words.Command.{Command}
+use Rattle.desk_words.specs.declared.words.Command.TheVariants.{Run, Prepare, Serve, Generate, Trial}
 use Rattle.remap_ids.specs.Services.{ServicePair, services_of}
 use Rattle.remap_ids.specs.declared.remap.RemapErr.{RemapErr}
 use Rattle.remap_ids.specs.declared.remap.RemapErr.TheVariants.{BadRow, TwiceFrom, Memory}
 use Rattle.replay_job.specs.Job.{JobView}
 use Rattle.replay_job.specs.Jobs.{job_of}
-use Rattle.replay_cli.specs.declared.options.Ways.{Ways}
-use Rattle.replay_cli.specs.Command.{command_of}
+use Rattle.desk_words.specs.declared.ways.Ways.{Ways}
+use Rattle.desk_words.specs.Command.{command_of}
 use Rattle.replay_cli.specs.FileNames.{session_name, session_names, start_name}
 use Rattle.replay_cli.specs.Steps.{Is, Reading, Then, file_in}
 
@@ -97,6 +97,8 @@ RemapIn files (Some name) = Then (Is (file_in files file_limit name)) (λ bytes.
 pub data Task : Type 0 where
   ToReplay : List ℕ → JobView → Task
   ToTell : List ℕ → List Fact → Task
+  -- into this folder, from this start, at most so many connections at this port
+  ToServe : List ℕ → StartView → ℕ → ℕ → Task
   ToMake : ℕ → List ℕ → Task
   ToTry : ℕ → Task
 
@@ -118,9 +120,19 @@ PrepareIn files capture out =
     Then (Is (legal_from read.start (verdict read.start read.sessions))) (λ legal.
     Is (Ok (ToTell out legal.facts))))
 
+-- the start in the file of this name; how many sessions it tells of is not asked
+abbrev pub StartIn : FileMap → List ℕ → Result StartFile Refusal → Type 0
+StartIn files name = Then (Is (file_in files file_limit name)) (λ bytes. StartOf name bytes)
+
+abbrev pub ServeIn : FileMap → List ℕ → List ℕ → ℕ → ℕ → Result Task Refusal → Type 0
+ServeIn files capture start connections port =
+    Then (StartIn files start) (λ file.
+    Is (Ok (ToServe capture file.start connections port)))
+
 abbrev pub Decides : Command → FileMap → Result Task Refusal → Type 0
 Decides (Run capture out ways) files = RunIn files capture out ways
 Decides (Prepare capture out) files = PrepareIn files capture out
+Decides (Serve capture start connections port) files = ServeIn files capture start connections port
 Decides (Generate n out) files = Is (Ok (ToMake n out))
 Decides (Trial n) files = Is (Ok (ToTry n))
 
@@ -150,24 +162,26 @@ MayRefuseRemap (Some name) (TooLong other) = other ≡ name
 MayRefuseRemap (Some name) (BadRemap row) = (bytes : List ℕ) × (remap_of (services_of bytes) ≡ Err (BadRemap row))
 MayRefuseRemap named other = ⊥
 
+-- how the file of a start may be
+abbrev pub MayRefuseStart : List ℕ → Refusal → Type 0
+MayRefuseStart name (Missing other) = other ≡ name
+MayRefuseStart name (TooLong other) = other ≡ name
+MayRefuseStart name (BadLine other line) = (other ≡ name) × ((bytes : List ℕ) × IsBadStart bytes line)
+MayRefuseStart name refusal = ⊥
+
 -- how a command may be
 abbrev pub MayBeRefused : Command → Refusal → Type 0
 MayBeRefused (Run capture out ways) refusal = MayRefuseCapture capture refusal ⊎ MayRefuseRemap ways.remap refusal
 MayBeRefused (Prepare capture out) refusal = MayRefuseCapture capture refusal
+MayBeRefused (Serve capture start connections port) refusal = MayRefuseStart start refusal
 MayBeRefused (Generate n out) refusal = ⊥
 MayBeRefused (Trial n) refusal = ⊥
-
--- a failure of words that are a command: a refusal such as these, or a device failed or memory was short
-abbrev pub MayFail : (Refusal → Type 0) → Failure → Type 0
-MayFail may BadCommand = ⊥
-MayFail may (Refused refusal) = may refusal
-MayFail may DeviceFault = Unit {0}
-MayFail may OutOfMemory = Unit {0}
 
 -- the task is one of this command: a replay of some capture in these ways, into this folder, and so on
 abbrev pub IsTaskOf : Command → Task → Type 0
 IsTaskOf (Run capture out ways) (ToReplay folder job) = (folder ≡ out) × ((legal : Legal) × (remap : List ServicePair) × (job ≡ run_job legal remap ways))
 IsTaskOf (Prepare capture out) (ToTell folder facts) = folder ≡ out
+IsTaskOf (Serve capture start connections port) (ToServe folder begins most door) = (folder ≡ capture) × (most ≡ connections) × (door ≡ port)
 IsTaskOf (Generate n out) (ToMake calls folder) = (calls ≡ n) × (folder ≡ out)
 IsTaskOf (Trial n) (ToTry calls) = calls ≡ n
 IsTaskOf command other = ⊥
@@ -179,6 +193,7 @@ abbrev pub Failing : {X : Type 0} → (Result X Refusal → Type 0) → Result X
 Failing want (Ok x) = want (Ok x)
 Failing want (Err BadCommand) = ⊥
 Failing want (Err (Refused refusal)) = want (Err refusal)
+Failing want (Err (Differs finding)) = ⊥
 Failing want (Err DeviceFault) = ⊥
 Failing want (Err OutOfMemory) = ⊥
 

@@ -1,5 +1,5 @@
 -- What each task comes to: its files and its line.
-use Rattle.std.specs.Prelude.{◌≡◌, ℕ, ◌+◌, false, nat_lt, List, [], ◌∷◌, ◌++◌, length}
+use Rattle.std.specs.Prelude.{◌≡◌, ℕ, ◌+◌, false, nat_lt, List, [], ◌∷◌, ◌++◌, length, Option}
 use Rattle.std.specs.List.{AllByRecursion}
 use Rattle.desk_values.specs.declared.capture.Captured.{Captured}
 use Rattle.desk_values.specs.declared.capture.Event.{Event}
@@ -23,8 +23,10 @@ use Rattle.capture_recorder.specs.Limits.{generated_sessions}
 use Rattle.capture_recorder.specs.Generated.{generated}
 use Rattle.captured_calls.specs.Sessions.{session_lists}
 use Rattle.replay_cli.specs.declared.plan.Plan.{Plan}
-use Rattle.replay_cli.specs.Decision.{Task, ToReplay, ToTell, ToMake, ToTry}
-use Rattle.replay_cli.specs.Lines.{generated_line, prepared_line, replayed_line, trial_line}
+use Rattle.replay_cli.specs.Decision.{Task, ToReplay, ToTell, ToServe, ToMake, ToTry}
+use Rattle.desk_files.specs.Hosts.{Connections}
+use Rattle.capture_serve.specs.Service.{CaptureView, IsService}
+use Rattle.replay_cli.specs.Lines.{generated_line, prepared_line, replayed_line, served_line, trial_line}
 use Rattle.replay_job.specs.Jobs.{job_of}
 use Rattle.replay_cli.specs.FileNames.{journal_name, maps_name, report_name, requires_name, session_name, start_name, table_of_report_name, tables_name}
 
@@ -53,8 +55,12 @@ made_calls n = (generated n).calls
 unfoldable pub made_lists : ℕ → List (List Captured)
 made_lists n = session_lists generated_sessions (made_calls n)
 
+-- the files of a capture: those of its sessions, and then its start
+abbrev pub capture_files : List ℕ → StartView → List (List Captured) → ℕ → List Write
+capture_files out start lists sessions = session_files out 0 lists ++ record { name = start_name out; bytes = start_text start sessions } ∷ []
+
 abbrev pub made_files : List ℕ → ℕ → List Write
-made_files out n = session_files out 0 (made_lists n) ++ record { name = start_name out; bytes = start_text (made_start n) generated_sessions } ∷ []
+made_files out n = capture_files out (made_start n) (made_lists n) generated_sessions
 
 -- ---- each task
 
@@ -84,12 +90,26 @@ IsTried start calls = IsLegal start calls × HasMoments calls × ((history : Lis
 abbrev pub IsQuiet : Plan → Type 0
 IsQuiet plan = plan.differs ≡ false
 
--- the files and the line that it may end with
-abbrev pub IsDone : Task → Plan → Type 0
-IsDone (ToReplay out job) plan = (history : List Event) × (last : Stage) × IsDoneBy out job plan history last
-IsDone (ToTell out facts) plan =
+-- connections were served, and the line and the files are those of what was captured
+pub record IsServed (out : List ℕ) (start : StartView) (most : ℕ) (plan : Plan) (before after : Option Connections) : Type 0 where
+  pub capture : CaptureView
+  pub service : IsService start most capture before after
+  pub line : plan.line ≡ served_line capture.connections capture.calls capture.short
+  pub quiet : IsQuiet plan
+  pub writes : plan.writes ≡ capture_files out start capture.sessions capture.connections
+
+-- the files and the line that a task may end with which asks no host
+abbrev pub IsDoneAlone : Task → Plan → Type 0
+IsDoneAlone (ToReplay out job) plan = (history : List Event) × (last : Stage) × IsDoneBy out job plan history last
+IsDoneAlone (ToTell out facts) plan =
     (plan.line ≡ prepared_line (length facts)) × IsQuiet plan × (plan.writes ≡ record { name = requires_name out; bytes = requires_text facts } ∷ [])
-IsDone (ToMake n out) plan = (plan.line ≡ generated_line n) × IsQuiet plan × (plan.writes ≡ made_files out n)
-IsDone (ToTry n) plan =
+IsDoneAlone (ToServe out start most port) plan = ⊥
+IsDoneAlone (ToMake n out) plan = (plan.line ≡ generated_line n) × IsQuiet plan × (plan.writes ≡ made_files out n)
+IsDoneAlone (ToTry n) plan =
     (plan.line ≡ trial_line n (length (made_calls n)) (commits_in (made_calls n)))
     × IsTried (made_start n) (made_calls n) × IsQuiet plan × (plan.writes ≡ [])
+
+-- the files and the line that a task may end with, between these connections of the host; others than those that are served leave the host
+abbrev pub IsDone : Task → Plan → Option Connections → Option Connections → Type 0
+IsDone (ToServe out start most port) plan before after = IsServed out start most plan before after
+IsDone task plan before after = IsDoneAlone task plan × (after ≡ before)

@@ -1,15 +1,40 @@
 -- How a command ends: its status, its line and its files.
-use Rattle.std.specs.Prelude.{◌≡◌, ℕ, ◌≤◌, ◌⊎◌, List, Option, None, Some, IsErrOf, IsNone, Result, Ok, Err}
+use Rattle.std.specs.Prelude.{◌≡◌, ◌≢◌, ℕ, ◌≤◌, ◌⊎◌, List, Option, None, Some, IsErrOf, IsNone, Result, Ok, Err}
 use Rattle.desk_files.specs.Outside.{Appends, AppendsPart, FileMap, HasRisen}
+use Rattle.desk_files.specs.Hosts.{Connections}
 use Rattle.desk_files.specs.Writes.{CutShort, WrittenSoFar, with_all}
+use Rattle.desk_schema.specs.Start.{StartView}
+use Rattle.desk_words.specs.declared.words.Command.{Command}
+use Rattle.desk_words.specs.declared.words.Command.TheVariants.{Serve}
+use Rattle.desk_words.specs.Command.{command_of}
+use Rattle.capture_serve.specs.declared.failing.Finding.{Finding}
+use Rattle.capture_serve.specs.Failing.{IsFinding}
 use Rattle.replay_cli.specs.declared.failure.Failure.{Failure}
-use Rattle.replay_cli.specs.declared.failure.Failure.TheVariants.{BadCommand, DeviceFault, OutOfMemory}
+use Rattle.replay_cli.specs.declared.failure.Failure.TheVariants.{BadCommand, Refused, Differs, DeviceFault, OutOfMemory}
 use Rattle.replay_cli.specs.declared.plan.Plan.{Plan}
-use Rattle.replay_cli.specs.Command.{command_of}
-use Rattle.replay_cli.specs.declared.words.Command.{Command}
-use Rattle.replay_cli.specs.Decision.{IsTaskOf, MayBeRefused, MayFail, Task}
+use Rattle.replay_cli.specs.Decision.{IsTaskOf, MayBeRefused, Task, ToServe}
 use Rattle.replay_cli.specs.Done.{IsDone}
-use Rattle.replay_cli.specs.Lines.{done_status, failure_line, failure_status}
+use Rattle.replay_cli.specs.Lines.{done_status, failure_line, failure_status, finding_line}
+
+-- ---- the host
+
+-- what became of a host in a command: its connections, where they are told, and its count of faults
+pub record Hosting : Type 0 where
+  pub before : Option Connections
+  pub after : Option Connections
+  pub faults_before : ℕ
+  pub faults_after : ℕ
+
+abbrev pub hosting : Option Connections → Option Connections → ℕ → ℕ → Hosting
+hosting before after faults_before faults_after = record { before = before; after = after; faults_before = faults_before; faults_after = faults_after }
+
+-- no call of it failed
+abbrev pub HasNoFault : Hosting → Type 0
+HasNoFault h = h.faults_after ≡ h.faults_before
+
+-- it was not asked
+abbrev pub IsUnasked : Hosting → Type 0
+IsUnasked h = (h.after ≡ h.before) × HasNoFault h
 
 -- ---- doing the work
 
@@ -18,9 +43,22 @@ abbrev pub WrittenInPart : Plan → FileMap → FileMap → ℕ → ℕ → Type
 WrittenInPart plan before after faults_before faults_after =
     WrittenSoFar plan.writes before after ⊎ (CutShort plan.writes before after × HasRisen faults_before faults_after)
 
--- what is left of a task that was not done, or not told
-abbrev pub LeftOf : Task → FileMap → FileMap → ℕ → ℕ → Type 0
-LeftOf task before after faults_before faults_after = (after ≡ before) ⊎ ((plan : Plan) × IsDone task plan × WrittenInPart plan before after faults_before faults_after)
+-- what is left of a task that was not done, or not told; nothing is written where the host failed
+abbrev pub LeftOf : Task → FileMap → FileMap → ℕ → ℕ → Hosting → Type 0
+LeftOf task before after faults_before faults_after h =
+    (after ≡ before) ⊎ ((plan : Plan) × IsDone task plan h.before h.after × HasNoFault h × WrittenInPart plan before after faults_before faults_after)
+
+-- ---- what was served and differs
+
+-- this was found to differ of what was served for this task
+abbrev pub IsFoundOf : Task → Finding → Type 0
+IsFoundOf (ToServe out start most port) finding = IsFinding start finding
+IsFoundOf other finding = ⊥
+
+-- this command is one that serves, and this may be found in what is served from some start
+abbrev pub MayDiffer : Command → Finding → Type 0
+MayDiffer (Serve capture start connections port) finding = (begins : StartView) × IsFinding begins finding
+MayDiffer other finding = ⊥
 
 -- ---- the line and the status
 
@@ -35,14 +73,14 @@ line_of (Err failure) = failure_line failure
 -- the line is printed, with this status; or in part at most, with that of a fault
 abbrev pub Prints : List ℕ → ℕ → ℕ → Option (List ℕ) → Option (List ℕ) → ℕ → ℕ → Type 0
 Prints line status result before after faults_before faults_after =
-    ((result ≡ status) × Appends line before after) ⊎ ((result ≡ 5) × HasRisen faults_before faults_after × AppendsPart line before after)
+    ((result ≡ status) × Appends line before after × (faults_after ≡ faults_before)) ⊎ ((result ≡ 5) × HasRisen faults_before faults_after × AppendsPart line before after)
 
 -- the line and the status of this outcome; or the line could not be made, which that of a fault always can; or a line was
 -- not printed whole
 abbrev pub Reports : Result Plan Failure → ℕ → Option (List ℕ) → Option (List ℕ) → ℕ → ℕ → Type 0
 Reports done result before after faults_before faults_after =
-    ((result ≡ status_of done) × Appends (line_of done) before after)
-    ⊎ (((result ≡ 6) × Appends (failure_line OutOfMemory) before after × ¬ IsErrOf done DeviceFault)
+    ((result ≡ status_of done) × Appends (line_of done) before after × (faults_after ≡ faults_before))
+    ⊎ (((result ≡ 6) × Appends (failure_line OutOfMemory) before after × (faults_after ≡ faults_before) × ¬ IsErrOf done DeviceFault)
     ⊎ ((result ≡ 5) × HasRisen faults_before faults_after × (AppendsPart (line_of done) before after ⊎ AppendsPart (failure_line OutOfMemory) before after)))
 
 -- ---- the top call
@@ -50,37 +88,71 @@ Reports done result before after faults_before faults_after =
 abbrev pub IsOutside : ℕ → Type 0
 IsOutside result = (result ≡ 5) ⊎ (result ≡ 6)
 
--- The end that a verdict has: a failure has its status and its line and changes no file; a task that is done has status 0, or 1
--- where calls differ, its line and its files. Or else a device failed or memory was short, and the task is done in part.
-abbrev pub Ends : Result Task Failure → FileMap → FileMap → ℕ → ℕ → ℕ → Option (List ℕ) → Option (List ℕ) → Type 0
-Ends (Err failure) files files_after fb fa result before after =
-    (files_after ≡ files) × (((result ≡ failure_status failure) × Appends (failure_line failure) before after) ⊎ IsOutside result)
-Ends (Ok task) files files_after fb fa result before after =
-    ((plan : Plan) × IsDone task plan × (files_after ≡ with_all plan.writes files) × (result ≡ done_status plan.differs) × Appends plan.line before after)
-    ⊎ (IsOutside result × LeftOf task files files_after fb fa)
+-- a task that is done has status 0, or 1 where calls differ, its line and its files
+abbrev pub EndsDone : Task → FileMap → FileMap → Hosting → ℕ → Option (List ℕ) → Option (List ℕ) → Type 0
+EndsDone task files files_after h result before after =
+    (plan : Plan) × IsDone task plan h.before h.after × (files_after ≡ with_all plan.writes files) × (result ≡ done_status plan.differs) × Appends plan.line before after
+
+-- one of which something was found to differ has status 9 and its line, and changes no file
+abbrev pub EndsFound : Task → FileMap → FileMap → ℕ → Option (List ℕ) → Option (List ℕ) → Type 0
+EndsFound task files files_after result before after =
+    (finding : Finding) × IsFoundOf task finding × (files_after ≡ files) × (result ≡ 9) × Appends (finding_line finding) before after
+
+-- The end that a verdict has: a failure has its status and its line, changes no file and asks no host; a task that is done has those of what it
+-- came to. Or else a device failed or memory was short, and the task is done in part.
+abbrev pub Ends : Result Task Failure → FileMap → FileMap → ℕ → ℕ → Hosting → ℕ → Option (List ℕ) → Option (List ℕ) → Type 0
+Ends (Err failure) files files_after fb fa h result before after =
+    (files_after ≡ files) × IsUnasked h × (((result ≡ failure_status failure) × Appends (failure_line failure) before after) ⊎ IsOutside result)
+Ends (Ok task) files files_after fb fa h result before after =
+    EndsDone task files files_after h result before after
+    ⊎ (EndsFound task files files_after result before after
+    ⊎ (IsOutside result × LeftOf task files files_after fb fa h))
 
 -- the end that some verdict has; or a device failed or memory was short before there was one
-abbrev pub EndsSo : (Result Task Failure → Type 0) → FileMap → FileMap → ℕ → ℕ → ℕ → Option (List ℕ) → Option (List ℕ) → Type 0
-EndsSo wanted files files_after fb fa result before after =
-    ((verdict : Result Task Failure) × wanted verdict × Ends verdict files files_after fb fa result before after)
-    ⊎ (IsOutside result × (files_after ≡ files))
+abbrev pub EndsSo : (Result Task Failure → Type 0) → FileMap → FileMap → ℕ → ℕ → Hosting → ℕ → Option (List ℕ) → Option (List ℕ) → Type 0
+EndsSo wanted files files_after fb fa h result before after =
+    ((verdict : Result Task Failure) × wanted verdict × Ends verdict files files_after fb fa h result before after)
+    ⊎ (IsOutside result × (files_after ≡ files) × IsUnasked h)
 
--- what words may come to, whatever the files are: where they are no command, that; where they are one, a task of it that is done, or a
--- failure that it may have; and memory may be short
-abbrev pub MayComeTo : Option Command → Result Plan Failure → Type 0
-MayComeTo None done = IsErrOf done BadCommand ⊎ IsErrOf done OutOfMemory
-MayComeTo (Some command) (Ok plan) = (task : Task) × IsTaskOf command task × IsDone task plan
-MayComeTo (Some command) (Err failure) = MayFail (MayBeRefused command) failure
+-- what words may come to, whatever the files are: where they are no command, that; where they are one, a task of it that is done, what may
+-- differ of what it serves, or a failure that it may have; and memory may be short
+abbrev pub MayComeTo : Option Command → Hosting → Result Plan Failure → Type 0
+MayComeTo None h done = (IsErrOf done BadCommand ⊎ IsErrOf done OutOfMemory) × IsUnasked h
+MayComeTo (Some command) h (Ok plan) = (task : Task) × IsTaskOf command task × IsDone task plan h.before h.after
+MayComeTo (Some command) h (Err BadCommand) = ⊥
+MayComeTo (Some command) h (Err (Refused refusal)) = MayBeRefused command refusal × IsUnasked h
+MayComeTo (Some command) h (Err (Differs finding)) = MayDiffer command finding
+MayComeTo (Some command) h (Err DeviceFault) = Unit {0}
+MayComeTo (Some command) h (Err OutOfMemory) = Unit {0}
 
 -- what is printed, also where the files are not told: the line of what the words may come to
-abbrev pub PrintsLine : List (List ℕ) → ℕ → Option (List ℕ) → Option (List ℕ) → ℕ → ℕ → Type 0
-PrintsLine words result before after faults_before faults_after =
-    (done : Result Plan Failure) × MayComeTo (command_of words) done × Reports done result before after faults_before faults_after
+abbrev pub PrintsLine : List (List ℕ) → Hosting → ℕ → Option (List ℕ) → Option (List ℕ) → ℕ → ℕ → Type 0
+PrintsLine words h result before after faults_before faults_after =
+    (done : Result Plan Failure) × MayComeTo (command_of words) h done × Reports done result before after faults_before faults_after
 
--- 2 comes only where the words are no command, 5 only where a count rose, 6 only where no file failed, and no count falls
-pub record Causes (words : List (List ℕ)) (result fb fa sb sa : ℕ) : Type 0 where
+-- how three counts of faults move: of the files, of the host and of the sink
+pub record Moves : Type 0 where
+  pub files_before : ℕ
+  pub files_after : ℕ
+  pub host_before : ℕ
+  pub host_after : ℕ
+  pub out_before : ℕ
+  pub out_after : ℕ
+
+abbrev pub moves : ℕ → ℕ → ℕ → ℕ → ℕ → ℕ → Moves
+moves fb fa hb ha sb sa = record { files_before = fb; files_after = fa; host_before = hb; host_after = ha; out_before = sb; out_after = sa }
+
+-- none rose
+pub record Stands (m : Moves) : Type 0 where
+  pub files : m.files_after ≡ m.files_before
+  pub host : m.host_after ≡ m.host_before
+  pub out : m.out_after ≡ m.out_before
+
+-- 2 comes only where the words are no command, 5 only where a count rose, with any other status all counts stand, and none falls
+pub record Causes (words : List (List ℕ)) (result : ℕ) (m : Moves) : Type 0 where
   pub command : result ≡ 2 → IsNone (command_of words)
-  pub fault : result ≡ 5 → HasRisen fb fa ⊎ HasRisen sb sa
-  pub memory : result ≡ 6 → fa ≡ fb
-  pub files : fb ≤ fa
-  pub out : sb ≤ sa
+  pub fault : result ≡ 5 → HasRisen m.files_before m.files_after ⊎ (HasRisen m.host_before m.host_after ⊎ HasRisen m.out_before m.out_after)
+  pub stands : result ≢ 5 → Stands m
+  pub files : m.files_before ≤ m.files_after
+  pub host : m.host_before ≤ m.host_after
+  pub out : m.out_before ≤ m.out_after

@@ -1,5 +1,5 @@
 -- Words of private clauses and of what holds of fields. They need not be believed.
 pub mod Ending
-pub mod Limits
 pub mod Steps
 pub mod Work
+pub mod Serving

@@ -1,8 +1,5 @@
 pub mod Limits
-pub mod Path
-pub mod Options
 pub mod FileNames
-pub mod Command
 pub mod Steps
 pub mod Lines
 pub mod Decision

@@ -1,5 +1,5 @@
 -- The status and the line of each way in which a command ends.
-use Rattle.std.specs.Prelude.{ℕ, Bool, true, false, List, [], ◌∷◌, ◌++◌, codes}
+use Rattle.std.specs.Prelude.{ℕ, nat_eq, if◌then◌else◌, Option, None, Some, Bool, true, false, List, [], ◌∷◌, ◌++◌, codes}
 use Rattle.std.specs.Fmt.{decimal}
 use Rattle.desk_values.specs.Text.{reply_text}
 use Rattle.capture_format.specs.SessionFile.{number_text}
@@ -7,8 +7,11 @@ use Rattle.captured_calls.specs.declared.refusal.Refusal.{Refusal as Illegal}
 use Rattle.captured_calls.specs.declared.refusal.Refusal.TheVariants.{TooMany, Stamp, Number, Seen, Times, Stranger, Reply, Memory}
 use Rattle.replay_cli.specs.declared.failure.Refusal.{Refusal}
 use Rattle.replay_cli.specs.declared.failure.Refusal.TheVariants.{Missing, TooLong, BadLine, BadRemap, NotLegal}
+use Rattle.capture_recorder.specs.declared.door.Said.{Said}
+use Rattle.capture_serve.specs.declared.failing.Finding.{Finding}
+use Rattle.capture_serve.specs.declared.failing.Finding.TheVariants as found
 use Rattle.replay_cli.specs.declared.failure.Failure.{Failure}
-use Rattle.replay_cli.specs.declared.failure.Failure.TheVariants.{BadCommand, Refused, DeviceFault, OutOfMemory}
+use Rattle.replay_cli.specs.declared.failure.Failure.TheVariants.{BadCommand, Refused, Differs, DeviceFault, OutOfMemory}
 
 abbrev pub refusal_status : Refusal → ℕ
 refusal_status (Missing name) = 4
@@ -20,6 +23,7 @@ refusal_status (NotLegal cause) = 3
 abbrev pub failure_status : Failure → ℕ
 failure_status BadCommand = 2
 failure_status (Refused refusal) = refusal_status refusal
+failure_status (Differs finding) = 9
 failure_status DeviceFault = 5
 failure_status OutOfMemory = 6
 
@@ -42,9 +46,22 @@ refusal_line (BadLine name line) = codes "bad capture: " ++ (name ++ (codes " li
 refusal_line (BadRemap n) = codes "bad remap: row " ++ (decimal n ++ 10 ∷ [])
 refusal_line (NotLegal cause) = codes "bad capture: " ++ (cause_text cause ++ 10 ∷ [])
 
+-- the reply of a call, and a dash where there is no call
+abbrev pub said_text : Option Said → List ℕ
+said_text None = codes "-"
+said_text (Some said) = reply_text said.reply
+
+-- what was found to differ
+abbrev pub finding_line : Finding → List ℕ
+finding_line found.Start = codes "mismatch: start\n"
+finding_line (found.Mismatch session place kept answered) =
+    codes "mismatch: session " ++ (decimal session ++ (codes " place " ++ (decimal place ++ (codes ": " ++ (said_text kept ++ (codes " / " ++ (said_text answered ++ 10 ∷ [])))))))
+finding_line (found.Refusal session n) = codes "mismatch: session " ++ (decimal session ++ (codes " refusal " ++ (decimal n ++ 10 ∷ [])))
+
 abbrev pub failure_line : Failure → List ℕ
 failure_line BadCommand = codes "bad command" ++ 10 ∷ []
 failure_line (Refused refusal) = refusal_line refusal
+failure_line (Differs finding) = finding_line finding
 failure_line DeviceFault = codes "device fault" ++ 10 ∷ []
 failure_line OutOfMemory = codes "out of memory" ++ 10 ∷ []
 
@@ -75,3 +92,11 @@ generated_line calls = counted_line (codes "generated ") calls (codes " calls\n"
 
 abbrev pub trial_line : ℕ → ℕ → ℕ → List ℕ
 trial_line n calls commits = codes "trial " ++ (counted n (codes ": ") ++ (counted calls (codes " calls, 0 divergent, ") ++ counted commits (codes " commits\n")))
+
+-- how many connections were short of memory, where some were
+abbrev pub short_text : ℕ → List ℕ
+short_text n = if nat_eq n 0 then codes "\n" else (codes ", " ++ counted n (codes " short of memory\n"))
+
+-- how many connections were served, and how many calls were captured
+abbrev pub served_line : ℕ → ℕ → ℕ → List ℕ
+served_line connections calls short = codes "served " ++ (counted connections (codes " connections, ") ++ counted calls (codes " calls" ++ short_text short))

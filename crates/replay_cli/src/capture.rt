@@ -3,8 +3,8 @@
 ghost use Rattle.std.specs.Prelude.{◌≡◌, ◌≤◌, length, IfErr, IfOk};
 ghost use Rattle.desk_files.specs.Outside.{Told};
 ghost use Rattle.replay_job.specs.Job.{AreKnownOf, HasMoments};
-ghost use Rattle.replay_cli.specs.Decision.{MayFail, MayRefuseCapture, OpenedIn, ReadIn, SessionOf, legal_from};
-ghost use Rattle.replay_cli.specs.Inside.Steps.{Answered, FaultFree, Step, seen_as};
+ghost use Rattle.replay_cli.specs.Decision.{MayRefuseCapture, OpenedIn, ReadIn, SessionOf, legal_from};
+ghost use Rattle.replay_cli.specs.Inside.Steps.{Answered, FaultFree, MayFail, Step, seen_as};
 ghost use Rattle.replay_cli.specs.Inside.Work.{legal_of, read_of};
 ghost use Rattle.captured_calls.specs.Verdict.{IsLegal, verdict};
 ghost use Rattle.replay_cli.specs.Steps.{Is, Reading};
@@ -14,8 +14,8 @@ ghost use Rattle.prepare_plan.specs.Lists.{lists_of};
 ghost use Rattle.desk_values.specs.Limits.{session_limit};
 
 use crate::failure::{Failure, Refusal};
+use crate::file_names::{name_in, session_names};
 use crate::reading::{parse_start, read_file, read_sessions};
-use crate::words::{name_in, session_names};
 use capture_format::StartFile;
 use desk_files::Files;
 use desk_schema::Start;

@@ -5,10 +5,13 @@ ghost use Rattle.std.specs.Fmt.{decimal};
 ghost use Rattle.desk_files.specs.declared.fault.WriteErr.{WriteErr as Unwritten};
 ghost use Rattle.capture_format.specs.SessionFile.{number_text};
 ghost use Rattle.desk_values.specs.Text.{reply_text};
+ghost use Rattle.capture_serve.specs.declared.failing.Finding.{Finding as Found};
 ghost use Rattle.replay_cli.specs.declared.failure.Failure.TheVariants.{OutOfMemory};
-ghost use Rattle.replay_cli.specs.Lines.{cause_text, failure_line, failure_status, refusal_line, refusal_status};
+ghost use Rattle.replay_cli.specs.Lines.{cause_text, failure_line, failure_status, finding_line, refusal_line, refusal_status, said_text};
 
 use capture_format::append_reply;
+use capture_recorder::Said;
+use capture_serve::Finding;
 use desk_values::fields::append_u64;
 use desk_values::{Bytes, List, Memory, Reply, Txt};
 use prepare_plan::Refusal as Illegal;
@@ -36,6 +39,8 @@ pub enum Failure {
     BadCommand,
     /// It is refused.
     Refused(Refusal),
+    /// What was served was compared, and this differs.
+    Differs(Finding),
     /// A device failed.
     DeviceFault,
     /// Want of memory.
@@ -86,6 +91,7 @@ impl Failure {
         match self {
             Failure::BadCommand => 2,
             Failure::Refused(refusal) => refusal.status(),
+            Failure::Differs(_) => 9,
             Failure::DeviceFault => 5,
             Failure::OutOfMemory => 6,
         }
@@ -98,6 +104,7 @@ impl Failure {
         match self {
             Failure::BadCommand => line_of(alloc, "bad command", ""),
             Failure::Refused(refusal) => refusal.line(alloc),
+            Failure::Differs(finding) => finding_line(alloc, finding),
             Failure::DeviceFault => line_of(alloc, "device fault", ""),
             Failure::OutOfMemory => line_of(alloc, "out of memory", ""),
         }
@@ -226,4 +233,57 @@ fn append_replies(stamp: u32, written: &Reply, right: &Reply, to: &mut Bytes) ->
     append_reply(written, to)?;
     to.append(b", not ")?;
     append_reply(right, to)
+}
+
+/// What was found to differ.
+fn finding_line(alloc: Global, finding: &Finding) -> Result<Bytes, Memory>
+    ensures { IfOk result (λ line. line ≡ finding_line finding.now) }
+{
+    match finding {
+        Finding::Start => line_of(alloc, "mismatch: start", ""),
+        Finding::Mismatch {
+            session,
+            place,
+            kept,
+            answered,
+        } => mismatch_line(alloc, *session, *place, kept, answered),
+        Finding::Refusal { session, n } => {
+            let mut line = List::new(alloc);
+            append_at("mismatch: session ", *session, &mut line)?;
+            append_at(" refusal ", *n, &mut line)?;
+            line.append(b"\n")?;
+            Ok(line)
+        }
+    }
+}
+
+/// A place of a session, and the replies that differ there.
+fn mismatch_line(
+    alloc: Global,
+    session: u32,
+    place: u32,
+    kept: &Option<Said>,
+    answered: &Option<Said>,
+) -> Result<Bytes, Memory>
+    ensures { IfOk result (λ line. line ≡ finding_line (Found.Mismatch session place kept.now answered.now)) }
+{
+    let mut line = List::new(alloc);
+    append_at("mismatch: session ", session, &mut line)?;
+    append_at(" place ", place, &mut line)?;
+    line.append(b": ")?;
+    append_said(kept, &mut line)?;
+    line.append(b" / ")?;
+    append_said(answered, &mut line)?;
+    line.append(b"\n")?;
+    Ok(line)
+}
+
+/// Appends a reply, `-` where there is no call.
+fn append_said(said: &Option<Said>, to: &mut Bytes) -> Result<(), Memory>
+    ensures { OnOk result (to.new ≡ to.old ++ said_text said.now) }
+{
+    match said {
+        Some(said) => append_reply(&said.reply, to),
+        None => to.append(b"-"),
+    }
 }

@@ -1,13 +1,16 @@
 //! Laws of the definitions.
 
-ghost use Rattle.std.specs.Prelude.{◌≡◌, ◌≢◌, ◌≤◌, ℕ, List, [], Ok, Result};
+ghost use Rattle.std.specs.Prelude.{IfSome, ◌≡◌, ◌≢◌, ◌≤◌, ℕ, List, [], Ok, Result};
 ghost use Rattle.desk_files.specs.Outside.{FileMap};
+ghost use Rattle.desk_words.specs.Within.{HasWays};
+ghost use Rattle.desk_words.specs.declared.ways.Ways.{Ways};
+ghost use Rattle.replay_worker.specs.Limits.{lane_limit};
 ghost use Rattle.replay_cli.specs.declared.failure.Failure.{Failure};
 ghost use Rattle.captured_calls.specs.declared.refusal.Refusal.{Refusal as Illegal};
 ghost use Rattle.replay_job.specs.Job.{JobView};
 ghost use Rattle.replay_job.specs.Replays.{IsSoundJob};
 ghost use Rattle.replay_cli.specs.declared.failure.Refusal.TheVariants.{BadLine, BadRemap, NotLegal};
-ghost use Rattle.replay_cli.specs.declared.words.Command.{Command};
+ghost use Rattle.desk_words.specs.declared.words.Command.{Command};
 ghost use Rattle.replay_cli.specs.Decision.{MayBeRefused, Task, ToReplay, Verdict};
 ghost use Rattle.replay_cli.specs.Lines.{cause_text};
 
@@ -31,4 +34,9 @@ pub fn refusals_tell_something()
     ensures row { (command : Command) (row : ℕ) → MayBeRefused command (BadRemap row) → 1 ≤ row }
     ensures cause { (command : Command) (cause : Illegal)
         → MayBeRefused command (NotLegal cause) → cause_text cause ≢ [] }
+{}
+
+/// A number of lanes that words may say is one that a replay takes.
+pub fn lanes_are_within_limits()
+    ensures { (ways : Ways) → HasWays ways → IfSome ways.lanes (λ lanes. (1 ≤ lanes) × (lanes ≤ lane_limit)) }
 {}

@@ -6,12 +6,12 @@ ghost use Rattle.replay_cli.specs.declared.failure.Failure.{Failure as Outcome};
 ghost use Rattle.replay_cli.specs.declared.failure.Failure.TheVariants.{DeviceFault, OutOfMemory};
 ghost use Rattle.replay_cli.specs.Decision.{Task, Verdict};
 ghost use Rattle.replay_cli.specs.Lines.{failure_line};
-ghost use Rattle.replay_cli.specs.Ending.{Causes, Ends, EndsSo, Prints, PrintsLine, Reports};
+ghost use Rattle.replay_cli.specs.Ending.{Causes, Ends, EndsSo, Prints, PrintsLine, Reports, hosting, moves};
 
 use crate::failure::Failure;
 use crate::plan::Plan;
 use crate::running::run;
-use desk_files::{Door, Files, Sink};
+use desk_files::{Door, Files, Host, Sink};
 use desk_values::{Memory, Txt};
 use std::alloc::Global;
 use std::sync::Wait;
@@ -24,48 +24,56 @@ use std::time::Clock;
 /// |---|---|---|
 /// | `run CAPTURE OUT` | replay the capture in the folder CAPTURE, and write `journal.txt`, `report.txt`, `report.csv`, `tables.txt` and `maps.csv` into OUT | `replayed N calls, D divergent` |
 /// | `prepare CAPTURE OUT` | test the capture, and write into OUT as `requires.csv` which calls wait for which | `prepared N calls` |
+/// | `serve CAPTURE START N` | serve N connections, each a session of the start in the file START, and write what they say as a capture into the folder CAPTURE | `served C connections, N calls`, and with `, M short of memory` behind it where there were such connections |
 /// | `generate N OUT` | write a capture of N calls into OUT | `generated N calls` |
 /// | `trial N` | make that capture and replay it without pauses | `trial N: N calls, 0 divergent, K commits` |
 ///
-/// Behind `run CAPTURE OUT` there may stand `--mode off`, `scn`, `object` or `order`, `--think P`, `--connect P`, `--remap FILE` and
-/// `--lanes N`, in any order, each at most once.
+/// Anywhere behind `run` there may stand `--mode off`, `scn`, `object` or `order`, `--think P`, `--connect P`, `--remap FILE` and
+/// `--lanes N`, and behind `serve` `--port P`, each at most once. Which words are a command, `desk_words` says.
 ///
 /// | status | where | line |
 /// |---|---|---|
 /// | 0 | the work is done, and no call differs | the command's own |
 /// | 1 | `run` found calls that differ | its own |
 /// | 2 | the words are no command | `bad command` |
-/// | 3 | a file of the capture has a bad line | `bad capture: NAME line L` |
+/// | 3 | a file of the capture, or START, has a bad line | `bad capture: NAME line L` |
 /// | 3 | the capture is not legal | `bad capture: ` and what is wrong |
 /// | 4 | there is no such file | `missing: NAME` |
-/// | 5 | `files` or `out` failed | `device fault` |
-/// | 6 | want of memory, where no file failed | `out of memory` |
+/// | 5 | `files`, `host` or `out` failed | `device fault` |
+/// | 6 | want of memory, where nothing failed | `out of memory` |
 /// | 7 | the remap file's record N is bad, or repeats a service | `bad remap: row N` |
 /// | 8 | a file is too long, or all of the capture are together | `too long: NAME` |
+/// | 9 | `serve` compared what was recorded with what the connections were answered, and something differs | `mismatch: ` and what differs |
 ///
 /// What the words and the files come to is their verdict, of which there is at most one: `ends` says that the call ends as some
 /// verdict does, or outside of it by 5 or 6, and `each` that it ends so with whatever verdict there is.
-pub fn replay_main<R: Clock + Wait + Threads + Sync, F: Files, D: Door, S: Sink>(
+pub fn replay_main<R: Clock + Wait + Threads + Sync, F: Files, H: Host, D: Door, S: Sink>(
     rt: &R,
     alloc: Global,
     words: &[Txt],
     files: &mut F,
+    host: &mut H,
     door: &D,
     out: &mut S,
 ) -> u8
     ensures ends { Told (F.content files.old) (λ before. IsSomeAnd (F.content files.new) (λ after.
         EndsSo (Verdict words.now before) before after
         (F.faults files.old) (F.faults files.new)
+        (hosting (H.content host.old) (H.content host.new) (H.faults host.old) (H.faults host.new))
         result (S.content out.old) (S.content out.new))) }
     ensures each { Told (F.content files.old) (λ before. IsSomeAnd (F.content files.new) (λ after.
         (verdict : Result Task Outcome) → Verdict words.now before verdict
         → Ends verdict before after
         (F.faults files.old) (F.faults files.new)
+        (hosting (H.content host.old) (H.content host.new) (H.faults host.old) (H.faults host.new))
         result (S.content out.old) (S.content out.new))) }
-    ensures line { PrintsLine words.now result (S.content out.old) (S.content out.new) (S.faults out.old) (S.faults out.new) }
-    ensures causes { Causes words.now result (F.faults files.old) (F.faults files.new) (S.faults out.old) (S.faults out.new) }
+    ensures line { PrintsLine words.now
+        (hosting (H.content host.old) (H.content host.new) (H.faults host.old) (H.faults host.new))
+        result (S.content out.old) (S.content out.new) (S.faults out.old) (S.faults out.new) }
+    ensures causes { Causes words.now result
+        (moves (F.faults files.old) (F.faults files.new) (H.faults host.old) (H.faults host.new) (S.faults out.old) (S.faults out.new)) }
 {
-    let done = run(rt, alloc, words, files, door);
+    let done = run(rt, alloc, words, files, host, door);
     report(alloc, &done, out)
 }
 
@@ -88,6 +96,7 @@ fn report_failure<S: Sink>(alloc: Global, failure: &Failure, out: &mut S) -> u8
         Failure::DeviceFault => report_fault(out),
         Failure::BadCommand => report_refusal(alloc, failure, out),
         Failure::Refused(_) => report_refusal(alloc, failure, out),
+        Failure::Differs(_) => report_refusal(alloc, failure, out),
         Failure::OutOfMemory => report_want_of_memory(out),
     }
 }

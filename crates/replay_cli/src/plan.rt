@@ -1,14 +1,14 @@
 //! What a command's work comes to: its files and its line.
 
-ghost use Rattle.std.specs.Prelude.{◌≡◌, ◌++◌, ◌∷◌, [], ◌≤◌, List as Sequence, length, IfOk, OnOk};
+ghost use Rattle.std.specs.Prelude.{◌≡◌, ◌++◌, ◌∷◌, [], ◌≤◌, List as Sequence, length, IfErr, IfOk, OnOk};
 ghost use Rattle.desk_values.specs.declared.value.Image.{Image};
 ghost use Rattle.desk_values.specs.declared.capture.Event.{Event};
-ghost use Rattle.capture_format.specs.StartFile.{start_text};
 ghost use Rattle.captured_calls.specs.Sessions.{AreSessionsFrom};
 ghost use Rattle.prepare_plan.specs.Lists.{lists_of};
-ghost use Rattle.replay_cli.specs.Inside.Limits.{IsCallCount, IsLaneCount};
+ghost use Rattle.desk_words.specs.Within.{IsCallCount, IsLaneCount};
 ghost use Rattle.replay_cli.specs.Decision.{ToMake, ToReplay, ToTell, ToTry};
-ghost use Rattle.replay_cli.specs.Done.{IsDone, IsQuiet, IsTried, made_calls, made_lists, made_start, replayed_files, session_files};
+ghost use Rattle.replay_cli.specs.Done.{IsDone, IsDoneAlone, IsQuiet, IsTried, capture_files, made_calls, made_lists, made_start, replayed_files, session_files};
+ghost use Rattle.replay_cli.specs.Inside.Serving.{HostFaults, PlanFails};
 ghost use Rattle.replay_cli.specs.Inside.Work.{IsWork, task_of};
 ghost use Rattle.replay_cli.specs.Lines.{counted, counted_line, done_status, generated_line, replayed_line, trial_line};
 ghost use Rattle.replay_history.specs.Capture.{commits_in};
@@ -16,15 +16,16 @@ ghost use Rattle.replay_job.specs.Job.{HasMoments, seen};
 ghost use Rattle.replay_job.specs.Replays.{IsSoundJob, IsToldReplay};
 ghost use Rattle.replay_report.specs.Report.{report_in};
 ghost use Rattle.captured_calls.specs.Verdict.{IsLegal};
-ghost use Rattle.replay_cli.specs.FileNames.{start_name};
 ghost use Rattle.capture_recorder.specs.Limits.{generated_sessions};
 
+use crate::failure::Failure;
+use crate::file_names::{name_in, session_name};
 use crate::replay::trial_of;
-use crate::words::{name_in, session_name};
+use crate::serving::serving;
 use crate::work::Work;
 use capture_format::{write_session, write_start};
 use capture_recorder::{GENERATED_SESSIONS, Recorder, generate, sessions_of};
-use desk_files::{Door, Write};
+use desk_files::{Door, Host, Write};
 use desk_schema::Start;
 use desk_values::fields::append_u64;
 use desk_values::{Bytes, CallList, Captured, List, Memory, SessionLists, Txt};
@@ -60,20 +61,26 @@ impl Plan {
 }
 
 /// What the work comes to.
-pub fn plan_of<R: Clock + Wait + Threads + Sync, D: Door>(
+pub fn plan_of<R: Clock + Wait + Threads + Sync, H: Host, D: Door>(
     rt: &R,
     alloc: Global,
     work: Work,
+    host: &mut H,
     door: &D,
-) -> Result<Plan, Memory>
+) -> Result<Plan, Failure>
     requires { IsWork work }
-    ensures { IfOk result (λ plan. IsDone (task_of work) plan) }
+    ensures done { IfOk result (λ plan. IsDone (task_of work) plan (H.content host.old) (H.content host.new)) }
+    ensures fails { IfErr result (PlanFails (task_of work)) }
+    ensures faults { HostFaults result (H.faults host.old) (H.faults host.new) }
 {
     match work {
-        Work::Replaying(out, job, lanes) => replaying(rt, alloc, &out, job, door, lanes),
-        Work::Telling(out, facts) => telling(alloc, &out, &facts),
-        Work::Making(calls, out) => making(alloc, calls, &out),
-        Work::Trying(calls) => trying(rt, alloc, calls, door),
+        Work::Replaying(out, job, lanes) => Ok(replaying(rt, alloc, &out, job, door, lanes)?),
+        Work::Telling(out, facts) => Ok(telling(alloc, &out, &facts)?),
+        Work::Serving(out, start, most, port) => {
+            serving(rt, alloc, &out, &start, most, port, host, door)
+        }
+        Work::Making(calls, out) => Ok(making(alloc, calls, &out)?),
+        Work::Trying(calls) => Ok(trying(rt, alloc, calls, door)?),
     }
 }
 
@@ -89,7 +96,7 @@ fn replaying<R: Clock + Wait + Threads + Sync, D: Door>(
     requires out { length out.now ≤ 900 }
     requires job { IsSoundJob (seen job) }
     requires lanes { IsLaneCount lanes }
-    ensures { IfOk result (λ plan. IsDone (ToReplay out.now (seen job)) plan) }
+    ensures { IfOk result (λ plan. IsDoneAlone (ToReplay out.now (seen job)) plan) }
 {
     let desk = run_all(rt, alloc, job, door, lanes)?;
     reported(alloc, out, &desk)
@@ -99,7 +106,7 @@ fn replaying<R: Clock + Wait + Threads + Sync, D: Door>(
 fn reported(alloc: Global, out: &Txt, desk: &Desk) -> Result<Plan, Memory>
     requires out { length out.now ≤ 900 }
     requires replay { IsToldReplay desk.now.job desk.now.history desk.now.stage }
-    ensures { IfOk result (λ plan. IsDone (ToReplay out.now desk.now.job) plan) }
+    ensures { IfOk result (λ plan. IsDoneAlone (ToReplay out.now desk.now.job) plan) }
 {
     let report = report_on(alloc, desk)?;
     let divergent = report.lines.len() as u64;
@@ -168,7 +175,7 @@ fn write_in(alloc: Global, folder: &Txt, file: &str, bytes: Bytes) -> Result<Wri
 fn telling(alloc: Global, out: &Txt, facts: &FactList) -> Result<Plan, Memory>
     requires out { length out.now ≤ 900 }
     requires facts { length facts.now ≤ 100000 }
-    ensures { IfOk result (λ plan. IsDone (ToTell out.now facts.now) plan) }
+    ensures { IfOk result (λ plan. IsDoneAlone (ToTell out.now facts.now) plan) }
 {
     let text = requires_csv(alloc, facts)?;
     let mut writes = List::new(alloc);
@@ -184,14 +191,14 @@ fn telling(alloc: Global, out: &Txt, facts: &FactList) -> Result<Plan, Memory>
 fn making(alloc: Global, calls: u32, out: &Txt) -> Result<Plan, Memory>
     requires calls { IsCallCount calls }
     requires out { length out.now ≤ 900 }
-    ensures { IfOk result (λ plan. IsDone (ToMake calls out.now) plan) }
+    ensures { IfOk result (λ plan. IsDoneAlone (ToMake calls out.now) plan) }
 {
     let recorder = make(alloc, calls)?;
     let lists = lists_of(alloc, calls, &recorder)?;
     written(alloc, calls, out, recorder.start(), lists.as_slice())
 }
 
-/// The files of a capture: those of its sessions, and then its start.
+/// The files of the generated capture, and its line.
 fn written(
     alloc: Global,
     n: u32,
@@ -204,17 +211,34 @@ fn written(
     requires lists { AreSessionsFrom 0 (lists_of lists.now) }
     ensures line { IfOk result (λ plan. plan.line ≡ generated_line n) }
     ensures quiet { IfOk result IsQuiet }
-    ensures writes { IfOk result (λ plan. plan.writes ≡ session_files out.now 0 (lists_of lists.now)
-        ++ record { name = start_name out.now; bytes = start_text start.now generated_sessions } ∷ []) }
+    ensures writes { IfOk result (λ plan. plan.writes ≡ capture_files out.now start.now (lists_of lists.now) generated_sessions) }
 {
-    let mut writes = session_writes(alloc, out, lists)?;
-    let start = write_start(alloc, start, GENERATED_SESSIONS)?;
-    writes.push(write_in(alloc, out, "/start.cap", start)?)?;
+    let writes = capture_writes(alloc, out, start, lists, GENERATED_SESSIONS)?;
     Ok(Plan {
         line: counted_line(alloc, "generated ", u64::from(n), " calls\n")?,
         differs: false,
         writes,
     })
+}
+
+/// The files of a capture: those of its sessions, and then its start.
+pub(crate) fn capture_writes(
+    alloc: Global,
+    out: &Txt,
+    start: &Start,
+    lists: &[CallList],
+    sessions: u32,
+) -> Result<List<Write>, Memory>
+    requires out { length out.now ≤ 900 }
+    requires count { length lists.now ≤ 64 }
+    requires sessions { sessions ≤ 64 }
+    requires lists { AreSessionsFrom 0 (lists_of lists.now) }
+    ensures { IfOk result (λ writes. writes ≡ capture_files out.now start.now (lists_of lists.now) sessions) }
+{
+    let mut writes = session_writes(alloc, out, lists)?;
+    let start = write_start(alloc, start, sessions)?;
+    writes.push(write_in(alloc, out, "/start.cap", start)?)?;
+    Ok(writes)
 }
 
 /// The generated capture of so many calls.
@@ -262,7 +286,7 @@ fn trying<R: Clock + Wait + Threads + Sync, D: Door>(
     door: &D,
 ) -> Result<Plan, Memory>
     requires { IsCallCount calls }
-    ensures { IfOk result (λ plan. IsDone (ToTry calls) plan) }
+    ensures { IfOk result (λ plan. IsDoneAlone (ToTry calls) plan) }
 {
     let recorder = make(alloc, calls)?;
     tried(rt, alloc, calls, recorder.start(), recorder.calls(), door)
@@ -339,7 +363,7 @@ fn trial_line(alloc: Global, n: u32, calls: u64, commits: u64) -> Result<Bytes, 
 }
 
 /// Appends how many, and of what.
-fn append_counted(n: u64, words: &str, to: &mut Bytes) -> Result<(), Memory>
+pub(crate) fn append_counted(n: u64, words: &str, to: &mut Bytes) -> Result<(), Memory>
     ensures { OnOk result (to.new ≡ to.old ++ counted n words.now) }
 {
     append_u64(n, to)?;

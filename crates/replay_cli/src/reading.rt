@@ -5,8 +5,8 @@ ghost use Rattle.desk_files.specs.Outside.{Told};
 ghost use Rattle.captured_calls.specs.Sessions.{AreSessionsFrom};
 ghost use Rattle.prepare_plan.specs.Lists.{lists_of};
 ghost use Rattle.remap_ids.specs.Services.{services_of};
-ghost use Rattle.replay_cli.specs.Decision.{MayFail, MayRefuseRemap, RemapIn, SessionOf, StartOf, remap_of};
-ghost use Rattle.replay_cli.specs.Inside.Steps.{Answered, FaultFree, IsUntaken, RefusesOne, Step, seen_as};
+ghost use Rattle.replay_cli.specs.Decision.{MayRefuseRemap, MayRefuseStart, RemapIn, SessionOf, StartIn, StartOf, remap_of};
+ghost use Rattle.replay_cli.specs.Inside.Steps.{Answered, FaultFree, IsUntaken, MayFail, RefusesOne, Step, seen_as};
 ghost use Rattle.replay_cli.specs.Steps.{Is, Reading, file_in};
 
 use crate::failure::{Failure, Refusal};
@@ -44,6 +44,21 @@ pub fn parse_start(alloc: Global, name: &Txt, bytes: &Bytes) -> Result<StartFile
         Err(FormErr::Bad { line }) => Err(Failure::Refused(Refusal::BadLine(name.copy()?, line))),
         Err(FormErr::Memory) => Err(Failure::OutOfMemory),
     }
+}
+
+/// What the start file of this name says.
+pub fn read_start_file<F: Files>(
+    alloc: Global,
+    name: &Txt,
+    files: &mut F,
+) -> Result<StartFile, Failure>
+    ensures step { Step (λ map. StartIn map name.now)
+        (F.content files.old) (F.content files.new)
+        (F.faults files.old) (F.faults files.new) result }
+    ensures kind { IfErr result (MayFail (MayRefuseStart name.now)) }
+{
+    let bytes = read_file(name, FILE_LIMIT, files)?;
+    parse_start(alloc, name, &bytes)
 }
 
 /// What the bytes of the file of this name say of a session.

@@ -5,21 +5,21 @@ ghost use Rattle.std.specs.Prelude.{◌≡◌, ◌≤◌, IfOk, IfErr, length, m
 ghost use Rattle.desk_files.specs.Outside.{Told};
 ghost use Rattle.replay_job.specs.Job.{AreKnownOf, HasMoments, seen};
 ghost use Rattle.replay_job.specs.Replays.{IsSoundJob};
-ghost use Rattle.replay_cli.specs.declared.words.Command.TheVariants.{Run as TheRun, Prepare as ThePrepare};
-ghost use Rattle.replay_cli.specs.Inside.Limits.{HasWays, IsLaneCount, IsWithinLimits};
-ghost use Rattle.replay_cli.specs.Decision.{Decides, IsTaskOf, MayBeRefused, MayFail, PrepareIn, RunIn, run_job};
+ghost use Rattle.desk_words.specs.declared.words.Command.TheVariants.{Run as TheRun, Prepare as ThePrepare, Serve as TheServe};
+ghost use Rattle.desk_words.specs.Limits.{lane_limit};
+ghost use Rattle.desk_words.specs.Within.{HasWays, IsLaneCount, IsWithinLimits};
+ghost use Rattle.replay_cli.specs.Decision.{Decides, IsTaskOf, MayBeRefused, PrepareIn, RunIn, ServeIn, run_job};
 ghost use Rattle.replay_cli.specs.Inside.Work.{IsWork, legal_of, task_of};
 ghost use Rattle.captured_calls.specs.Verdict.{IsLegal};
-ghost use Rattle.replay_worker.specs.Limits.{lane_limit};
-ghost use Rattle.replay_cli.specs.Inside.Steps.{Step, seen_as};
+ghost use Rattle.replay_cli.specs.Inside.Steps.{MayFail, Step, seen_as};
 
 use crate::capture::{Legal, read_capture, test};
 use crate::failure::Failure;
-use crate::options::{LANE_LIMIT, Ways};
-use crate::reading::read_remap;
-use crate::words::Command;
+use crate::reading::{read_remap, read_start_file};
 use desk_files::Files;
+use desk_schema::Start;
 use desk_values::{Copied, Memory, Txt};
+use desk_words::{Command, LANE_LIMIT, Ways};
 use object_depends::FactList;
 use remap_ids::Remap;
 use replay_job::Job;
@@ -32,6 +32,8 @@ pub enum Work {
     Replaying(Txt, Job, u32),
     /// Write into the folder which calls wait for which.
     Telling(Txt, FactList),
+    /// Serve at most so many connections at this port, and write into the folder what they say of the start.
+    Serving(Txt, Start, u32, u16),
     /// Write a capture of so many calls into the folder.
     Making(u32, Txt),
     /// Make that capture and replay it.
@@ -51,6 +53,9 @@ pub fn decide<F: Files>(alloc: Global, command: Command, files: &mut F) -> Resul
     match command {
         Command::Run(capture, out, ways) => decide_run(alloc, &capture, out, ways, files),
         Command::Prepare(capture, out) => decide_prepare(alloc, &capture, out, files),
+        Command::Serve(capture, start, connections, port) => {
+            decide_serve(alloc, capture, &start, connections, port, files)
+        }
         Command::Generate(calls, out) => Ok(Work::Making(calls, out)),
         Command::Trial(calls) => Ok(Work::Trying(calls)),
     }
@@ -134,4 +139,25 @@ fn decide_prepare<F: Files>(
     let read = read_capture(alloc, capture, files)?;
     let legal = test(alloc, read)?;
     Ok(Work::Telling(out, legal.facts))
+}
+
+fn decide_serve<F: Files>(
+    alloc: Global,
+    capture: Txt,
+    start: &Txt,
+    connections: u32,
+    port: u16,
+    files: &mut F,
+) -> Result<Work, Failure>
+    requires capture { length capture ≤ 900 }
+    requires connections { connections ≤ 64 }
+    ensures work { IfOk result IsWork }
+    ensures task { IfOk result (λ work. IsTaskOf (TheServe capture start.now connections port) (task_of work)) }
+    ensures refused { IfErr result (MayFail (MayBeRefused (TheServe capture start.now connections port))) }
+    ensures step { Step (λ map. ServeIn map capture start.now connections port)
+        (F.content files.old) (F.content files.new)
+        (F.faults files.old) (F.faults files.new) (seen_as task_of result) }
+{
+    let file = read_start_file(alloc, start, files)?;
+    Ok(Work::Serving(capture, file.start, connections, port))
 }

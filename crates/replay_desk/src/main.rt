@@ -1,11 +1,13 @@
 //! The program. Enters: the words that it was called with. Leaves: the status that it ends with. It touches the real
-//! files, the standard output and the clock, which it hands to the one call of the desk, and where the standard error is
+//! files, the network of this machine, the standard output and the clock, which it hands to the one call of the desk, and where the standard error is
 //! a terminal it tells there of the progress.
 #![tactic(auto)]
 
+mod connections;
 mod progress;
 
-use desk_files::{RealFiles, SleepDoor, StdSink};
+use connections::TellingHost;
+use desk_files::{RealFiles, RealHost, SleepDoor, StdSink};
 use progress::{CountingFiles, ProgressDoor};
 use replay_cli::{Arguments, arguments_of, replay_main, report_want_of_memory};
 use std::io::IsTerminal;
@@ -22,8 +24,18 @@ fn main(rt: HostRuntime) -> ExitCode {
     let calls = AtomicU64::new(0);
     let mut files = CountingFiles::new(RealFiles::new(&rt, alloc), &calls);
     let door = SleepDoor::new(&rt);
-    let told = ProgressDoor::new(&door, &rt, &calls, rt.stderr().is_terminal());
-    let status = replay_main(&rt, alloc, words.as_slice(), &mut files, &told, &mut out);
+    let on_terminal = rt.stderr().is_terminal();
+    let told = ProgressDoor::new(&door, &rt, &calls, on_terminal);
+    let mut host = TellingHost::new(RealHost::new(&rt), &rt, on_terminal);
+    let status = replay_main(
+        &rt,
+        alloc,
+        words.as_slice(),
+        &mut files,
+        &mut host,
+        &told,
+        &mut out,
+    );
     told.end(&rt);
     ExitCode::from(status)
 }

@@ -10,12 +10,12 @@ use Rattle.capture_format.specs.declared.start.StartFile.{StartFile}
 use Rattle.prepare_plan.specs.Lists.{all_calls, by_stamp}
 use Rattle.law_commands.specs.Legality.First.{plan_of}
 use Rattle.law_commands.proofs.Legality.Taken.{plan_given}
-use Rattle.replay_cli.specs.declared.words.Command.TheVariants.{Run, Prepare}
+use Rattle.desk_words.specs.declared.words.Command.TheVariants.{Run, Prepare, Serve, Generate, Trial}
 use Rattle.remap_ids.specs.Services.{ServicePair}
-use Rattle.replay_cli.specs.Decision.{Legal, ReadIn, RemapIn, SessionOf, ToReplay, ToTell, legal_from, remap_of, run_job}
+use Rattle.replay_cli.specs.Decision.{Legal, ReadIn, RemapIn, SessionOf, ToReplay, ToTell, ToServe, ToMake, ToTry, legal_from, remap_of, run_job}
 use Rattle.replay_cli.specs.Steps.{Reading, file_in, file_of}
 use Rattle.replay_cli.specs.FileNames.{session_names, start_name}
-use Rattle.law_commands.specs.Commands.Complete.{AreCapture, AreThere, HasRemap, CapturesArePrepared, CapturesAreReplayed, IsThere, LegalCapturesArePrepared, LegalCapturesAreReplayed, total}
+use Rattle.law_commands.specs.Commands.Complete.{AreCapture, AreThere, HasRemap, CapturesAreMade, CapturesArePrepared, CapturesAreReplayed, CapturesAreTried, IsThere, LegalCapturesArePrepared, LegalCapturesAreReplayed, StartsAreServed, total}
 use Rattle.replay_cli.proofs.Endings.{verdict_is}
 
 -- a file that is there is read where there is room
@@ -68,3 +68,14 @@ legal_replayed words files folder out ways file lists services command are has c
 pub legal_prepared : LegalCapturesArePrepared
 legal_prepared words files folder out file lists command are can =
     prepared words files folder out file lists (plan_of file.start (by_stamp (all_calls lists))) command are (plan_given file.start lists can.0 can.1 can.2)
+
+pub served : StartsAreServed
+served words files folder name bytes connections port file command there is =
+    verdict_is words files (Serve folder name connections port) (ToServe folder file.start connections port) command
+    (file, (bytes, file_read files file_limit name bytes there there.1, is), refl)
+
+pub made : CapturesAreMade
+made words files calls out command = verdict_is words files (Generate calls out) (ToMake calls out) command refl
+
+pub tried : CapturesAreTried
+tried words files calls command = verdict_is words files (Trial calls) (ToTry calls) command refl

@@ -13,10 +13,10 @@ use Rattle.prepare_plan.specs.Lists.{all_calls, by_stamp}
 use Rattle.captured_calls.specs.Verdict.{CanBeLegal, Preparation, verdict}
 use Rattle.captured_calls.specs.Facts.{facts_of}
 use Rattle.remap_ids.specs.Services.{ServicePair, services_of}
-use Rattle.replay_cli.specs.declared.options.Ways.{Ways}
-use Rattle.replay_cli.specs.declared.words.Command.TheVariants.{Run, Prepare}
-use Rattle.replay_cli.specs.Command.{command_of}
-use Rattle.replay_cli.specs.Decision.{Verdict, ToReplay, ToTell, run_job}
+use Rattle.desk_words.specs.declared.ways.Ways.{Ways}
+use Rattle.desk_words.specs.declared.words.Command.TheVariants.{Run, Prepare, Serve, Generate, Trial}
+use Rattle.desk_words.specs.Command.{command_of}
+use Rattle.replay_cli.specs.Decision.{Verdict, ToReplay, ToTell, ToServe, ToMake, ToTry, run_job}
 use Rattle.replay_cli.specs.FileNames.{session_names, start_name}
 
 -- the file of this name is there, with these bytes, and within the limit of one file
@@ -78,3 +78,17 @@ LegalCapturesArePrepared =
     (words : List (List ℕ)) (files : FileMap) (folder out : List ℕ) (file : StartFile) (lists : List (List Captured))
     → command_of words ≡ Some (Prepare folder out) → AreCapture files folder file lists → CanBeLegal file.start (all_calls lists)
     → Verdict words files (Ok (ToTell out (facts_of file.start.schema (by_stamp (all_calls lists)))))
+
+-- where the file of the start is there and is one, its start is served
+abbrev pub StartsAreServed : Type 0
+StartsAreServed = (words : List (List ℕ)) (files : FileMap) (folder name bytes : List ℕ) (connections port : ℕ) (file : StartFile)
+    → command_of words ≡ Some (Serve folder name connections port) → IsThere files name bytes → IsStartFile bytes file
+    → Verdict words files (Ok (ToServe folder file.start connections port))
+
+-- words alone say that a capture is made, and that it is tried
+abbrev pub CapturesAreMade : Type 0
+CapturesAreMade = (words : List (List ℕ)) (files : FileMap) (calls : ℕ) (out : List ℕ)
+    → command_of words ≡ Some (Generate calls out) → Verdict words files (Ok (ToMake calls out))
+
+abbrev pub CapturesAreTried : Type 0
+CapturesAreTried = (words : List (List ℕ)) (files : FileMap) (calls : ℕ) → command_of words ≡ Some (Trial calls) → Verdict words files (Ok (ToTry calls))

@@ -3,14 +3,23 @@ use Rattle.std.specs.Prelude.{◌≡◌, ℕ, ◌<◌, ◌≤◌, List, length, 
 use Rattle.desk_files.specs.Outside.{FileMap, HasRisen, Told}
 use Rattle.replay_cli.specs.declared.failure.Refusal.{Refusal}
 use Rattle.replay_cli.specs.declared.failure.Failure.{Failure}
-use Rattle.replay_cli.specs.declared.failure.Failure.TheVariants.{BadCommand, Refused, DeviceFault, OutOfMemory}
+use Rattle.replay_cli.specs.declared.failure.Failure.TheVariants.{BadCommand, Refused, Differs, DeviceFault, OutOfMemory}
 use Rattle.replay_cli.specs.declared.failure.Refusal.TheVariants.{Missing, TooLong, BadLine}
 use Rattle.replay_cli.specs.Decision.{IsBadOfSome}
+
+-- a failure of words that are a command: a refusal such as these, or a device failed or memory was short
+abbrev pub MayFail : (Refusal → Type 0) → Failure → Type 0
+MayFail may BadCommand = ⊥
+MayFail may (Refused refusal) = may refusal
+MayFail may (Differs finding) = ⊥
+MayFail may DeviceFault = Unit {0}
+MayFail may OutOfMemory = Unit {0}
 
 -- the failure is this step's; a fault and want of memory say nothing of it
 abbrev pub Stops : {X : Type 0} → (Result X Refusal → Type 0) → Failure → Type 0
 Stops want BadCommand = ⊥
 Stops want (Refused refusal) = want (Err refusal)
+Stops want (Differs finding) = ⊥
 Stops want DeviceFault = ⊤
 Stops want OutOfMemory = ⊤
 
@@ -23,6 +32,7 @@ Answered want (Err failure) = Stops want failure
 abbrev pub FailedAt : Failure → ℕ → ℕ → Type 0
 FailedAt BadCommand before after = ⊥
 FailedAt (Refused refusal) before after = after ≡ before
+FailedAt (Differs finding) before after = ⊥
 FailedAt DeviceFault before after = HasRisen before after × (before ≤ after)
 FailedAt OutOfMemory before after = after ≡ before
 
@@ -35,6 +45,7 @@ abbrev pub FaultFree : {X : Type 0} → Result X Failure → Type 0
 FaultFree (Ok x) = ⊤
 FaultFree (Err BadCommand) = ⊥
 FaultFree (Err (Refused refusal)) = ⊤
+FaultFree (Err (Differs finding)) = ⊥
 FaultFree (Err DeviceFault) = ⊥
 FaultFree (Err OutOfMemory) = ⊤
 

@@ -1,15 +1,15 @@
 -- The work of a command as the code holds it.
-use Rattle.std.specs.Prelude.{◌≡◌, ◌≤◌, length}
+use Rattle.std.specs.Prelude.{◌≤◌, length}
 use Rattle.replay_job.specs.Job.{seen}
 use Rattle.replay_job.specs.Replays.{IsSoundJob}
 use Rattle.prepare_plan.specs.Lists.{lists_of}
 use Rattle.replay_cli.specs.declared.capture.Legal.{Legal as Loaded}
 use Rattle.replay_cli.specs.declared.capture.Read.{Read as ReadFiles}
 use Rattle.replay_cli.specs.declared.work.Work.{Work}
-use Rattle.replay_cli.specs.declared.work.Work.TheVariants.{Replaying, Telling, Making, Trying}
-use Rattle.replay_cli.specs.Inside.Limits.{IsCallCount, IsLaneCount}
-use Rattle.replay_cli.specs.Decision.{Legal, Read, Task, ToReplay, ToTell, ToMake, ToTry}
-use Rattle.replay_cli.specs.Limits.{path_limit}
+use Rattle.replay_cli.specs.declared.work.Work.TheVariants.{Replaying, Telling, Serving, Making, Trying}
+use Rattle.desk_words.specs.Within.{IsCallCount, IsLaneCount}
+use Rattle.replay_cli.specs.Decision.{Legal, Read, Task, ToReplay, ToTell, ToServe, ToMake, ToTry}
+use Rattle.desk_words.specs.Limits.{connection_limit, path_limit}
 use Rattle.replay_history.specs.Limits.{call_limit}
 
 -- the files of a capture as contracts see them
@@ -24,6 +24,7 @@ legal_of loaded = record { start = loaded.start; calls = loaded.calls.items; fac
 abbrev pub task_of : Work → Task
 task_of (Replaying out job lanes) = ToReplay out (seen job)
 task_of (Telling out facts) = ToTell out facts
+task_of (Serving out start most port) = ToServe out start most port
 task_of (Making n out) = ToMake n out
 task_of (Trying n) = ToTry n
 
@@ -31,5 +32,6 @@ task_of (Trying n) = ToTry n
 abbrev pub IsWork : Work → Type 0
 IsWork (Replaying out job lanes) = (length out ≤ path_limit) × IsSoundJob (seen job) × IsLaneCount lanes
 IsWork (Telling out facts) = (length out ≤ path_limit) × (length facts ≤ call_limit)
+IsWork (Serving out start most port) = (length out ≤ path_limit) × (most ≤ connection_limit)
 IsWork (Making n out) = IsCallCount n × (length out ≤ path_limit)
 IsWork (Trying n) = IsCallCount n

@@ -1,8 +1,8 @@
 use Rattle.std.proofs.Common.{◌∙◌, ap, length, subst, arith}
 use Rattle.std.proofs.lemmas.Result.{IfErr-weaker}
-use Rattle.replay_cli.specs.Decision.{MayFail, MayRefuseCapture}
+use Rattle.replay_cli.specs.Decision.{MayRefuseCapture}
 use Rattle.replay_cli.specs.FileNames.{session_names}
-use Rattle.replay_cli.specs.Inside.Steps.{RefusesOne}
+use Rattle.replay_cli.specs.Inside.Steps.{MayFail, RefusesOne}
 use Rattle.replay_cli.proofs.Refusals.{fails_weaker, one_in}
 use Rattle.replay_cli.proofs.Sessions.{count_names, few_lists}
 use Rattle.replay_cli.proofs.capture.load_sessions.Goals as goal

@@ -3,7 +3,7 @@ use Rattle.std.proofs.lemmas.Result.{err_from_is_err_and}
 use Rattle.replay_cli.specs.declared.capture.Legal.{Legal as Loaded}
 use Rattle.captured_calls.specs.Verdict.{verdict}
 use Rattle.replay_job.specs.Job.{JobView}
-use Rattle.replay_cli.specs.declared.words.Command.TheVariants.{Run}
+use Rattle.desk_words.specs.declared.words.Command.TheVariants.{Run}
 use Rattle.replay_cli.specs.Decision.{MayBeRefused, MayRefuseCapture, MayRefuseRemap, Task, ToReplay, legal_from, run_job}
 use Rattle.replay_cli.specs.Inside.Work.{legal_of, read_of}
 use Rattle.replay_cli.specs.Steps.{Is}

@@ -1,0 +1,5 @@
+pub mod Keeping
+pub mod Asking
+pub mod Turns
+pub mod Taking
+pub mod Halting

@@ -1,0 +1,97 @@
+//! The numbers that the server gives out next, as its replies show them.
+
+ghost use Rattle.std.specs.Prelude.{◌≡◌, ◌<◌, ◌-◌, ◌^◌, ◌&&◌, All, IfOk, nat_le, nat_lt, slice_get};
+ghost use Rattle.std.specs.List.{list_any};
+ghost use Rattle.std.specs.Option.{option_copied};
+ghost use Rattle.machine_model.specs.Draws.{is_draw_of, moved};
+ghost use Rattle.machine_model.specs.State.{is_between};
+ghost use Rattle.machine_model.specs.Step.{after_made};
+ghost use Rattle.capture_recorder.specs.Inside.Given.{is_later};
+
+use desk_schema::Start;
+use desk_values::{Memory, Reply, Value};
+use std::alloc::Global;
+
+/// The number of the next row, and the next value of each sequence.
+#[derive(Drop)]
+pub(crate) struct Counters {
+    next_row: u64,
+    next_values: Vec<u64>,
+}
+
+impl Counters {
+    /// Those of a start.
+    pub(crate) fn of_start(alloc: Global, start: &Start) -> Result<Counters, Memory>
+        ensures row { IfOk result (λ counters. counters.next_row ≡ start.now.next_row) }
+        ensures values { IfOk result (λ counters. counters.next_values.items ≡ start.now.next_values) }
+    {
+        Ok(Counters {
+            next_row: start.next_row(),
+            next_values: start.next_values().to_vec(alloc)?,
+        })
+    }
+
+    /// What a reply gave out is given out no more.
+    pub(crate) fn note(&mut self, reply: &Reply)
+        requires row { self.old.next_row < 2 ^ 64 - 1 }
+        requires values { All (λ next. next < 2 ^ 64 - 1) self.old.next_values.items }
+        ensures row { self.new.next_row ≡ after_made reply.now.made self.old.next_row }
+        ensures values { self.new.next_values.items ≡ moved reply.now.draws 0 self.old.next_values.items }
+    {
+        if reply.made.is_some() {
+            self.next_row += 1;
+        }
+        move_sequences(self.next_values.as_mut_slice(), reply.draws.as_slice());
+    }
+
+    /// Whether an id was given out since the start.
+    pub(crate) fn has_given(&self, start: &Start, value: &Value) -> bool
+        ensures { result ≡ is_later start.now self.now.next_row self.now.next_values.items value.now }
+    {
+        match value {
+            Value::Row(n) => is_between(Some(start.next_row()), Some(self.next_row), *n),
+            Value::Draw(sequence, n) => is_between(
+                start.next_value(*sequence),
+                self.next_values.get(*sequence as usize).copied(),
+                *n,
+            ),
+            _ => false,
+        }
+    }
+}
+
+// Each sequence that a value was drawn from moves by 1.
+fn move_sequences(next_values: &mut [u64], draws: &[Value])
+    requires { All (λ next. next < 2 ^ 64 - 1) next_values.old }
+    ensures { next_values.new ≡ moved draws.now 0 next_values.old }
+{
+    for (place, next) in next_values.iter_mut().enumerate() {
+        if some_is_of(place, draws) {
+            *next += 1;
+        }
+    }
+}
+
+fn some_is_of(place: usize, draws: &[Value]) -> bool
+    ensures { result ≡ list_any (is_draw_of place) draws.now }
+{
+    draws.iter().any(|draw| is_draw_of(place, draw))
+}
+
+fn is_draw_of(place: usize, draw: &Value) -> bool
+    ensures { result ≡ is_draw_of place draw.now }
+{
+    match draw {
+        Value::Draw(sequence, _) => *sequence as usize == place,
+        _ => false,
+    }
+}
+
+fn is_between(first: Option<u64>, end: Option<u64>, n: u64) -> bool
+    ensures { result ≡ is_between first end n }
+{
+    match (first, end) {
+        (Some(first), Some(end)) => first <= n && n < end,
+        _ => false,
+    }
+}

@@ -1,0 +1,143 @@
+-- The whole service, put together.
+use Rattle.std.proofs.Common.{◌≡◌, ◌∙◌, ℕ, suc, ◌+◌, ◌≤◌, List, [], ◌∷◌, ◌++◌, length, map, min, Option, Some, None, IsSomeAnd, Result, Ok, IfOk, refl, sym, ap, subst, arith, slice_get, if◌then◌else◌}
+use Rattle.std.specs.Prelude.{count_by, OnOk}
+use Rattle.std.specs.List.{AllByRecursion}
+use Rattle.std.proofs.lemmas.List.{length-map}
+use Rattle.std.proofs.lemmas.Result.{IfOk-at_ok}
+use Rattle.std.proofs.lemmas.List.Folds.{fold-map}
+use Rattle.desk_files.specs.Outside.{Told}
+use Rattle.desk_files.specs.Hosts.{Connections, Returned}
+use Rattle.desk_values.specs.declared.memory.Memory.{Memory}
+use Rattle.desk_schema.specs.Start.{StartView}
+use Rattle.capture_recorder.specs.declared.door.Said.{Said}
+use Rattle.capture_recorder.specs.declared.door.Turned.{Turned}
+use Rattle.capture_recorder.specs.Agreement.{IsBorneOut}
+use Rattle.capture_recorder.specs.Gathering.{kept_in, said_in}
+use Rattle.capture_recorder.specs.Recording.{Recording}
+use Rattle.capture_http.specs.declared.conn_end.ConnEnd.{ConnEnd}
+use Rattle.capture_serve.specs.Connections.{AreConnectionsFrom, IsConnection, comes}
+use Rattle.capture_serve.specs.Service.{AreServed, CaptureView, IsService, is_short}
+use Rattle.capture_serve.specs.declared.returning.Notes.{Notes}
+use Rattle.capture_serve.specs.Inside.Passing.{AreBack, AreClosed, Came, Connected, Gave, HasNoted, IsCapturedOf, IsPassed, Moment, Passed, PassedThrough, Took, arrivals_from, moment_of}
+use Rattle.capture_serve.proofs.Going.{GaveSo}
+
+abbrev said_after : Passed → List Said
+said_after p = p.after.said
+
+abbrev turned_after : Passed → List Turned
+turned_after p = p.after.turned
+
+abbrev end_of : Passed → ConnEnd
+end_of p = p.end
+
+module _ (r : Recording) where
+  -- what is recorded of the sessions from this number on is what was said in these lists
+  abbrev Records : ℕ → List (List Said) → Type 0
+  Records n lists = (k : ℕ) → said_in lists k ≡ kept_in r.calls (n + k)
+
+  abbrev BearsOut : ℕ → List (List Turned) → Type 0
+  BearsOut n turned = (k m : ℕ) (entries : List Turned) (entry : Turned) → slice_get turned k ≡ Some entries → slice_get entries m ≡ Some entry → IsBorneOut r.start.rows r.calls (n + k) entry
+
+  one_connection : (n : ℕ) (p : Passed) (sent : List ℕ) (back : Returned) (said' : List Said) → IsPassed p → moment_of p ≡ record { session = n; ends = comes sent } → AreBack (p ∷ []) (back ∷ [])
+      → AreClosed (p.after.said ∷ []) (said' ∷ []) → said' ≡ kept_in r.calls n → ((m : ℕ) (entry : Turned) → slice_get p.after.turned m ≡ Some entry → IsBorneOut r.start.rows r.calls n entry) → IsConnection r n sent p.end back
+  one_connection n p sent back said' passed came given closed recorded borne = record {
+    input_faults = p.after.input_faults;
+    output_faults = p.after.output_faults;
+    said = p.after.said;
+    turned = p.after.turned;
+    more = closed.0.0;
+    conversation = rw (← session, ← before, ← given.0, ← given.1) passed;
+    failed = given.2;
+    closing = closed.0.1;
+    once = closed.0.2;
+    recorded = sym recorded ∙ closed.0.3;
+    borne_out = borne;
+  } where
+    session : p.session ≡ n
+    session = ap (λ (m : Moment). m.session) came
+
+    before : p.before ≡ comes sent
+    before = ap (λ (m : Moment). m.ends) came
+
+  pub each : (n : ℕ) (passes : List Passed) (sents : List (List ℕ)) (backs : List Returned) (lists : List (List Said)) → AllByRecursion IsPassed passes → map moment_of passes ≡ arrivals_from n sents → AreBack passes backs
+      → AreClosed (map said_after passes) lists → Records n lists → BearsOut n (map turned_after passes) → AreConnectionsFrom r n sents (map end_of passes) backs
+  each n [] [] [] lists passed came given closed records bears = tt
+  each n [] [] (back ∷ backs) lists passed came given closed records bears = absurd given
+  each n [] (sent ∷ sents) backs lists passed came given closed records bears = absurd (cc came)
+  each n (p ∷ passes) [] backs lists passed came given closed records bears = absurd (cc came)
+  each n (p ∷ passes) (sent ∷ sents) [] lists passed came given closed records bears = absurd given
+  each n (p ∷ passes) (sent ∷ sents) (back ∷ backs) [] passed came given closed records bears = absurd closed
+  each n (p ∷ passes) (sent ∷ sents) (back ∷ backs) (said' ∷ lists) passed came given closed records bears = (
+    one_connection n p sent back said' passed.0 (cc came) (given.0, given.1, given.2, tt) (closed.0, tt) (records 0 ∙ ap (kept_in r.calls) (omega arith)) (λ m entry at. subst (λ (k : ℕ). IsBorneOut r.start.rows r.calls k entry) (omega arith) (bears 0 m p.after.turned entry refl at)),
+    each (n + 1) passes sents backs lists passed.1 (cc came) given.3 closed.1 (λ k. records (suc k) ∙ ap (kept_in r.calls) (omega arith)) (λ k m entries entry at in_. subst (λ (j : ℕ). IsBorneOut r.start.rows r.calls j entry) (omega arith) (bears (suc k) m entries entry at in_)),
+  )
+
+-- what was served
+served : (start : StartView) (most : ℕ) (notes : Notes) (c : CaptureView) (before : Connections) (after : Connections) (of : IsCapturedOf start notes c) (passes : List Passed) → HasNoted notes passes → AllByRecursion IsPassed passes
+    → PassedThrough most passes before after → AreServed most of.recording (map end_of passes) before after
+served start most notes c before after of passes noted passed through = record {
+  sent = through.sent;
+  back = through.back;
+  taken = through.taken;
+  count = through.count;
+  returned = through.returned;
+  each = each of.recording 0 passes through.sent through.back of.said passed through.arrive through.are_back (subst (λ (l : List (List Said)). AreClosed l of.said) noted.said of.closed)
+      (λ k. of.agrees.said k ∙ ap (kept_in of.recording.calls) (omega arith))
+      (λ k m entries entry at in_. subst (λ (j : ℕ). IsBorneOut of.recording.start.rows of.recording.calls j entry) (omega arith) (of.agrees.refused k m entries entry (rw noted.turned at) in_));
+}
+
+said_each : (notes : Notes) (passes : List Passed) → HasNoted notes passes → length notes.said ≡ length passes
+said_each notes passes noted = sym (length-map notes.said (λ list. list.items)) ∙ ap (λ (l : List (List Said)). length l) noted.said ∙ length-map passes said_after
+
+pub few_said : (most : ℕ) (notes : Notes) (before after : Option Connections) → Connected most notes before after → length notes.said ≤ most
+few_said most notes before after connected = omega (arith, said_each notes connected.passes connected.noted, connected.few)
+
+pub service : (start : StartView) (most : ℕ) (notes : Notes) (c : CaptureView) (before after : Option Connections) → Connected most notes before after → IsCapturedOf start notes c → IsService start most c before after
+service start most notes c before after connected of = record {
+  recording = of.recording;
+  ends = map end_of connected.passes;
+  capture = of.capture;
+  count = length-map connected.passes end_of ∙ sym as_many;
+  few = omega (arith, as_many, connected.few);
+  short = of.short ∙ connected.noted.short ∙ short_ends connected.passes;
+  served = all_served before after connected.through;
+} where
+  as_many : c.connections ≡ length connected.passes
+  as_many = of.connections ∙ said_each notes connected.passes connected.noted
+
+  short_ends : (passes : List Passed) → count_by (λ (p : Passed). is_short p.end) passes ≡ count_by is_short (map end_of passes)
+  short_ends passes = sym (fold-map (λ (n : ℕ) (end : ConnEnd). n + (if is_short end then 1 else 0)) end_of 0 passes)
+
+  all_served : (before after : Option Connections) → Told before (λ b. IsSomeAnd after (PassedThrough most connected.passes b)) → Told before (λ b. IsSomeAnd after (AreServed most of.recording (map end_of connected.passes) b))
+  all_served None after through = tt
+  all_served (Some b) None through = absurd through
+  all_served (Some b) (Some a) through = served start most notes c b a of connected.passes connected.noted connected.each through
+
+-- ---- connections that came, were served and were given back
+
+through_both : (most : ℕ) (passes : List Passed) (before mid : Connections) (after : Option Connections) → (sent : List (List ℕ)) × Took (map moment_of passes) sent before mid × (length sent ≡ min most (length before.waiting))
+    → IsSomeAnd after (Gave passes mid) → IsSomeAnd after (PassedThrough most passes before)
+through_both most passes before mid None came gave = absurd gave
+through_both most passes before mid (Some after) came gave = record {
+  sent = came.0;
+  back = gave.back;
+  taken = came.1.taken ∙ ap (λ (l : List (List ℕ)). came.0 ++ l) (sym gave.waiting);
+  count = came.2;
+  arrive = came.1.arrive;
+  returned = gave.returned ∙ ap (λ (l : List Returned). l ++ gave.back) came.1.returned;
+  are_back = gave.are_back;
+}
+
+pub connected : (most : ℕ) (notes : Notes) (given : Result Notes Memory) (before mid after : Option Connections) (passes : List Passed) → given ≡ Ok notes → Came (Ok tt) most (map moment_of passes) before mid
+    → OnOk given (GaveSo passes mid after) → IfOk given (λ n. HasNoted n passes) → AllByRecursion IsPassed passes → length passes ≤ most → Connected most notes before after
+connected most notes given before mid after passes is came gave noted each few = record {
+  passes = passes;
+  noted = IfOk-at_ok (λ n. HasNoted n passes) is noted;
+  each = each;
+  few = few;
+  through = all_through before mid came (subst (λ (r : Result Notes Memory). OnOk r (GaveSo passes mid after)) is gave);
+} where
+  all_through : (before mid : Option Connections) → Came (Ok tt) most (map moment_of passes) before mid → GaveSo passes mid after → Told before (λ c. IsSomeAnd after (PassedThrough most passes c))
+  all_through None mid came gave = tt
+  all_through (Some b) None came gave = absurd came
+  all_through (Some b) (Some m) came gave = through_both most passes b m after came gave

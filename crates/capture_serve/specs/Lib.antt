@@ -1,0 +1,5 @@
+pub mod Connections
+pub mod Service
+pub mod Failing
+pub mod Seen
+pub mod Inside

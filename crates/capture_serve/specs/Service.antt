@@ -1,0 +1,59 @@
+-- What stands of all connections that were served, and of the capture.
+use Rattle.std.specs.Prelude.{◌≡◌, ℕ, ◌<◌, ◌≤◌, Bool, true, false, List, ◌++◌, length, min, count_by, Option, IsSomeAnd}
+use Rattle.desk_values.specs.declared.capture.Captured.{Captured}
+use Rattle.desk_values.specs.Limits.{session_limit}
+use Rattle.desk_schema.specs.Start.{StartView}
+use Rattle.desk_files.specs.Outside.{Told}
+use Rattle.desk_files.specs.Hosts.{Connections, Returned}
+use Rattle.machine_model.specs.State.{is_connected}
+use Rattle.captured_calls.specs.Sessions.{session_lists}
+use Rattle.capture_recorder.specs.Listed.{AreBelow}
+use Rattle.capture_recorder.specs.Recording.{IsRecording, Recording}
+use Rattle.capture_http.specs.declared.conn_end.ConnEnd.{ConnEnd}
+use Rattle.capture_http.specs.declared.conn_end.ConnEnd.TheVariants as ends
+use Rattle.capture_serve.specs.Connections.{AreConnectionsFrom}
+
+-- memory was short in the connection
+abbrev pub is_short : ConnEnd → Bool
+is_short ends.Ended = false
+is_short ends.Spent = false
+is_short ends.SourceFault = false
+is_short ends.SinkFault = false
+is_short ends.Memory = true
+
+-- The first of those waiting were taken, as many as were to be served or all that there were; each was served as the session of its
+-- place, and they were given back in this order.
+pub record AreServed (most : ℕ) (r : Recording) (ends : List ConnEnd) (before after : Connections) : Type 0 where
+  pub sent : List (List ℕ)
+  pub back : List Returned
+  pub taken : before.waiting ≡ sent ++ after.waiting
+  pub count : length sent ≡ min most (length before.waiting)
+  pub returned : after.returned ≡ before.returned ++ back
+  pub each : AreConnectionsFrom r 0 sent ends back
+
+-- how many connections there were, how many of them were short of memory, how many calls were captured, and those of each session
+pub record CaptureView : Type 0 where
+  pub connections : ℕ
+  pub short : ℕ
+  pub calls : ℕ
+  pub sessions : List (List Captured)
+
+-- What was captured is all that a recorder holds: a legal capture from the start, of as many sessions as there were connections. No session
+-- is connected after its last call.
+pub record IsCapture (start : StartView) (c : CaptureView) (r : Recording) : Type 0 where
+  pub recording : IsRecording r
+  pub start_is : r.start ≡ start
+  pub calls : c.calls ≡ length r.calls
+  pub below : AreBelow c.connections r.calls
+  pub sessions : c.sessions ≡ session_lists c.connections r.calls
+  pub off : (session : ℕ) → session < session_limit → is_connected r.state session ≡ false
+
+-- what stands where at most so many connections were served, and nothing differed
+pub record IsService (start : StartView) (most : ℕ) (c : CaptureView) (before after : Option Connections) : Type 0 where
+  pub recording : Recording
+  pub ends : List ConnEnd
+  pub capture : IsCapture start c recording
+  pub count : length ends ≡ c.connections
+  pub few : c.connections ≤ most
+  pub short : c.short ≡ count_by is_short ends
+  pub served : Told before (λ connections. IsSomeAnd after (AreServed most recording ends connections))

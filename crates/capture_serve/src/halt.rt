@@ -1,0 +1,8 @@
+/// Why no more connections were taken.
+#[derive(Clone, Copy, Debug, PartialEq, Eq)]
+pub(crate) enum Halt {
+    /// The host failed.
+    Failed,
+    /// Want of memory.
+    Memory,
+}

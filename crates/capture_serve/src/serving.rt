@@ -1,0 +1,116 @@
+//! The whole service, from its start to the capture.
+
+ghost use Rattle.std.specs.Prelude.{◌≡◌, ◌≤◌, length, IfErr, IfOk};
+ghost use Rattle.desk_files.specs.Outside.{Counts};
+ghost use Rattle.captured_calls.specs.Sessions.{AreSessionsFrom};
+ghost use Rattle.capture_serve.specs.Failing.{Fails, serve_ending};
+ghost use Rattle.capture_serve.specs.Seen.{capture_of};
+ghost use Rattle.capture_serve.specs.Service.{IsService};
+ghost use Rattle.capture_serve.specs.Inside.Passing.{Connected, IsCapturedOf, IsFaultless, IsPlain};
+
+use crate::accepting::serve_all;
+use crate::closing::close_all;
+use crate::failing::{ServeErr, failed};
+use crate::halt::Halt;
+use crate::returning::{Notes, give_back};
+use capture_recorder::{Recorder, gather};
+use desk_files::{Door, Host};
+use desk_schema::Start;
+use desk_values::{Memory, SessionLists};
+use std::alloc::Global;
+use std::sync::{Mutex, Wait};
+use std::thread::Threads;
+use std::time::Clock;
+
+/// What was captured of connections.
+#[derive(Drop)]
+pub struct Capture {
+    /// How many connections there were. Each is a session.
+    pub connections: u32,
+    /// How many of them ended for want of memory.
+    pub short: u32,
+    /// How many calls were captured.
+    pub calls: u32,
+    /// The calls of each session.
+    pub sessions: SessionLists,
+}
+
+/// Serves so many connections at a port, or all that the host has, each as a session of a server with this start, and gives what
+/// they said. Each connection is given back, also where the host failed. `Failed` where the host failed; `Differs` where what was
+/// recorded is not what the connections were answered, which only a fault of this program can bring about.
+pub fn serve<R: Clock + Wait + Threads + Sync, H: Host, D: Door>(
+    rt: &R,
+    alloc: Global,
+    start: &Start,
+    host: &mut H,
+    clock: &D,
+    port: u16,
+    most: u32,
+) -> Result<Capture, ServeErr>
+    requires { most ≤ 64 }
+    ensures service { IfOk result (λ capture. IsService start.now most (capture_of capture) (H.content host.old) (H.content host.new)) }
+    ensures files { IfOk result (λ capture. AreSessionsFrom 0 (capture_of capture).sessions) }
+    ensures fails { IfErr result (Fails start.now) }
+    ensures counts { Counts (serve_ending result) (H.faults host.old) (H.faults host.new) }
+{
+    let shared = Mutex::new(Recorder::load(alloc, start)?);
+    let notes = connect(rt, alloc, host, &shared, clock, port, most)?;
+    captured(rt, alloc, start, shared.into_inner(), clock, notes)
+}
+
+// Serves the connections, and gives each of them back.
+fn connect<R: Clock + Wait + Threads + Sync, H: Host, D: Door>(
+    rt: &R,
+    alloc: Global,
+    host: &mut H,
+    shared: &Mutex<Recorder>,
+    clock: &D,
+    port: u16,
+    most: u32,
+) -> Result<Notes, ServeErr>
+    requires { most ≤ 64 }
+    ensures connected { IfOk result (λ notes. Connected most notes (H.content host.old) (H.content host.new)) }
+    ensures plain { IfErr result IsPlain }
+    ensures counts { Counts (serve_ending result) (H.faults host.old) (H.faults host.new) }
+{
+    if host.listen(port).is_err() {
+        return Err(ServeErr::Failed);
+    }
+    let (served, halted) = serve_all(rt, alloc, host, shared, clock, most);
+    let given = match served {
+        Ok(served) => give_back(alloc, host, served),
+        Err(Memory) => Err(Memory),
+    };
+    match halted {
+        Ok(()) => Ok(given?),
+        Err(Halt::Failed) => Err(ServeErr::Failed),
+        Err(Halt::Memory) => Err(ServeErr::Memory),
+    }
+}
+
+// Closes the sessions, and compares what was recorded with what was said.
+fn captured<R: Clock + Wait, D: Door>(
+    rt: &R,
+    alloc: Global,
+    start: &Start,
+    mut recorder: Recorder,
+    clock: &D,
+    notes: Notes,
+) -> Result<Capture, ServeErr>
+    requires { length notes.said ≤ 64 }
+    ensures captured { IfOk result (λ capture. IsCapturedOf start.now notes (capture_of capture)) }
+    ensures files { IfOk result (λ capture. AreSessionsFrom 0 (capture_of capture).sessions) }
+    ensures fails { IfErr result (λ error. Fails start.now error × IsFaultless error) }
+{
+    let said = close_all(rt, alloc, &mut recorder, clock, notes.said)?;
+    let sessions = match gather(alloc, start, &recorder, &said, &notes.turned) {
+        Ok(sessions) => sessions,
+        Err(error) => return Err(failed(error)),
+    };
+    Ok(Capture {
+        connections: said.len() as u32,
+        short: notes.short,
+        calls: recorder.calls().len() as u32,
+        sessions,
+    })
+}

@@ -1,0 +1,58 @@
+-- What words may come to, from how deciding and doing their task may fail.
+use Rattle.std.proofs.Common.{◌≡◌, Option, Some, None, Result, Ok, Err, inr, refl, sym, subst}
+use Rattle.desk_words.specs.declared.words.Command.{Command}
+use Rattle.desk_words.specs.declared.words.Command.TheVariants.{Run, Prepare, Serve, Generate, Trial}
+use Rattle.capture_serve.specs.declared.failing.Finding.{Finding}
+use Rattle.replay_cli.specs.declared.failure.Failure.{Failure}
+use Rattle.replay_cli.specs.declared.failure.Failure.TheVariants.{BadCommand, Refused, Differs, DeviceFault, OutOfMemory}
+use Rattle.replay_cli.specs.declared.plan.Plan.{Plan}
+use Rattle.replay_cli.specs.Decision.{IsTaskOf, MayBeRefused, Task, ToMake, ToReplay, ToServe, ToTell, ToTry}
+use Rattle.replay_cli.specs.Done.{IsDone}
+use Rattle.replay_cli.specs.Ending.{Hosting, IsFoundOf, IsUnasked, MayComeTo, MayDiffer}
+use Rattle.replay_cli.specs.Inside.Serving.{PlanFails}
+use Rattle.replay_cli.specs.Inside.Steps.{MayFail}
+
+-- the command is one of these words
+told_of : (found : Option Command) (command : Command) (h : Hosting) (done : Result Plan Failure) → found ≡ Some command → MayComeTo (Some command) h done → MayComeTo found h done
+told_of found command h done is may = subst (λ (c : Option Command). MayComeTo c h done) (sym is) may
+
+refused_told : (command : Command) (h : Hosting) (failure : Failure) → IsUnasked h → MayFail (MayBeRefused command) failure → MayComeTo (Some command) h (Err failure)
+refused_told command h BadCommand unasked may = absurd may
+refused_told command h (Refused refusal) unasked may = (may, unasked)
+refused_told command h (Differs finding) unasked may = absurd may
+refused_told command h DeviceFault unasked may = tt
+refused_told command h OutOfMemory unasked may = tt
+
+differs_told : (command : Command) (task : Task) (finding : Finding) → IsTaskOf command task → IsFoundOf task finding → MayDiffer command finding
+differs_told command (ToReplay out job) finding is found = absurd found
+differs_told command (ToTell out facts) finding is found = absurd found
+differs_told command (ToMake n out) finding is found = absurd found
+differs_told command (ToTry n) finding is found = absurd found
+differs_told (Run capture out ways) (ToServe folder start most port) finding is found = absurd is
+differs_told (Prepare capture out) (ToServe folder start most port) finding is found = absurd is
+differs_told (Serve capture name connections door) (ToServe folder start most port) finding is found = (start, found)
+differs_told (Generate n out) (ToServe folder start most port) finding is found = absurd is
+differs_told (Trial n) (ToServe folder start most port) finding is found = absurd is
+
+failed_told : (command : Command) (task : Task) (h : Hosting) (failure : Failure) → IsTaskOf command task → PlanFails task failure → MayComeTo (Some command) h (Err failure)
+failed_told command task h BadCommand is fails = absurd fails
+failed_told command task h (Refused refusal) is fails = absurd fails
+failed_told command task h (Differs finding) is fails = differs_told command task finding is fails
+failed_told command task h DeviceFault is fails = tt
+failed_told command task h OutOfMemory is fails = tt
+
+pub told_refused : (found : Option Command) (command : Command) (h : Hosting) (failure : Failure) → found ≡ Some command → IsUnasked h → MayFail (MayBeRefused command) failure → MayComeTo found h (Err failure)
+told_refused found command h failure is unasked may = told_of found command h (Err failure) is (refused_told command h failure unasked may)
+
+pub told_failed : (found : Option Command) (command : Command) (task : Task) (h : Hosting) (failure : Failure) → found ≡ Some command → IsTaskOf command task → PlanFails task failure → MayComeTo found h (Err failure)
+told_failed found command task h failure is of fails = told_of found command h (Err failure) is (failed_told command task h failure of fails)
+
+pub told_done : (found : Option Command) (command : Command) (task : Task) (h : Hosting) (plan : Plan) → found ≡ Some command → IsTaskOf command task → IsDone task plan h.before h.after → MayComeTo found h (Ok plan)
+told_done found command task h plan is of done = told_of found command h (Ok plan) is (task, of, done)
+
+pub told_unwritten : (found : Option Command) (command : Command) (h : Hosting) → found ≡ Some command → MayComeTo found h (Err DeviceFault)
+told_unwritten found command h is = told_of found command h (Err DeviceFault) is tt
+
+pub told_short : (found : Option Command) (h : Hosting) → IsUnasked h → MayComeTo found h (Err OutOfMemory)
+told_short None h unasked = (inr refl, unasked)
+told_short (Some command) h unasked = tt

@@ -1,6 +1,0 @@
-use Rattle.std.proofs.Common.{◌≡◌}
-use Rattle.replay_cli.specs.FileNames.{session_names}
-use Rattle.replay_cli.proofs.words.session_names.Given as goal
-
-abbrev pub invariant-loop-session : goal.invariant-loop-session
-invariant-loop-session l = l.names ≡ session_names l.folder l.session

@@ -1,0 +1,25 @@
+-- What the work of a task answers, and how the count of the host moves in it.
+use Rattle.std.specs.Prelude.{◌≡◌, ℕ, ◌≤◌, Result, Ok, Err, ⊤}
+use Rattle.desk_files.specs.Outside.{HasRisen}
+use Rattle.replay_cli.specs.declared.failure.Failure.{Failure}
+use Rattle.replay_cli.specs.declared.failure.Failure.TheVariants.{BadCommand, Refused, Differs, DeviceFault, OutOfMemory}
+use Rattle.replay_cli.specs.declared.plan.Plan.{Plan}
+use Rattle.replay_cli.specs.Decision.{Task}
+use Rattle.replay_cli.specs.Ending.{IsFoundOf}
+
+-- how the work of a task may fail: something is found to differ of what was served, the host fails, or memory is short
+abbrev pub PlanFails : Task → Failure → Type 0
+PlanFails task BadCommand = ⊥
+PlanFails task (Refused refusal) = ⊥
+PlanFails task (Differs finding) = IsFoundOf task finding
+PlanFails task DeviceFault = ⊤
+PlanFails task OutOfMemory = ⊤
+
+-- the count rises where the host failed, and stands otherwise
+abbrev pub HostFaults : Result Plan Failure → ℕ → ℕ → Type 0
+HostFaults (Ok plan) before after = after ≡ before
+HostFaults (Err BadCommand) before after = after ≡ before
+HostFaults (Err (Refused refusal)) before after = after ≡ before
+HostFaults (Err (Differs finding)) before after = after ≡ before
+HostFaults (Err DeviceFault) before after = HasRisen before after × (before ≤ after)
+HostFaults (Err OutOfMemory) before after = after ≡ before
