@@ -1,0 +1,4 @@
+pub mod Register
+pub mod Comparison
+pub mod Memory
+pub mod Inside
