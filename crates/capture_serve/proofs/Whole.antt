@@ -1,5 +1,5 @@
 -- The whole service, put together.
-use Rattle.std.proofs.Common.{◌≡◌, ◌∙◌, ℕ, suc, ◌+◌, ◌≤◌, List, [], ◌∷◌, ◌++◌, length, map, min, Option, Some, None, IsSomeAnd, Result, Ok, IfOk, refl, sym, ap, subst, arith, slice_get, if◌then◌else◌}
+use Rattle.std.proofs.Common.{◌≡◌, ◌∙◌, ℕ, suc, ◌+◌, ◌≤◌, List, [], ◌∷◌, ◌++◌, length, map, min, Option, Some, None, IsSomeAnd, Result, Ok, Err, IfOk, refl, sym, ap, subst, arith, slice_get, if◌then◌else◌}
 use Rattle.std.specs.Prelude.{count_by, OnOk}
 use Rattle.std.specs.List.{AllByRecursion}
 use Rattle.std.proofs.lemmas.List.{length-map}
@@ -15,8 +15,11 @@ use Rattle.capture_recorder.specs.Agreement.{IsBorneOut}
 use Rattle.capture_recorder.specs.Gathering.{kept_in, said_in}
 use Rattle.capture_recorder.specs.Recording.{Recording}
 use Rattle.capture_http.specs.declared.conn_end.ConnEnd.{ConnEnd}
-use Rattle.capture_serve.specs.Connections.{AreConnectionsFrom, IsConnection, comes}
-use Rattle.capture_serve.specs.Service.{AreServed, CaptureView, IsService, is_short}
+use Rattle.capture_serve.specs.Connections.{EachFrom, IsConnection, IsGivenBack, comes}
+use Rattle.capture_serve.specs.Service.{AreGivenBack, AreServed, CaptureView, IsService, is_short}
+use Rattle.capture_serve.specs.Failing.{IfDiffers}
+use Rattle.capture_serve.specs.declared.failing.ServeErr.{ServeErr}
+use Rattle.capture_serve.specs.declared.failing.ServeErr.TheVariants as serve
 use Rattle.capture_serve.specs.declared.returning.Notes.{Notes}
 use Rattle.capture_serve.specs.Inside.Passing.{AreBack, AreClosed, Came, Connected, Gave, HasNoted, IsCapturedOf, IsPassed, Moment, Passed, PassedThrough, Took, arrivals_from, moment_of}
 use Rattle.capture_serve.proofs.Going.{GaveSo}
@@ -30,6 +33,29 @@ turned_after p = p.after.turned
 abbrev end_of : Passed → ConnEnd
 end_of p = p.end
 
+given_one : (n : ℕ) (p : Passed) (sent : List ℕ) (back : Returned) → IsPassed p → moment_of p ≡ record { session = n; ends = comes sent } → AreBack (p ∷ []) (back ∷ []) → IsGivenBack n sent p.end back
+given_one n p sent back passed came given = record {
+  input_faults = p.after.input_faults;
+  output_faults = p.after.output_faults;
+  said = p.after.said;
+  turned = p.after.turned;
+  conversation = rw (← session, ← before, ← given.0, ← given.1) passed;
+  failed = given.2;
+} where
+  session : p.session ≡ n
+  session = ap (λ (m : Moment). m.session) came
+
+  before : p.before ≡ comes sent
+  before = ap (λ (m : Moment). m.ends) came
+
+given_each : (n : ℕ) (passes : List Passed) (sents : List (List ℕ)) (backs : List Returned) → AllByRecursion IsPassed passes → map moment_of passes ≡ arrivals_from n sents → AreBack passes backs → EachFrom IsGivenBack n sents (map end_of passes) backs
+given_each n [] [] [] passed came given = tt
+given_each n [] [] (back ∷ backs) passed came given = absurd given
+given_each n [] (sent ∷ sents) backs passed came given = absurd (cc came)
+given_each n (p ∷ passes) [] backs passed came given = absurd (cc came)
+given_each n (p ∷ passes) (sent ∷ sents) [] passed came given = absurd given
+given_each n (p ∷ passes) (sent ∷ sents) (back ∷ backs) passed came given = (given_one n p sent back passed.0 (cc came) (given.0, given.1, given.2, tt), given_each (n + 1) passes sents backs passed.1 (cc came) given.3)
+
 module _ (r : Recording) where
   -- what is recorded of the sessions from this number on is what was said in these lists
   abbrev Records : ℕ → List (List Said) → Type 0
@@ -40,27 +66,18 @@ module _ (r : Recording) where
 
   one_connection : (n : ℕ) (p : Passed) (sent : List ℕ) (back : Returned) (said' : List Said) → IsPassed p → moment_of p ≡ record { session = n; ends = comes sent } → AreBack (p ∷ []) (back ∷ [])
       → AreClosed (p.after.said ∷ []) (said' ∷ []) → said' ≡ kept_in r.calls n → ((m : ℕ) (entry : Turned) → slice_get p.after.turned m ≡ Some entry → IsBorneOut r.start.rows r.calls n entry) → IsConnection r n sent p.end back
+  unfolding given_one
   one_connection n p sent back said' passed came given closed recorded borne = record {
-    input_faults = p.after.input_faults;
-    output_faults = p.after.output_faults;
-    said = p.after.said;
-    turned = p.after.turned;
+    served = given_one n p sent back passed came given;
     more = closed.0.0;
-    conversation = rw (← session, ← before, ← given.0, ← given.1) passed;
-    failed = given.2;
     closing = closed.0.1;
     once = closed.0.2;
     recorded = sym recorded ∙ closed.0.3;
     borne_out = borne;
-  } where
-    session : p.session ≡ n
-    session = ap (λ (m : Moment). m.session) came
+  }
 
-    before : p.before ≡ comes sent
-    before = ap (λ (m : Moment). m.ends) came
-
-  pub each : (n : ℕ) (passes : List Passed) (sents : List (List ℕ)) (backs : List Returned) (lists : List (List Said)) → AllByRecursion IsPassed passes → map moment_of passes ≡ arrivals_from n sents → AreBack passes backs
-      → AreClosed (map said_after passes) lists → Records n lists → BearsOut n (map turned_after passes) → AreConnectionsFrom r n sents (map end_of passes) backs
+  each : (n : ℕ) (passes : List Passed) (sents : List (List ℕ)) (backs : List Returned) (lists : List (List Said)) → AllByRecursion IsPassed passes → map moment_of passes ≡ arrivals_from n sents → AreBack passes backs
+      → AreClosed (map said_after passes) lists → Records n lists → BearsOut n (map turned_after passes) → EachFrom (IsConnection r) n sents (map end_of passes) backs
   each n [] [] [] lists passed came given closed records bears = tt
   each n [] [] (back ∷ backs) lists passed came given closed records bears = absurd given
   each n [] (sent ∷ sents) backs lists passed came given closed records bears = absurd (cc came)
@@ -141,3 +158,31 @@ connected most notes given before mid after passes is came gave noted each few =
   all_through None mid came gave = tt
   all_through (Some b) None came gave = absurd came
   all_through (Some b) (Some m) came gave = through_both most passes b m after came gave
+
+sents_length : (n : ℕ) (sents : List (List ℕ)) → length (arrivals_from n sents) ≡ length sents
+sents_length n [] = refl
+sents_length n (sent ∷ sents) = ap (λ (k : ℕ). suc k) (sents_length (n + 1) sents)
+
+given_through : (most : ℕ) (passes : List Passed) (before after : Connections) → AllByRecursion IsPassed passes → length passes ≤ most → PassedThrough most passes before after → AreGivenBack most before after
+given_through most passes before after each few through = record {
+  sent = through.sent;
+  ends = map end_of passes;
+  back = through.back;
+  taken = through.taken;
+  few = omega (arith, few, sym (sents_length 0 through.sent) ∙ ap (λ (l : List Moment). length l) (sym through.arrive) ∙ length-map passes moment_of);
+  returned = through.returned;
+  each = given_each 0 passes through.sent through.back each through.arrive through.are_back;
+}
+
+pub given_back : (most : ℕ) (notes : Notes) (before after : Option Connections) → Connected most notes before after → Told before (λ b. IsSomeAnd after (AreGivenBack most b))
+given_back most notes before after connected = all before after connected.through where
+  all : (before after : Option Connections) → Told before (λ b. IsSomeAnd after (PassedThrough most connected.passes b)) → Told before (λ b. IsSomeAnd after (AreGivenBack most b))
+  all None after through = tt
+  all (Some b) None through = absurd through
+  all (Some b) (Some a) through = given_through most connected.passes b a connected.each connected.few through
+
+pub if_differs : {X : Type 0} (result : Result X ServeErr) (P : Type 0) → P → IfDiffers result P
+if_differs (Ok done) P p = tt
+if_differs (Err serve.Failed) P p = tt
+if_differs (Err (serve.Differs finding)) P p = p
+if_differs (Err serve.Memory) P p = tt

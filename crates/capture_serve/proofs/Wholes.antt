@@ -1,8 +1,7 @@
 -- Connections that are whole.
 use Rattle.std.proofs.Common.{◌≡◌, ◌∙◌, inl, inr, ℕ, zero, suc, ◌-◌, ◌<◌, Bool, true, false, List, [], ◌∷◌, ◌++◌, length, Option, Some, None, IsSomeAnd, refl, sym, ap, subst, arith, append_assoc, slice_get}
 use mathlib.Core.Bool.{true≢false}
-use Rattle.std.specs.Prelude.{IfSome, nat_lt, ◌||◌}
-use Rattle.std.specs.List.{AllByRecursion}
+use Rattle.std.specs.Prelude.{nat_lt, ◌||◌}
 use Rattle.std.proofs.lemmas.Bool.{lt-ltb}
 use Rattle.std.proofs.lemmas.List.{append-nil, length-append}
 use Rattle.desk_values.specs.declared.call.Call.TheVariants.{Disconnect}
@@ -15,9 +14,9 @@ use Rattle.capture_recorder.specs.Gathering.{kept_in}
 use Rattle.capture_recorder.specs.Recording.{Recording}
 use Rattle.capture_http.specs.declared.conn_end.ConnEnd.{ConnEnd}
 use Rattle.capture_http.specs.declared.conn_end.ConnEnd.TheVariants as ends
-use Rattle.capture_http.specs.Conversation.{AreOpen, IsTurn, Turn, answer_text, answers, said_of}
-use Rattle.capture_http.specs.Ends.{Closes, Course, Ends, Finishes, Follows, Noted, Wrote, WrotePart, ends_of, listed, turns_of}
-use Rattle.capture_serve.specs.Connections.{IsConnection, IsWhole, comes, is_closed}
+use Rattle.capture_http.specs.Conversation.{Turn, answer_text, answers, said_of}
+use Rattle.capture_http.specs.Ends.{Closes, Course, Ends, Finishes, Follows, Wrote, WrotePart, ends_of, listed, turns_of}
+use Rattle.capture_serve.specs.Connections.{CameToEnd, IsConnection, IsWhole, comes, is_closed}
 use Rattle.capture_serve.specs.Service.{is_short}
 
 risen : (f : ℕ) → HasRisen 0 f → 0 < f
@@ -32,13 +31,6 @@ output_failed f g h = rw (lt-ltb 0 g (risen g h)) (or (nat_lt 0 f)) where
   or : (b : Bool) → (b || true) ≡ true
   or true = refl
   or false = refl
-
--- ---- turns
-
-open_turns : (turns : List Turn) (last : Option Turn) → AreOpen turns → IfSome last IsTurn → AllByRecursion IsTurn (turns ++ listed last)
-open_turns [] None are is = tt
-open_turns [] (Some t) are is = (is, tt)
-open_turns (t ∷ turns) last are is = (are.0.turn, open_turns turns last are.1 is)
 
 -- ---- the end of a session
 
@@ -62,28 +54,34 @@ module _ (r : Recording) (session : ℕ) (sent : List ℕ) (returned : Returned)
   abbrev pub after : List Said → Ends
   after told = ends_of (Some returned.rest) f (Some returned.output) g told turned
 
-  whole_by : (course : Course) (turns : List Turn) (first second : List Said) → turns_of course ≡ turns → Follows course (comes sent) (after said0) → Wrote (answers session turns) (comes sent) (after said0)
+  whole_by : (course : Course) (first second : List Said) → CameToEnd course returned.rest → Follows course (comes sent) (after said0) → Wrote (answers session (turns_of course)) (comes sent) (after said0)
       → IsClosing first → said ≡ said0 ++ first → IsClosing second → (is_closed said ≡ true → second ≡ []) → kept_in r.calls session ≡ said ++ second → IsWhole r session sent returned
-  whole_by course turns first second same follows wrote closing said_is other once recorded = record {
-    turns = turns;
-    rest = course.rest;
+  whole_by course first second came follows wrote closing said_is other once recorded = record {
+    course = course;
     more = first ++ second;
-    each = subst (λ (ts : List Turn). AllByRecursion IsTurn ts) same (open_turns course.earlier course.last follows.goes_on follows.is_turn);
-    taken = cc noted.input;
+    goes_on = follows.goes_on;
+    is_turn = follows.is_turn;
+    came = came;
+    taken = cc follows.noted.input;
     answered = cc wrote.output;
     closing = both_close said0 first second closing other (λ closed. once (ap is_closed said_is ∙ closed));
-    recorded = recorded ∙ ap (λ (l : List Said). l ++ second) (said_is ∙ ap (λ (l : List Said). l ++ first) noted.said) ∙ append_assoc (said_of turns) first second;
-  } where
-    noted : Noted turns course.rest (comes sent) (after said0)
-    noted = subst (λ (ts : List Turn). Noted ts course.rest (comes sent) (after said0)) same follows.noted
+    recorded = recorded ∙ ap (λ (l : List Said). l ++ second) (said_is ∙ ap (λ (l : List Said). l ++ first) follows.noted.said) ∙ append_assoc (said_of (turns_of course)) first second;
+  }
+
+  all_turns : (course : Course) → course.last ≡ None → course.earlier ≡ turns_of course
+  all_turns course no_more = sym (ap (λ (t : Option Turn). course.earlier ++ listed t) no_more ∙ append-nil course.earlier)
 
   pub whole : (found : ConnEnd) (first second : List Said) → is_short found ≡ false → either_failed f g ≡ false → Finishes found session (comes sent) (after said0)
       → IsClosing first → said ≡ said0 ++ first → IsClosing second → (is_closed said ≡ true → second ≡ []) → kept_in r.calls session ≡ said ++ second → IsWhole r session sent returned
-  whole ends.Ended first second long good finishes closing said_is other once recorded = elim finishes.is_end [
-    | inl closed ↦ whole_by finishes.course (turns_of finishes.course) first second refl finishes.follows closed.wrote closing said_is other once recorded
-    | inr over ↦ whole_by finishes.course finishes.course.earlier first second (ap (λ (t : Option Turn). finishes.course.earlier ++ listed t) over.no_more ∙ append-nil finishes.course.earlier) finishes.follows over.wrote closing said_is other once recorded
-  ]
-  whole ends.Spent first second long good finishes closing said_is other once recorded = whole_by finishes.course (turns_of finishes.course) first second refl finishes.follows finishes.is_end.wrote closing said_is other once recorded
+  whole ends.Ended first second long good finishes closing said_is other once recorded =
+      let course = finishes.course in
+      elim finishes.is_end [
+        | inl closed ↦ whole_by course first second (inl (closed.closes, closed.fewer)) finishes.follows closed.wrote closing said_is other once recorded
+        | inr over ↦ whole_by course first second (inr (inr (over.no_more, finishes.follows.fewer, over.unfinished, cc over.none_left))) finishes.follows
+            (subst (λ (ts : List Turn). Wrote (answers session ts) (comes sent) (after said0)) (all_turns course over.no_more) over.wrote) closing said_is other once recorded
+      ]
+  whole ends.Spent first second long good finishes closing said_is other once recorded =
+      whole_by finishes.course first second (inr (inl (finishes.is_end.last, finishes.is_end.all))) finishes.follows finishes.is_end.wrote closing said_is other once recorded
   whole ends.SourceFault first second long good finishes closing said_is other once recorded = absurd (true≢false (sym (input_failed f g finishes.is_end.input.0) ∙ good))
   whole ends.SinkFault first second long good finishes closing said_is other once recorded = sunk finishes.course.last finishes.is_end.wrote where
     part : Turn → Type 0
@@ -95,7 +93,7 @@ module _ (r : Recording) (session : ℕ) (sent : List ℕ) (returned : Returned)
   whole ends.Memory first second long good finishes closing said_is other once recorded = absurd (true≢false long)
 
 pub are_whole : (r : Recording) (session : ℕ) (sent : List ℕ) (end : ConnEnd) (returned : Returned) → IsConnection r session sent end returned → is_short end ≡ false → returned.failed ≡ false → IsWhole r session sent returned
-are_whole r session sent end returned is long good = closes is.conversation.closes where
-  closes : Closes is.conversation.found end is.conversation.said is.said → IsWhole r session sent returned
-  closes (inl closed) = whole r session sent returned is.input_faults is.output_faults is.conversation.said is.said is.turned is.conversation.found closed.1 is.more (rw (← closed.0) long) (sym is.failed ∙ good) is.conversation.finishes closed.2 closed.3 is.closing is.once is.recorded
+are_whole r session sent end returned is long good = closes is.served.conversation.closes where
+  closes : Closes is.served.conversation.found end is.served.conversation.said is.served.said → IsWhole r session sent returned
+  closes (inl closed) = whole r session sent returned is.served.input_faults is.served.output_faults is.served.conversation.said is.served.said is.served.turned is.served.conversation.found closed.1 is.more (rw (← closed.0) long) (sym is.served.failed ∙ good) is.served.conversation.finishes closed.2 closed.3 is.closing is.once is.recorded
   closes (inr short) = absurd (true≢false (rw short.0 at long))

@@ -36,6 +36,13 @@ Fails start serve.Failed = ⊤
 Fails start (serve.Differs finding) = IsFinding start finding
 Fails start serve.Memory = ⊤
 
+-- where something differs, this
+abbrev pub IfDiffers : {X : Type 0} → Result X ServeErr → Type 0 → Type 0
+IfDiffers (Ok done) P = ⊤
+IfDiffers (Err serve.Failed) P = ⊤
+IfDiffers (Err (serve.Differs finding)) P = P
+IfDiffers (Err serve.Memory) P = ⊤
+
 -- how serving ends for the host
 abbrev pub serve_ending : {X : Type 0} → Result X ServeErr → Ending
 serve_ending (Ok done) = Answered

@@ -11,7 +11,7 @@ use Rattle.capture_recorder.specs.Listed.{AreBelow}
 use Rattle.capture_recorder.specs.Recording.{IsRecording, Recording}
 use Rattle.capture_http.specs.declared.conn_end.ConnEnd.{ConnEnd}
 use Rattle.capture_http.specs.declared.conn_end.ConnEnd.TheVariants as ends
-use Rattle.capture_serve.specs.Connections.{AreConnectionsFrom}
+use Rattle.capture_serve.specs.Connections.{EachFrom, IsConnection, IsGivenBack}
 
 -- memory was short in the connection
 abbrev pub is_short : ConnEnd → Bool
@@ -29,7 +29,17 @@ pub record AreServed (most : ℕ) (r : Recording) (ends : List ConnEnd) (before 
   pub taken : before.waiting ≡ sent ++ after.waiting
   pub count : length sent ≡ min most (length before.waiting)
   pub returned : after.returned ≡ before.returned ++ back
-  pub each : AreConnectionsFrom r 0 sent ends back
+  pub each : EachFrom (IsConnection r) 0 sent ends back
+
+-- The first of those waiting were taken, at most so many; each was served as the session of its place, and they were given back in this order.
+pub record AreGivenBack (most : ℕ) (before after : Connections) : Type 0 where
+  pub sent : List (List ℕ)
+  pub ends : List ConnEnd
+  pub back : List Returned
+  pub taken : before.waiting ≡ sent ++ after.waiting
+  pub few : length sent ≤ most
+  pub returned : after.returned ≡ before.returned ++ back
+  pub each : EachFrom IsGivenBack 0 sent ends back
 
 -- how many connections there were, how many of them were short of memory, how many calls were captured, and those of each session
 pub record CaptureView : Type 0 where

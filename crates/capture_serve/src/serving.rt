@@ -1,11 +1,11 @@
 //! The whole service, from its start to the capture.
 
-ghost use Rattle.std.specs.Prelude.{◌≡◌, ◌≤◌, length, IfErr, IfOk};
-ghost use Rattle.desk_files.specs.Outside.{Counts};
+ghost use Rattle.std.specs.Prelude.{◌≡◌, ◌≤◌, length, IfErr, IfOk, IsSomeAnd};
+ghost use Rattle.desk_files.specs.Outside.{Counts, Told};
 ghost use Rattle.captured_calls.specs.Sessions.{AreSessionsFrom};
-ghost use Rattle.capture_serve.specs.Failing.{Fails, serve_ending};
+ghost use Rattle.capture_serve.specs.Failing.{Fails, IfDiffers, serve_ending};
 ghost use Rattle.capture_serve.specs.Seen.{capture_of};
-ghost use Rattle.capture_serve.specs.Service.{IsService};
+ghost use Rattle.capture_serve.specs.Service.{AreGivenBack, IsService};
 ghost use Rattle.capture_serve.specs.Inside.Passing.{Connected, IsCapturedOf, IsFaultless, IsPlain};
 
 use crate::accepting::serve_all;
@@ -51,6 +51,7 @@ pub fn serve<R: Clock + Wait + Threads + Sync, H: Host, D: Door>(
     ensures service { IfOk result (λ capture. IsService start.now most (capture_of capture) (H.content host.old) (H.content host.new)) }
     ensures files { IfOk result (λ capture. AreSessionsFrom 0 (capture_of capture).sessions) }
     ensures fails { IfErr result (Fails start.now) }
+    ensures back { IfDiffers result (Told (H.content host.old) (λ before. IsSomeAnd (H.content host.new) (AreGivenBack most before))) }
     ensures counts { Counts (serve_ending result) (H.faults host.old) (H.faults host.new) }
 {
     let shared = Mutex::new(Recorder::load(alloc, start)?);

@@ -8,8 +8,8 @@ use Rattle.replay_cli.specs.declared.failure.Failure.TheVariants.{BadCommand, Re
 use Rattle.replay_cli.specs.declared.plan.Plan.{Plan}
 use Rattle.replay_cli.specs.Decision.{IsTaskOf, MayBeRefused, Task, ToMake, ToReplay, ToServe, ToTell, ToTry}
 use Rattle.replay_cli.specs.Done.{IsDone}
-use Rattle.replay_cli.specs.Ending.{Hosting, IsFoundOf, IsUnasked, MayComeTo, MayDiffer}
-use Rattle.replay_cli.specs.Inside.Serving.{PlanFails}
+use Rattle.replay_cli.specs.Ending.{Hosting, IsFoundOf, IsUnasked, MayAsk, MayComeTo, MayDiffer}
+use Rattle.replay_cli.specs.Inside.Serving.{AsksFor, PlanFails}
 use Rattle.replay_cli.specs.Inside.Steps.{MayFail}
 
 -- the command is one of these words
@@ -56,3 +56,27 @@ told_unwritten found command h is = told_of found command h (Err DeviceFault) is
 pub told_short : (found : Option Command) (h : Hosting) → IsUnasked h → MayComeTo found h (Err OutOfMemory)
 told_short None h unasked = (inr refl, unasked)
 told_short (Some command) h unasked = tt
+
+-- ---- who asks the host
+
+pub unasked_may : (found : Option Command) (h : Hosting) → IsUnasked h → MayAsk found h
+unasked_may None h unasked = unasked
+unasked_may (Some (Run capture out ways)) h unasked = unasked
+unasked_may (Some (Prepare capture out)) h unasked = unasked
+unasked_may (Some (Serve capture start connections port)) h unasked = tt
+unasked_may (Some (Generate n out)) h unasked = unasked
+unasked_may (Some (Trial n)) h unasked = unasked
+
+task_may : (command : Command) (task : Task) (h : Hosting) → IsTaskOf command task → AsksFor task h → MayAsk (Some command) h
+task_may command (ToReplay out job) h is asks = unasked_may (Some command) h asks
+task_may command (ToTell out facts) h is asks = unasked_may (Some command) h asks
+task_may command (ToMake n out) h is asks = unasked_may (Some command) h asks
+task_may command (ToTry n) h is asks = unasked_may (Some command) h asks
+task_may (Run capture out ways) (ToServe folder start most port) h is asks = absurd is
+task_may (Prepare capture out) (ToServe folder start most port) h is asks = absurd is
+task_may (Serve capture name connections door) (ToServe folder start most port) h is asks = tt
+task_may (Generate n out) (ToServe folder start most port) h is asks = absurd is
+task_may (Trial n) (ToServe folder start most port) h is asks = absurd is
+
+pub may_ask : (found : Option Command) (command : Command) (task : Task) (h : Hosting) → found ≡ Some command → IsTaskOf command task → AsksFor task h → MayAsk found h
+may_ask found command task h is of asks = subst (λ (c : Option Command). MayAsk c h) (sym is) (task_may command task h of asks)

@@ -36,6 +36,11 @@ HasNoFault h = h.faults_after ≡ h.faults_before
 abbrev pub IsUnasked : Hosting → Type 0
 IsUnasked h = (h.after ≡ h.before) × HasNoFault h
 
+-- none asks it but a command that serves
+abbrev pub MayAsk : Option Command → Hosting → Type 0
+MayAsk (Some (Serve capture start connections port)) h = Unit {0}
+MayAsk other h = IsUnasked h
+
 -- ---- doing the work
 
 -- what was written of a plan, where not all of it was; a file is cut short only where the count of faults rose

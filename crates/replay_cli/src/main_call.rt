@@ -2,11 +2,12 @@
 
 ghost use Rattle.std.specs.Prelude.{◌≡◌, ◌≢◌, ◌≤◌, Result, IsSomeAnd, Ok, Err};
 ghost use Rattle.desk_files.specs.Outside.{Told};
+ghost use Rattle.desk_words.specs.Command.{command_of};
 ghost use Rattle.replay_cli.specs.declared.failure.Failure.{Failure as Outcome};
 ghost use Rattle.replay_cli.specs.declared.failure.Failure.TheVariants.{DeviceFault, OutOfMemory};
 ghost use Rattle.replay_cli.specs.Decision.{Task, Verdict};
 ghost use Rattle.replay_cli.specs.Lines.{failure_line};
-ghost use Rattle.replay_cli.specs.Ending.{Causes, Ends, EndsSo, Prints, PrintsLine, Reports, hosting, moves};
+ghost use Rattle.replay_cli.specs.Ending.{Causes, Ends, EndsSo, MayAsk, Prints, PrintsLine, Reports, hosting, moves};
 
 use crate::failure::Failure;
 use crate::plan::Plan;
@@ -70,6 +71,7 @@ pub fn replay_main<R: Clock + Wait + Threads + Sync, F: Files, H: Host, D: Door,
     ensures line { PrintsLine words.now
         (hosting (H.content host.old) (H.content host.new) (H.faults host.old) (H.faults host.new))
         result (S.content out.old) (S.content out.new) (S.faults out.old) (S.faults out.new) }
+    ensures asks { MayAsk (command_of words.now) (hosting (H.content host.old) (H.content host.new) (H.faults host.old) (H.faults host.new)) }
     ensures causes { Causes words.now result
         (moves (F.faults files.old) (F.faults files.new) (H.faults host.old) (H.faults host.new) (S.faults out.old) (S.faults out.new)) }
 {

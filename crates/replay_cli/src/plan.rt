@@ -8,7 +8,8 @@ ghost use Rattle.prepare_plan.specs.Lists.{lists_of};
 ghost use Rattle.desk_words.specs.Within.{IsCallCount, IsLaneCount};
 ghost use Rattle.replay_cli.specs.Decision.{ToMake, ToReplay, ToTell, ToTry};
 ghost use Rattle.replay_cli.specs.Done.{IsDone, IsDoneAlone, IsQuiet, IsTried, capture_files, made_calls, made_lists, made_start, replayed_files, session_files};
-ghost use Rattle.replay_cli.specs.Inside.Serving.{HostFaults, PlanFails};
+ghost use Rattle.replay_cli.specs.Ending.{hosting};
+ghost use Rattle.replay_cli.specs.Inside.Serving.{AsksFor, HostFaults, PlanFails};
 ghost use Rattle.replay_cli.specs.Inside.Work.{IsWork, task_of};
 ghost use Rattle.replay_cli.specs.Lines.{counted, counted_line, done_status, generated_line, replayed_line, trial_line};
 ghost use Rattle.replay_history.specs.Capture.{commits_in};
@@ -72,6 +73,7 @@ pub fn plan_of<R: Clock + Wait + Threads + Sync, H: Host, D: Door>(
     ensures done { IfOk result (λ plan. IsDone (task_of work) plan (H.content host.old) (H.content host.new)) }
     ensures fails { IfErr result (PlanFails (task_of work)) }
     ensures faults { HostFaults result (H.faults host.old) (H.faults host.new) }
+    ensures host { AsksFor (task_of work) (hosting (H.content host.old) (H.content host.new) (H.faults host.old) (H.faults host.new)) }
 {
     match work {
         Work::Replaying(out, job, lanes) => Ok(replaying(rt, alloc, &out, job, door, lanes)?),

@@ -4,7 +4,7 @@ ghost use Rattle.std.specs.Prelude.{◌≡◌, IsSomeAnd};
 ghost use Rattle.desk_files.specs.Outside.{Told};
 ghost use Rattle.desk_words.specs.Command.{command_of};
 ghost use Rattle.replay_cli.specs.Decision.{Verdict};
-ghost use Rattle.replay_cli.specs.Ending.{MayComeTo, hosting};
+ghost use Rattle.replay_cli.specs.Ending.{MayAsk, MayComeTo, hosting};
 ghost use Rattle.replay_cli.specs.Inside.Ending.{RunFaults, RunSays};
 
 use crate::failure::Failure;
@@ -32,6 +32,7 @@ pub fn run<R: Clock + Wait + Threads + Sync, F: Files, H: Host, D: Door>(
         (F.faults files.old) (F.faults files.new)
         (hosting (H.content host.old) (H.content host.new) (H.faults host.old) (H.faults host.new)) result)) }
     ensures faults { RunFaults result (F.faults files.old) (F.faults files.new) (H.faults host.old) (H.faults host.new) }
+    ensures asks { MayAsk (command_of words.now) (hosting (H.content host.old) (H.content host.new) (H.faults host.old) (H.faults host.new)) }
     ensures told { MayComeTo (command_of words.now)
         (hosting (H.content host.old) (H.content host.new) (H.faults host.old) (H.faults host.new)) result }
 {

@@ -4,8 +4,8 @@ use Rattle.desk_files.specs.Outside.{HasRisen}
 use Rattle.replay_cli.specs.declared.failure.Failure.{Failure}
 use Rattle.replay_cli.specs.declared.failure.Failure.TheVariants.{BadCommand, Refused, Differs, DeviceFault, OutOfMemory}
 use Rattle.replay_cli.specs.declared.plan.Plan.{Plan}
-use Rattle.replay_cli.specs.Decision.{Task}
-use Rattle.replay_cli.specs.Ending.{IsFoundOf}
+use Rattle.replay_cli.specs.Decision.{Task, ToServe}
+use Rattle.replay_cli.specs.Ending.{Hosting, IsFoundOf, IsUnasked}
 
 -- how the work of a task may fail: something is found to differ of what was served, the host fails, or memory is short
 abbrev pub PlanFails : Task → Failure → Type 0
@@ -23,3 +23,8 @@ HostFaults (Err (Refused refusal)) before after = after ≡ before
 HostFaults (Err (Differs finding)) before after = after ≡ before
 HostFaults (Err DeviceFault) before after = HasRisen before after × (before ≤ after)
 HostFaults (Err OutOfMemory) before after = after ≡ before
+
+-- no work but serving asks the host
+abbrev pub AsksFor : Task → Hosting → Type 0
+AsksFor (ToServe out start most port) h = ⊤
+AsksFor other h = IsUnasked h
