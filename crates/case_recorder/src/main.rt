@@ -8,6 +8,7 @@
 //! - `count`: how many calls are recorded, `numbers`: the numbers of each call
 //! - `files N`: the files of the first N sessions
 //! - `doors`, then the lines of a script, up to `gather`: over the start, with the doors of sessions 0 to 3. In a script
+//!   - `clock`, as its first line: the clock goes on by one at each reading; else it stands
 //!   - `N connect SERVICE` and the like: a call through the door of session N, `fill N`: so many commits through that of 0
 //!   - `close N`: the end of a door; it prints how many calls it has said then
 //!   - `said N CALL`: the door of N says at the end that it said this call, and was disconnected
