@@ -57,3 +57,10 @@ pub(crate) fn has_limits(call: &Call) -> bool
         Call::Disconnect => true,
     }
 }
+
+/// A call is within the limits of its types. It does nothing: its contract is a law.
+pub fn know_limits(call: &Call)
+    ensures { IsCall call.now }
+{
+    prove!(has_limits(call));
+}

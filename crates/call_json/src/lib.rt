@@ -20,4 +20,5 @@ mod value_reading;
 
 pub use calls::{call_from_json, call_to_json};
 pub use json_err::JsonErr;
+pub use knowing::know_limits;
 pub use replies::{reply_from_json, reply_to_json};

@@ -25,6 +25,8 @@ use Rattle.capture_format.specs.declared.session_line.SessionLine.{SessionLine}
 use Rattle.capture_format.specs.declared.session_line.SessionLine.TheVariants.{Head, Call, End}
 use Rattle.capture_format.specs.SessionFile.{number_text, call_line_text, session_line_text, IsCallLine, IsSessionLine}
 use Rattle.capture_format.specs.Inside.SessionReading.{number_at, commit_number_of, commit_number_at, before_space, behind_space, exchange_of, call_line_of, head_of, head_or_call, session_line_of}
+use Rattle.capture_format.specs.Inside.Fields.{two_of}
+use Rattle.capture_format.proofs.Fields.{two_reader}
 use Rattle.capture_format.proofs.Cuts.{all_weaker}
 use Rattle.capture_format.proofs.Alphabet.{IsDigit, is_text, digits_decimal, text_call, text_then}
 use Rattle.desk_values.proofs.Bytes.{Lacks-from}
@@ -104,24 +106,30 @@ commit_number_at_again n rest small = rw (cut_at-joined 32 (number_text n) rest 
 -- ---- the first line
 
 abbrev head_word : List ℕ
-head_word = codes "session 1 "
+head_word = codes "session "
 
-begins : (bytes : List ℕ) → (starts_with nat_eq bytes head_word ≡ true → bytes ≡ head_word ++ drop 10 bytes) × ((rest : List ℕ) → bytes ≡ head_word ++ rest → starts_with nat_eq bytes head_word ≡ true)
+begins : (bytes : List ℕ) → (starts_with nat_eq bytes head_word ≡ true → bytes ≡ head_word ++ drop 8 bytes) × ((rest : List ℕ) → bytes ≡ head_word ++ rest → starts_with nat_eq bytes head_word ≡ true)
 begins bytes = starts_is Decides-eqb bytes head_word (starts_with nat_eq bytes head_word) refl
 
-pub head_takes : (bytes : List ℕ) (session : ℕ) → head_of bytes ≡ Some session → (session < 2 ^ 32) × (bytes ≡ head_word ++ decimal session)
+small_number : IsReader (number_below (2 ^ 32)) (λ n. n < 2 ^ 32) decimal
+small_number = numbers_below (2 ^ 32) (lit≤ tt)
+
+heads : IsReader (two_of 32 (number_below (2 ^ 32)) (number_below (2 ^ 32))) (λ (p : ℕ × ℕ). (p.0 < 2 ^ 32) × (p.1 < 2 ^ 32)) (λ (p : ℕ × ℕ). decimal p.0 ++ 32 ∷ decimal p.1)
+heads = two_reader 32 small_number small_number (λ n few. no_space n (omega (arith, few)))
+
+pub head_takes : (bytes : List ℕ) (head : ℕ × ℕ) → head_of bytes ≡ Some head → ((head.0 < 2 ^ 32) × (head.1 < 2 ^ 32)) × (bytes ≡ head_word ++ (decimal head.0 ++ 32 ∷ decimal head.1))
 unfolding head_of
-head_takes bytes session e =
-    elim (chosen (starts_with nat_eq bytes head_word) (number_below (2 ^ 32) (drop 10 bytes)) None (Some session) e) [
+head_takes bytes head e =
+    elim (chosen (starts_with nat_eq bytes head_word) (two_of 32 (number_below (2 ^ 32)) (number_below (2 ^ 32)) (drop 8 bytes)) None (Some head) e) [
       | inl starts ↦
-          let number = (numbers_below (2 ^ 32) (lit≤ tt)).takes (drop 10 bytes) session starts.1 in
-          (number.0, (begins bytes).0 starts.0 ∙ ap (λ (r : List ℕ). head_word ++ r) number.1)
+          let numbers = heads.takes (drop 8 bytes) head starts.1 in
+          (numbers.0, (begins bytes).0 starts.0 ∙ ap (λ (r : List ℕ). head_word ++ r) numbers.1)
       | inr other ↦ absurd (let never = other.1 in cc)
     ]
 
-pub head_again : (session : ℕ) → session < 2 ^ 32 → head_of (head_word ++ decimal session) ≡ Some session
+pub head_again : (version session : ℕ) → version < 2 ^ 32 → session < 2 ^ 32 → head_of (head_word ++ (decimal version ++ 32 ∷ decimal session)) ≡ Some (version, session)
 unfolding head_of
-head_again session small = (numbers_below (2 ^ 32) (lit≤ tt)).again session small
+head_again version session few small = heads.again (version, session) (few, small)
 
 -- the line of a call begins with a digit
 digit_first : (digits rest more : List ℕ) (byte : ℕ) → AllByRecursion IsDigit digits → 57 < byte → digits ++ 32 ∷ rest ≡ byte ∷ more → ⊥
@@ -206,8 +214,8 @@ module _ (calls : IsReader call_of IsCall call_text) (replies : IsReader reply_o
       let exchange : exchange_of (exchange_text made) ≡ Some made = exchange_again made (record { call = fits.call; reply = fits.reply }) in
       rw (number_at_again 4294967295 line.stamp _ (lit< tt) stamp, number_at_again 1000000000000 line.began _ (lit< tt) fits.began, number_at_again 1000000000000 line.ended _ (lit< tt) fits.ended, number_at_again 18446744073709551615 line.seen _ (lit< tt) seen, commit_number_at_again line.number _ fits.number, exchange) refl
 
-  head_or_call_takes : (bytes : List ℕ) (head : Option ℕ) (line : SessionLine) → head ≡ head_of bytes → head_or_call bytes head ≡ Some line → IsSessionLine line × (bytes ≡ session_line_text line)
-  head_or_call_takes bytes (Some session) line is e = subst (λ (l : SessionLine). IsSessionLine l × (bytes ≡ session_line_text l)) (same_Some (Head session) line e) (head_takes bytes session (sym is))
+  head_or_call_takes : (bytes : List ℕ) (head : Option (ℕ × ℕ)) (line : SessionLine) → head ≡ head_of bytes → head_or_call bytes head ≡ Some line → IsSessionLine line × (bytes ≡ session_line_text line)
+  head_or_call_takes bytes (Some head) line is e = subst (λ (l : SessionLine). IsSessionLine l × (bytes ≡ session_line_text l)) (same_Some (Head head.0 head.1) line e) (head_takes bytes head (sym is))
   head_or_call_takes bytes None line is e =
       let found = map_some Call (call_line_of bytes) line e in
       subst (λ (l : SessionLine). IsSessionLine l × (bytes ≡ session_line_text l)) found.2 (call_line_takes bytes found.0 found.1)
@@ -222,7 +230,7 @@ module _ (calls : IsReader call_of IsCall call_text) (replies : IsReader reply_o
 
   line_again : (line : SessionLine) → IsSessionLine line → session_line_of (session_line_text line) ≡ Some line
   unfolding session_line_of
-  line_again (Head session) fits = rw (head_again session fits) refl
+  line_again (Head version session) fits = rw (head_again version session fits.0 fits.1) refl
   line_again (Call line) fits = rw (not_end line fits, not_head line fits, call_line_again line fits) refl
   line_again End fits = refl
 

@@ -34,10 +34,11 @@ call_line_lacks line fits =
 pub end_lacks : Lacks 10 (codes "end")
 end_lacks = visible_all (codes "end") (text_word (codes "end") refl)
 
-pub head_lacks : (session : ℕ) → session < 2 ^ 32 → Lacks 10 (codes "session 1 " ++ decimal session)
-head_lacks session small = visible_all (codes "session 1 " ++ decimal session) (text_then (codes "session 1 ") (decimal session) (text_word (codes "session 1 ") refl) (text_decimal session (omega arith)))
+pub head_lacks : (version session : ℕ) → version < 2 ^ 32 → session < 2 ^ 32 → Lacks 10 (codes "session " ++ (decimal version ++ 32 ∷ decimal session))
+head_lacks version session few small = all_append (λ b. b ≢ 10) (codes "session ") (decimal version ++ 32 ∷ decimal session) (visible_all (codes "session ") (text_word (codes "session ") refl))
+    (lacks_field version (decimal session) (omega arith) (visible_all (decimal session) (text_decimal session (omega arith))))
 
 pub lacks : (line : SessionLine) → IsSessionLine line → Lacks 10 (session_line_text line)
-lacks (Head session) fits = head_lacks session fits
+lacks (Head version session) fits = head_lacks version session fits.0 fits.1
 lacks (Call line) fits = call_line_lacks line fits
 lacks End fits = end_lacks

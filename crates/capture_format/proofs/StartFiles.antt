@@ -29,7 +29,7 @@ unended : (s : State) (l : StartLine) → MayFollow s l → is_ended s ≡ false
 unended s l may = ne_eqb s.last 10 (λ last. before s l may last)
   where
     before : (s : State) (l : StartLine) → MayFollow s l → s.last ≡ 10 → ⊥
-    before s line.Head may last = omega (arith, may, last)
+    before s (line.Head version) may last = let is = may.0 in omega (arith, is, last)
     before s (line.Level level) may last = let is = may.0 in omega (arith, is, last)
     before s (line.Seq name next) may last = let is = may.order.to in omega (arith, is, last)
     before s (line.Service name rights) may last = let is = may.order.to in omega (arith, is, last)

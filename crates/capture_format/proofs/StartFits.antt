@@ -86,8 +86,8 @@ module _ (sequences : ℕ) (nexts : List ℕ) (few : sequences ≤ 16) (limits :
 -- ---- lines
 
 line_fits : (s : State) (l : StartLine) → IsSoundState s → MayFollow s l → IsStartLine l
-line_fits s line.Head sound may = tt
-line_fits s (line.Level level) sound may = let is = may.1 in omega (arith, is)
+line_fits s (line.Head version) sound may = omega (arith, may.1.most)
+line_fits s (line.Level level) sound may = let most = may.1.1 in omega (arith, most)
 line_fits s (line.Seq name next) sound may = (may.is_name, let most = may.most in omega (arith, most))
 line_fits s (line.Service name rights) sound may = may.is_name
 line_fits s (line.Table name) sound may = may.is_name

@@ -87,22 +87,23 @@ shapes = record { takes = worded FitsShape shape_text shape_behind shape_taken; 
 line_taken : (word rest : List ℕ) (l : StartLine) → line_behind word rest ≡ Some l → IsStartLine l × (word ++ 32 ∷ rest ≡ line_text l)
 unfolding line_behind
 line_taken word rest l =
-    by_word IsStartLine line_text (codes "level") line.Level small (λ n fits. (fits, refl)) word rest l _
+    by_word IsStartLine line_text (codes "start") line.Head small (λ n fits. (fits, refl)) word rest l _
+    (by_word IsStartLine line_text (codes "level") line.Level small (λ n fits. (fits, refl)) word rest l _
     (by_word IsStartLine line_text (codes "seq") (λ q. line.Seq q.0 q.1) (two_reader 32 names numbers name_space) (λ q fits. (fits, refl)) word rest l _
     (by_word IsStartLine line_text (codes "svc") (λ q. line.Service q.0 q.1) (two_reader 32 names rights name_space) (λ q fits. (fits.0, refl)) word rest l _
     (by_word IsStartLine line_text (codes "table") line.Table names (λ n fits. (fits, refl)) word rest l _
     (by_word IsStartLine line_text (codes "col") (λ q. line.Column q.0 q.1.0 q.1.1) (two_reader 32 names shapes name_space) (λ q fits. (fits, refl)) word rest l _
     (by_word IsStartLine line_text (codes "row") (λ q. line.Row q.0 q.1.0 q.1.1) (two_reader 32 numbers (two_reader 32 small values_reader small_space) no_space) (λ q fits. ((fits.0, fits.1.0, fits.1.1), refl)) word rest l _
     (by_word IsStartLine line_text (codes "nextrow") line.NextRow numbers (λ n fits. (fits, refl)) word rest l _
-    (by_word IsStartLine line_text (codes "sessions") line.Sessions small (λ n fits. (fits, refl)) word rest l None (no_word _ l))))))))
+    (by_word IsStartLine line_text (codes "sessions") line.Sessions small (λ n fits. (fits, refl)) word rest l None (no_word _ l)))))))))
 
 takes : (bytes : List ℕ) (l : StartLine) → start_line_of bytes ≡ Some l → IsStartLine l × (bytes ≡ line_text l)
 unfolding start_line_of worded_of
-takes bytes l = one_text bytes (codes "start 1") line.Head _ (λ x. IsStartLine x × (bytes ≡ line_text x)) l (λ is. (tt, is)) (one_text bytes (codes "end") line.End _ (λ x. IsStartLine x × (bytes ≡ line_text x)) l (λ is. (tt, is)) (worded IsStartLine line_text line_behind line_taken bytes l))
+takes bytes l = one_text bytes (codes "end") line.End _ (λ x. IsStartLine x × (bytes ≡ line_text x)) l (λ is. (tt, is)) (worded IsStartLine line_text line_behind line_taken bytes l)
 
 again : (l : StartLine) → IsStartLine l → start_line_of (line_text l) ≡ Some l
 unfolding start_line_of worded_of line_behind
-again line.Head fits = refl
+again (line.Head version) fits = rw (small.again version fits) refl
 again (line.Level level) fits = rw (small.again level fits) refl
 again (line.Seq name next) fits = rw ((two_reader 32 names numbers name_space).again (name, next) fits) refl
 again (line.Service name r) fits = rw ((two_reader 32 names rights name_space).again (name, r) (fits, tt)) refl

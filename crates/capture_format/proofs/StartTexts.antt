@@ -45,7 +45,7 @@ kind_lacks (kind.Text most) fits = word_lacks (codes "text ") _ (text_word (code
 kind_lacks (kind.Seq name) fits = word_lacks (codes "seq ") _ (text_word (codes "seq ") refl) (name_lacks_feed name fits)
 
 pub line_lacks : (l : StartLine) → IsStartLine l → Lacks 10 (line_text l)
-line_lacks line.Head fits = visible_all (codes "start 1") (text_word (codes "start 1") refl)
+line_lacks (line.Head version) fits = word_lacks (codes "start ") _ (text_word (codes "start ") refl) (number_lacks version (omega arith))
 line_lacks (line.Level level) fits = word_lacks (codes "level ") _ (text_word (codes "level ") refl) (number_lacks level (omega arith))
 line_lacks (line.Seq name next) fits = word_lacks (codes "seq ") _ (text_word (codes "seq ") refl) (space_lacks name (decimal next) (name_lacks_feed name fits.0) (number_lacks next fits.1))
 line_lacks (line.Service name rights) fits = word_lacks (codes "svc ") _ (text_word (codes "svc ") refl) (space_lacks name (rights_word rights) (name_lacks_feed name fits) (rights_lack rights))

@@ -1,5 +1,5 @@
 -- Texts of lines in parts.
-use Rattle.std.proofs.Common.{◌≡◌, ℕ, zero, suc, List, ◌∷◌, [], ◌++◌, length, drop, min, refl, append_assoc, arith}
+use Rattle.std.proofs.Common.{◌≡◌, ℕ, zero, suc, List, ◌∷◌, [], ◌++◌, length, drop, min, refl, sym, ◌∙◌, ap, append_assoc, arith}
 use Rattle.std.specs.Prelude.{codes}
 use Rattle.std.specs.Fmt.{decimal}
 use Rattle.std.proofs.lemmas.Grind.{flat_map-append}
@@ -11,9 +11,16 @@ use Rattle.desk_schema.specs.Line.{lines_text}
 use Rattle.desk_schema.specs.Start.{sequence_lines}
 use Rattle.capture_format.specs.SessionFile.{number_text, call_line_text, line_of}
 
+joined : (to x y a b c d : List ℕ) → (((((to ++ x) ++ y) ++ a) ++ b) ++ c) ++ d ≡ to ++ (x ++ (y ++ (a ++ (b ++ (c ++ d)))))
+joined to x y a b c d = simp append_assoc
+
 -- the lines up to the rows
-pub parts : (to : List ℕ) (level : ℕ) (a b c d : List StartLine) → (((((to ++ codes "start 1\n") ++ (codes "level " ++ (decimal level ++ 10 ∷ []))) ++ lines_text a) ++ lines_text b) ++ lines_text c) ++ lines_text d ≡ to ++ lines_text (Head ∷ Level level ∷ (a ++ (b ++ (c ++ d))))
-parts to level a b c d = simp (append_assoc, flat_map-append)
+pub parts : (to : List ℕ) (version level : ℕ) (a b c d : List StartLine) → (((((to ++ (codes "start " ++ (decimal version ++ 10 ∷ []))) ++ (codes "level " ++ (decimal level ++ 10 ∷ []))) ++ lines_text a) ++ lines_text b) ++ lines_text c) ++ lines_text d ≡ to ++ lines_text (Head version ∷ Level level ∷ (a ++ (b ++ (c ++ d))))
+parts to version level a b c d =
+    let first = codes "start " ++ (decimal version ++ 10 ∷ []) in
+    let second = codes "level " ++ (decimal level ++ 10 ∷ []) in
+    let rest : lines_text (a ++ (b ++ (c ++ d))) ≡ lines_text a ++ (lines_text b ++ (lines_text c ++ lines_text d)) = simp flat_map-append in
+    joined to first second (lines_text a) (lines_text b) (lines_text c) (lines_text d) ∙ ap (λ (r : List ℕ). to ++ (first ++ (second ++ r))) (sym rest)
 
 -- no sequence is left
 pub drained : (names : List (List ℕ)) (nexts : List ℕ) (n : ℕ) → n ≡ min (length names) (length nexts) → sequence_lines (drop n names) (drop n nexts) ≡ []

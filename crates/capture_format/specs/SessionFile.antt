@@ -3,7 +3,7 @@ use Rattle.std.specs.Prelude.{◌≡◌, ℕ, zero, suc, ◌+◌, ◌<◌, ◌�
 use Rattle.std.specs.List.{AllByRecursion}
 use Rattle.std.specs.Fmt.{decimal}
 use Rattle.desk_values.specs.declared.capture.Captured.{Captured}
-use Rattle.desk_values.specs.Good.{IsCall, IsGoodReply}
+use Rattle.desk_values.specs.Good.{IsCall, IsGoodReply, MayTell}
 use Rattle.desk_values.specs.Text.{call_text, reply_text}
 use Rattle.file_lines.specs.File.{IsBadAt}
 use Rattle.file_lines.specs.Form.{Form, Comes, text_of}
@@ -26,7 +26,7 @@ call_line_text line = decimal line.stamp ++ 32 ∷ (decimal line.began ++ 32 ∷
 
 -- the text of a line, without its line feed
 abbrev pub session_line_text : SessionLine → List ℕ
-session_line_text (Head session) = codes "session 1 " ++ decimal session
+session_line_text (Head version session) = codes "session " ++ (decimal version ++ 32 ∷ decimal session)
 session_line_text (Call line) = call_line_text line
 session_line_text End = codes "end"
 
@@ -42,7 +42,7 @@ pub record IsCallLine (line : CallLine) : Type 0 where
 
 -- a line that has a text
 abbrev pub IsSessionLine : SessionLine → Type 0
-IsSessionLine (Head session) = session < 2 ^ 32
+IsSessionLine (Head version session) = (version < 2 ^ 32) × (session < 2 ^ 32)
 IsSessionLine (Call line) = IsCallLine line
 IsSessionLine End = Unit {0}
 
@@ -50,21 +50,22 @@ IsSessionLine End = Unit {0}
 abbrev pub captured_of : ℕ → ℕ → CallLine → Captured
 captured_of session place line = record { session = session; place = place; stamp = line.stamp; seen = line.seen; number = line.number; began = line.began; ended = line.ended; call = line.call; reply = line.reply }
 
--- the line has what it needs: the session's number, or a stamp over the one before; and nothing follows the end
+-- the line has what it needs: the version and the session's number, or a stamp over the one before and a reply that a server of
+-- the version may give; and nothing follows the end
 abbrev pub MayCome : SessionView → SessionLine → Type 0
-MayCome s (Head number) = (s.stage ≡ Empty) × (number ≡ s.session)
-MayCome s (Call line) = (s.stage ≡ Headed) × (s.least ≤ line.stamp)
+MayCome s (Head version number) = (s.stage ≡ Empty) × (version ≡ s.version) × (number ≡ s.session)
+MayCome s (Call line) = (s.stage ≡ Headed) × (s.least ≤ line.stamp) × MayTell s.version line.reply
 MayCome s End = s.stage ≡ Headed
 
 -- what a line adds
 abbrev pub with_line : SessionView → SessionLine → SessionView
-with_line s (Head number) = record s { stage = Headed }
+with_line s (Head version number) = record s { stage = Headed }
 with_line s (Call line) = record s { least = line.stamp + 1; calls = s.calls ++ captured_of s.session (length s.calls) line ∷ [] }
 with_line s End = record s { stage = Ended }
 
 -- before the first line
-abbrev pub new_view : ℕ → SessionView
-new_view session = record { session = session; stage = Empty; least = 0; calls = [] }
+abbrev pub new_view : ℕ → ℕ → SessionView
+new_view session version = record { session = session; version = version; stage = Empty; least = 0; calls = [] }
 
 abbrev pub is_last : Stage → Bool
 is_last Ended = true
@@ -77,8 +78,8 @@ abbrev pub session_form : Form SessionView SessionLine
 session_form = record { Fits = IsSessionLine; text = session_line_text; May = MayCome; added = with_line }
 
 -- the line of this number is the first that is not whole or may not come
-abbrev pub IsBadSession : ℕ → List ℕ → ℕ → Type 0
-IsBadSession session bytes n = IsBadAt (Comes session_form) is_ended (new_view session) 1 bytes n
+abbrev pub IsBadSession : ℕ → ℕ → List ℕ → ℕ → Type 0
+IsBadSession session version bytes n = IsBadAt (Comes session_form) is_ended (new_view session version) 1 bytes n
 
 -- what the line of a captured call says
 abbrev pub line_of : Captured → CallLine
@@ -89,9 +90,9 @@ abbrev pub last_lines : List Captured → List SessionLine
 last_lines [] = End ∷ []
 last_lines (call ∷ calls) = Call (line_of call) ∷ last_lines calls
 
--- the bytes of the file of a session
-abbrev pub session_text : ℕ → List Captured → List ℕ
-session_text session calls = text_of session_form (Head session ∷ last_lines calls)
+-- the bytes of the file of a session, of this version
+abbrev pub session_text : ℕ → ℕ → List Captured → List ℕ
+session_text session version calls = text_of session_form (Head version session ∷ last_lines calls)
 
 -- a call of this session at this place, with at least this stamp
 pub record IsCallAt (session place least : ℕ) (call : Captured) : Type 0 where
@@ -111,8 +112,13 @@ AreCallsFrom session place least (call ∷ calls) = IsCallAt session place least
 abbrev pub AreCallsOf : ℕ → List Captured → Type 0
 AreCallsOf session calls = AreCallsFrom session 0 0 calls
 
--- the bytes are the file of this session with these calls, whose parts are within the limits of their types
-pub record IsSessionFile (session : ℕ) (bytes : List ℕ) (calls : List Captured) : Type 0 where
+-- no reply is one that a server of the version does not give
+abbrev pub MayTellAll : ℕ → List Captured → Type 0
+MayTellAll version calls = AllByRecursion (λ call. MayTell version call.reply) calls
+
+-- the bytes are the file of this session and version with these calls, whose parts are within the limits of their types
+pub record IsSessionFile (session version : ℕ) (bytes : List ℕ) (calls : List Captured) : Type 0 where
   pub calls_are : AreCallsOf session calls
+  pub told : MayTellAll version calls
   pub fit : AllByRecursion (λ call. IsCallLine (line_of call)) calls
-  pub text : bytes ≡ session_text session calls
+  pub text : bytes ≡ session_text session version calls

@@ -5,6 +5,8 @@ use Rattle.capture_format.specs.declared.session.Stage.{Stage}
 
 pub record SessionView : Type 0 where
   pub session : ℕ
+  -- of the start file beside it
+  pub version : ℕ
   pub stage : Stage
   -- the least stamp of the next call
   pub least : ℕ

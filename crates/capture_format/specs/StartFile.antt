@@ -25,7 +25,7 @@ IsColumnKind (Seq sequence) = IsName sequence
 
 -- a line that has a text: names are names, numbers and values are within the limits of their types
 abbrev pub IsStartLine : StartLine → Type 0
-IsStartLine Head = Unit {0}
+IsStartLine (Head version) = version < 2 ^ 32
 IsStartLine (Level level) = level < 2 ^ 32
 IsStartLine (SeqLine name next) = IsName name × (next < 2 ^ 64)
 IsStartLine (Service name rights) = IsName name

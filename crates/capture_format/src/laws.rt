@@ -19,8 +19,8 @@ pub fn one_start()
 
 /// Bytes are the file of a session with at most one list of calls.
 pub fn one_session()
-    ensures { (session : ℕ) (bytes : List ℕ) (calls others : List Captured) → IsSessionFile session bytes calls
-        → IsSessionFile session bytes others → calls ≡ others }
+    ensures { (session version : ℕ) (bytes : List ℕ) (calls others : List Captured)
+        → IsSessionFile session version bytes calls → IsSessionFile session version bytes others → calls ≡ others }
 {}
 
 /// Bytes have at most one first line that is none of a start file.
@@ -30,8 +30,8 @@ pub fn one_bad_start()
 
 /// Bytes have at most one first line that is none of the file of a session.
 pub fn one_bad_session()
-    ensures { (session : ℕ) (bytes : List ℕ) (line other : ℕ) → IsBadSession session bytes line
-        → IsBadSession session bytes other → line ≡ other }
+    ensures { (session version : ℕ) (bytes : List ℕ) (line other : ℕ) → IsBadSession session version bytes line
+        → IsBadSession session version bytes other → line ≡ other }
 {}
 
 /// A text is the text of at most one call.

@@ -1,29 +1,39 @@
 //! Session files, read from their bytes.
 
-ghost use Rattle.std.specs.Prelude.{◌≡◌};
+ghost use Rattle.std.specs.Prelude.{◌≡◌, IsTrue, ◌↔◌};
+ghost use Rattle.desk_values.specs.Good.{MayTell};
+ghost use Rattle.desk_schema.specs.Schema.{IsVersion};
 ghost use Rattle.file_lines.specs.File.{ReadsFile};
 ghost use Rattle.file_lines.specs.Inside.{AddsLine};
 ghost use Rattle.capture_format.specs.SessionFile.{session_form, is_ended, new_view, captured_of, IsBadSession, IsSessionFile};
 
 use crate::session_line::{CallLine, SessionLine, read_session_line};
-use desk_values::{CallList, Captured, ReadErr, Reserved};
+use desk_values::{CallList, Captured, ReadErr, Reply, Reserved};
 use file_lines::{FormErr, LineFile, read_lines};
 use std::alloc::Global;
 use std::marker::Model;
 
 /// The calls that the file of this session spells, in order, with every kind of call and reply. The file is lines, each
-/// with a line feed: `session 1 N` with the session's number, a line for each call, and `end`. A call's line is its
+/// with a line feed: `session V N` with the version and the session's number, a line for each call, and `end`. A call's line is its
 /// stamp, when it began and ended in microseconds from the capture's start, how many numbered commits it had seen, its own
 /// commit's number or `-`, the call, `>` and the reply, with spaces between:
-/// `0 4 9 0 - connect tmain > connected [] -`. Stamps rise from line to line; neither moment is after [`LAST_MOMENT`].
+/// `0 4 9 0 - connect tmain > connected [] -`. Stamps rise from line to line; neither moment is after [`LAST_MOMENT`]. In a file of version 1
+/// `refused 34` is no reply, since its server had no savepoints.
 /// `Bad` exactly where the bytes are no file of this session, with the first line that is not whole or may not come where
 /// it stands; `Memory` for want of memory.
 ///
 /// [`LAST_MOMENT`]: desk_values::LAST_MOMENT
-pub fn read_session(alloc: Global, bytes: &[u8], session: u32) -> Result<CallList, FormErr>
-    ensures { ReadsFile result (λ calls. IsSessionFile session bytes.now calls.items) (IsBadSession session bytes.now) }
+pub fn read_session(
+    alloc: Global,
+    bytes: &[u8],
+    session: u32,
+    version: u32,
+) -> Result<CallList, FormErr>
+    requires { IsVersion version }
+    ensures { ReadsFile result
+        (λ calls. IsSessionFile session version bytes.now calls.items) (IsBadSession session version bytes.now) }
 {
-    let mut draft = SessionDraft::new(alloc, session);
+    let mut draft = SessionDraft::new(alloc, session, version);
     match read_lines(bytes, &mut draft) {
         Ok(()) => Ok(draft.calls),
         Err(error) => Err(error),
@@ -43,6 +53,7 @@ enum Stage {
 struct SessionDraft {
     alloc: Global,
     session: u32,
+    version: u32,
     stage: Stage,
     // the least stamp of the next call
     least: u64,
@@ -55,7 +66,14 @@ impl Model for SessionDraft {
 
     ghost Value = { SessionView };
 
-    ghost view = { λ a. record { session = a.session; stage = a.stage; least = a.least; calls = a.calls.items } };
+    ghost view = { λ a.
+        record {
+          session = a.session;
+          version = a.version;
+          stage = a.stage;
+          least = a.least;
+          calls = a.calls.items;
+        } };
 
     ghost invariant = { λ a. (length a.calls.items ≤ a.least) × (a.least ≤ 2 ^ 32) };
 }
@@ -85,12 +103,13 @@ impl LineFile for SessionDraft {
 }
 
 impl SessionDraft {
-    fn new(alloc: Global, session: u32) -> SessionDraft
-        ensures { result ≡ new_view session }
+    fn new(alloc: Global, session: u32, version: u32) -> SessionDraft
+        ensures { result ≡ new_view session version }
     {
         SessionDraft {
             alloc,
             session,
+            version,
             stage: Stage::Empty,
             least: 0,
             calls: Reserved::new(alloc),
@@ -101,19 +120,19 @@ impl SessionDraft {
         ensures { AddsLine session_form result self.old line self.new }
     {
         match line {
-            SessionLine::Head(number) => self.add_head(number),
+            SessionLine::Head(version, number) => self.add_head(version, number),
             SessionLine::Call(line) => self.add_call(line),
             SessionLine::End => self.add_end(),
         }
     }
 
-    fn add_head(&mut self, number: u32) -> Result<(), ReadErr>
-        ensures { AddsLine session_form result self.old (SessionLine.Head number) self.new }
+    fn add_head(&mut self, version: u32, number: u32) -> Result<(), ReadErr>
+        ensures { AddsLine session_form result self.old (SessionLine.Head version number) self.new }
     {
         let Stage::Empty = self.stage else {
             return Err(ReadErr::Bad);
         };
-        if number != self.session {
+        if version != self.version || number != self.session {
             return Err(ReadErr::Bad);
         }
         self.stage = Stage::Headed;
@@ -126,7 +145,7 @@ impl SessionDraft {
         let Stage::Headed = self.stage else {
             return Err(ReadErr::Bad);
         };
-        if (line.stamp as u64) < self.least {
+        if (line.stamp as u64) < self.least || !may_tell(self.version, &line.reply) {
             return Err(ReadErr::Bad);
         }
         self.least = line.stamp as u64 + 1;
@@ -144,6 +163,13 @@ impl SessionDraft {
         self.stage = Stage::Ended;
         Ok(())
     }
+}
+
+// Whether a server of the version may give the reply.
+fn may_tell(version: u32, reply: &Reply) -> bool
+    ensures { IsTrue result ↔ MayTell version reply.now }
+{
+    version != 1 || !reply.misses_savepoint()
 }
 
 fn captured(session: u32, place: u32, line: CallLine) -> Captured

@@ -1,6 +1,7 @@
-ghost use Rattle.std.specs.Prelude.{◌≡◌, ◌≤◌, List, Option, IfSome};
+ghost use Rattle.std.specs.Prelude.{◌≡◌, ◌≤◌, ◌^◌, List, Option, IfSome};
 ghost use Rattle.std.specs.Option.{option_map, option_copied};
-ghost use Rattle.desk_values.specs.Reading.{Reads};
+ghost use Rattle.desk_values.specs.Reading.{Reads, number_below};
+ghost use Rattle.capture_format.specs.Inside.Fields.{two_of};
 ghost use Rattle.capture_format.specs.Inside.SessionReading.{number_at, commit_number_of, commit_number_at, before_space, behind_space, exchange_of, call_line_of, head_of, session_line_of};
 
 use crate::call::read_call;
@@ -12,8 +13,8 @@ use std::alloc::Global;
 /// A line of a session file, without its line feed.
 #[derive(Drop)]
 pub enum SessionLine {
-    /// The first line: the session's number.
-    Head(u32),
+    /// The first line: the version of the format, and the session's number.
+    Head(u32, u32),
     /// A call with its answer.
     Call(CallLine),
     /// The last line.
@@ -132,12 +133,21 @@ fn read_call_line(alloc: Global, bytes: &[u8]) -> Result<CallLine, ReadErr>
     })
 }
 
-// The number of the session in its file's first line.
+// The version and the number of the session in its file's first line.
 #[tactic(auto, unfolding(crate::specs::Inside::SessionReading::head_of))]
-pub(crate) fn read_head(bytes: &[u8]) -> Option<u32>
+fn read_head(bytes: &[u8]) -> Option<(u32, u32)>
     ensures { result ≡ head_of bytes.now }
 {
-    read_u32(bytes.strip_prefix(b"session 1 ")?)
+    read_two(bytes.strip_prefix(b"session ")?)
+}
+
+// Two numbers with a space between.
+#[tactic(auto, unfolding(crate::specs::Inside::Fields::two_of))]
+fn read_two(bytes: &[u8]) -> Option<(u32, u32)>
+    ensures { result ≡ two_of 32 (number_below (2 ^ 32)) (number_below (2 ^ 32)) bytes.now }
+{
+    let (first, second) = cut(bytes, b' ')?;
+    Some((read_u32(first)?, read_u32(second)?))
 }
 
 /// The line that the bytes spell, without its line feed. `Bad` where they spell none.
@@ -148,8 +158,8 @@ pub(crate) fn read_session_line(alloc: Global, bytes: &[u8]) -> Result<SessionLi
     if bytes == b"end".as_slice() {
         return Ok(SessionLine::End);
     }
-    if let Some(session) = read_head(bytes) {
-        return Ok(SessionLine::Head(session));
+    if let Some((version, session)) = read_head(bytes) {
+        return Ok(SessionLine::Head(version, session));
     }
     Ok(SessionLine::Call(read_call_line(alloc, bytes)?))
 }

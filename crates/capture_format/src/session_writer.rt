@@ -3,7 +3,8 @@
 ghost use Rattle.std.specs.Prelude.{◌≡◌, ◌++◌, ◌∷◌, [], IfOk, OnOk};
 ghost use Rattle.file_lines.specs.Form.{text_of};
 ghost use Rattle.std.specs.Fmt.{decimal};
-ghost use Rattle.capture_format.specs.SessionFile.{AreCallsOf, call_line_text, last_lines, line_of, number_text, session_form, session_text};
+ghost use Rattle.desk_schema.specs.Schema.{IsVersion};
+ghost use Rattle.capture_format.specs.SessionFile.{AreCallsOf, MayTellAll, call_line_text, last_lines, line_of, number_text, session_form, session_text};
 
 use crate::call::append_call;
 use crate::reply::append_reply;
@@ -11,13 +12,22 @@ use desk_values::fields::append_u64;
 use desk_values::{Bytes, CallList, Captured, List, Memory};
 use std::alloc::Global;
 
-/// The one file of a session's calls, as [`read_session`](crate::read_session) reads it. It fails for want of memory alone.
-pub fn write_session(alloc: Global, calls: &CallList, session: u32) -> Result<Bytes, Memory>
-    requires { AreCallsOf session calls.now.items }
-    ensures { IfOk result (λ bytes. bytes ≡ session_text session calls.now.items) }
+/// The one file of a session's calls and of this version, as [`read_session`](crate::read_session) reads it. It fails for want of
+/// memory alone.
+pub fn write_session(
+    alloc: Global,
+    calls: &CallList,
+    session: u32,
+    version: u32,
+) -> Result<Bytes, Memory>
+    requires calls { AreCallsOf session calls.now.items }
+    requires version { IsVersion version }
+    requires told { MayTellAll version calls.now.items }
+    ensures { IfOk result (λ bytes. bytes ≡ session_text session version calls.now.items) }
 {
     let mut text = List::new(alloc);
-    text.append(b"session 1 ")?;
+    text.append(b"session ")?;
+    push_field(u64::from(version), &mut text)?;
     append_u64(u64::from(session), &mut text)?;
     text.push(b'\n')?;
     push_calls(calls.as_slice(), &mut text)?;

@@ -1,8 +1,10 @@
 //! Start files, read from their bytes.
 
-ghost use Rattle.std.specs.Prelude.{◌≡◌, ℕ, OnOk, IfSome, IfNone, IsErrOf, IsTrue};
+ghost use Rattle.std.specs.Prelude.{◌≡◌, ℕ, IfOk, OnOk, IfSome, IfNone, IsErrOf, IsTrue};
 ghost use Rattle.desk_schema.specs.Line.{with_name};
-ghost use Rattle.desk_schema.specs.State.{added};
+ghost use Rattle.desk_schema.specs.State.{added, nothing};
+ghost use Rattle.desk_schema.specs.Schema.{IsVersion};
+ghost use Rattle.desk_schema.specs.Draft.{Judges};
 ghost use Rattle.desk_schema.specs.Rules.{IsKind, IsWithin, MayFollow};
 ghost use Rattle.file_lines.specs.File.{ReadsFile};
 ghost use Rattle.file_lines.specs.Inside.{AddsLine};
@@ -10,7 +12,7 @@ ghost use Rattle.capture_format.specs.StartFile.{start_form, is_ended, IsBadStar
 ghost use Rattle.capture_format.specs.Inside.StartStage.{IsStage, LeadsTo, state_at};
 
 use crate::start_line::read_start_line;
-use desk_schema::{ColumnKind, Draft, Kind, Start, StartLine};
+use desk_schema::{ColumnKind, Draft, DraftErr, Kind, Start, StartLine, is_version};
 use desk_values::{ReadErr, SESSION_LIMIT};
 use file_lines::{FormErr, LineFile, read_lines};
 use std::alloc::Global;
@@ -27,7 +29,7 @@ pub struct StartFile {
 }
 
 /// The start file that the bytes spell, with columns of every kind. The file is lines in this order, each with a line
-/// feed: `start 1`; `level 1`; sequences as `seq s 10`, with the next value; services as `svc main rw`, or `ro`; tables as
+/// feed: `start 1` or `start 2`; `level 1`, or 2; sequences as `seq s 10`, with the next value; services as `svc main rw`, or `ro`; tables as
 /// `table acct`, each with its columns as `col id int 0 9 notnull`, or `null`, of the kinds `int LOW HIGH`, `text BYTES` and
 /// `seq NAME`; rows as `row 1 0 [i1]`, with their number, their table's and their values; `nextrow 2`; `sessions 1`, up to
 /// 64; `end`. `Bad` exactly where the bytes are no start file, one that breaks a rule of [`Draft`] among them, with the
@@ -49,7 +51,7 @@ pub fn read_start(alloc: Global, bytes: &[u8]) -> Result<StartFile, FormErr>
 #[derive(Drop)]
 enum Stage {
     Empty,
-    Headed,
+    Headed(u32),
     Drafting(Draft),
     Declared(Start),
     Counted(Start, u32),
@@ -127,11 +129,17 @@ fn next_stage(alloc: Global, stage: Stage, line: StartLine) -> Result<Stage, Rea
 {
     match stage {
         Stage::Empty => match line {
-            StartLine::Head => Ok(Stage::Headed),
+            StartLine::Head(version) => {
+                if is_version(version) {
+                    Ok(Stage::Headed(version))
+                } else {
+                    Err(ReadErr::Bad)
+                }
+            }
             _ => Err(ReadErr::Bad),
         },
-        Stage::Headed => match line {
-            StartLine::Level(level) => Ok(Stage::Drafting(Draft::new(alloc, level)?)),
+        Stage::Headed(version) => match line {
+            StartLine::Level(level) => Ok(Stage::Drafting(begun(alloc, version, level)?)),
             _ => Err(ReadErr::Bad),
         },
         Stage::Drafting(draft) => next_of_draft(draft, line),
@@ -151,6 +159,17 @@ fn next_stage(alloc: Global, stage: Stage, line: StartLine) -> Result<Stage, Rea
         },
         Stage::Ended(_, _) => Err(ReadErr::Bad),
     }
+}
+
+// A draft with the first two lines.
+fn begun(alloc: Global, version: u32, level: u32) -> Result<Draft, DraftErr>
+    requires { IsVersion version }
+    ensures ok { IfOk result (λ draft. draft ≡ added (added nothing (StartLine.Head version)) (StartLine.Level level)) }
+    ensures rule { Judges result (MayFollow (added nothing (StartLine.Head version)) (StartLine.Level level)) }
+{
+    let mut draft = Draft::new(alloc, level)?;
+    draft.set_version(version)?;
+    Ok(draft)
 }
 
 fn next_of_draft(mut draft: Draft, line: StartLine) -> Result<Stage, ReadErr>
@@ -182,7 +201,7 @@ fn add_declaration(draft: &mut Draft, line: StartLine) -> Result<(), ReadErr>
             draft.add_col(&name, kind, not_null)?;
         }
         StartLine::Row(row, table, values) => draft.add_row(row, table, values)?,
-        StartLine::Head => return Err(ReadErr::Bad),
+        StartLine::Head(_) => return Err(ReadErr::Bad),
         StartLine::Level(_) => return Err(ReadErr::Bad),
         StartLine::NextRow(_) => return Err(ReadErr::Bad),
         StartLine::Sessions(_) => return Err(ReadErr::Bad),

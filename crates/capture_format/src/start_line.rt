@@ -18,9 +18,6 @@ use std::alloc::Global;
 pub(crate) fn read_start_line(alloc: Global, bytes: &[u8]) -> Result<StartLine, ReadErr>
     ensures { Reads result (start_line_of bytes.now) }
 {
-    if bytes == b"start 1".as_slice() {
-        return Ok(StartLine::Head);
-    }
     if bytes == b"end".as_slice() {
         return Ok(StartLine::End);
     }
@@ -40,7 +37,9 @@ fn read_worded(alloc: Global, bytes: &[u8]) -> Result<StartLine, ReadErr>
 fn read_behind(alloc: Global, word: &[u8], rest: &[u8]) -> Result<StartLine, ReadErr>
     ensures { Reads result (line_behind word.now rest.now) }
 {
-    if word == b"level".as_slice() {
+    if word == b"start".as_slice() {
+        Ok(StartLine::Head(read_u32(rest).ok_or(ReadErr::Bad)?))
+    } else if word == b"level".as_slice() {
         Ok(StartLine::Level(read_u32(rest).ok_or(ReadErr::Bad)?))
     } else if word == b"seq".as_slice() {
         read_sequence(alloc, rest)

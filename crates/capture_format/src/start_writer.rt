@@ -34,7 +34,7 @@ fn push_parts(start: &Start, to: &mut Bytes) -> Result<(), Memory>
     ensures { OnOk result (to.new ≡ to.old ++ lines_text (part_lines start.now)) }
 {
     let schema = start.schema();
-    to.append(b"start 1\n")?;
+    push_number(b"start ", u64::from(schema.version()), to)?;
     push_number(b"level ", u64::from(schema.level()), to)?;
     push_sequences(schema.sequences(), start.next_values(), to)?;
     push_services(schema.services(), to)?;

@@ -1,6 +1,7 @@
 //! A connection from its first request to its end.
 
-ghost use Rattle.std.specs.Prelude.{◌≡◌, ◌≤◌, ◌+◌, ◌^◌, ◌<◌, [], length, if◌then◌else◌};
+ghost use Rattle.std.specs.Prelude.{◌≡◌, ◌≢◌, ◌≤◌, ◌+◌, ◌^◌, ◌<◌, true, [], length, if◌then◌else◌};
+ghost use Rattle.capture_http.specs.declared.conn_end.ConnEnd.TheVariants.{Memory};
 ghost use Rattle.capture_http.specs.Ends.{Finishes, Serves, ends_of};
 ghost use Rattle.capture_http.specs.Inside.{Halts, Refuses, TurnEnds, request_bytes};
 
@@ -29,6 +30,7 @@ pub fn serve_connection<R: Clock + Wait, B: CallDoor, I: Source, O: Sink>(
         (ends_of (I.content input.old) (I.faults input.old) (O.content output.old) (O.faults output.old) (B.said calls.old) (B.turned calls.old))
         (ends_of (I.content input.new) (I.faults input.new) (O.content output.new) (O.faults output.new) (B.said calls.new) (B.turned calls.new)) }
     ensures seat { B.seat calls.new ≡ B.seat calls.old }
+    ensures closed { result ≢ Memory → B.closed calls.new ≡ true }
 {
     let end = converse(rt, alloc, calls, input, output);
     match calls.close(rt) {

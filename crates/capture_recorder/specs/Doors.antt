@@ -23,6 +23,8 @@ pub record DoorView : Type 0 where
   pub session : ℕ
   pub said : List Said
   pub turned : List Turned
+  -- no call went through it since the session was closed
+  pub closed : Bool
 
 -- one entry was added, for this call
 pub record Turns (call : Call) (full : Bool) (said : ℕ) (before after : List Turned) : Type 0 where

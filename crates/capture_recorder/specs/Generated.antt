@@ -39,7 +39,7 @@ main_service = record { name = codes "main"; rights = ReadWrite }
 -- one service, one table with 100 accounts, no sequence
 abbrev pub generated_start : StartView
 generated_start = record {
-  schema = record { level = 1; sequences = []; services = main_service ∷ []; tables = accounts_table ∷ [] };
+  schema = record { version = 1; level = 1; sequences = []; services = main_service ∷ []; tables = accounts_table ∷ [] };
   rows = accounts 1 100;
   next_row = 101;
   next_values = [];

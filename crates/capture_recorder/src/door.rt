@@ -1,6 +1,6 @@
 //! The server as one session's calls see it.
 
-ghost use Rattle.std.specs.Prelude.{◌≡◌, ℕ, List as Items};
+ghost use Rattle.std.specs.Prelude.{◌≡◌, ℕ, Bool, true, false, List as Items, OnOk};
 ghost use Rattle.capture_recorder.specs.Doors.{AreGood, Notes, Closes};
 ghost use Rattle.capture_recorder.specs.declared.door.Said.{Said as SaidCall};
 ghost use Rattle.capture_recorder.specs.declared.door.Turned.{Turned as TurnedCall};
@@ -75,6 +75,9 @@ pub trait CallDoor {
     /// The calls that were turned away.
     ghost turned: { Self → Items TurnedCall };
 
+    /// Whether no call went through it since the session was closed.
+    ghost closed: { Self → Bool };
+
     /// The session's number.
     fn session(&self) -> u32
         ensures { result ≡ seat self.now };
@@ -92,10 +95,12 @@ pub trait CallDoor {
     /// memory notes nothing.
     fn call<R: Clock + Wait>(&mut self, rt: &R, call: &Call) -> Result<Reply, CallErr>
         ensures notes { Notes call.now result (said self.old) (said self.new) (turned self.old) (turned self.new) }
+        ensures opens { closed self.new ≡ false }
         ensures seat { seat self.new ≡ seat self.old };
 
     /// Disconnects the session where it is connected, and notes the call with its reply then. Want of memory notes nothing.
     fn close<R: Clock + Wait>(&mut self, rt: &R) -> Result<(), Memory>
         ensures notes { Closes result (said self.old) (said self.new) (turned self.old) (turned self.new) }
+        ensures closes { OnOk result (closed self.new ≡ true) }
         ensures seat { seat self.new ≡ seat self.old };
 }

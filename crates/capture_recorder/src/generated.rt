@@ -82,7 +82,7 @@ fn tables(alloc: Global) -> Result<Draft, Memory>
 
 // A line that broke a rule would be told as want of memory here and below; none does.
 fn nothing_declared(alloc: Global) -> Result<Draft, Memory>
-    ensures { IfOk result (λ draft. draft ≡ added (added nothing StartLine.Head) (StartLine.Level 1)) }
+    ensures { IfOk result (λ draft. draft ≡ added (added nothing (StartLine.Head 1)) (StartLine.Level 1)) }
 {
     Draft::new(alloc, 1).map_err(|_| Memory)
 }

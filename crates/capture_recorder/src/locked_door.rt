@@ -18,7 +18,7 @@ use std::sync::{Mutex, Wait};
 use std::time::Clock;
 
 /// One session's door to a recorder that others share by its lock. It holds the lock once for each call. Contracts see the
-/// session's number and the two lists.
+/// session's number, the two lists, and whether the session was closed.
 #[derive(Drop)]
 pub struct LockedDoor<'a, D: Door> {
     session: u32,
@@ -26,6 +26,8 @@ pub struct LockedDoor<'a, D: Door> {
     door: &'a D,
     said: SaidList,
     turned: TurnedList,
+    // For contracts alone.
+    closed: bool,
 }
 
 impl<'a, D: Door> Model for LockedDoor<'a, D> {
@@ -34,7 +36,7 @@ impl<'a, D: Door> Model for LockedDoor<'a, D> {
 
     ghost Value = { DoorView };
 
-    ghost view = { λ a. record { session = a.session; said = a.said.items; turned = a.turned.items } };
+    ghost view = { λ a. record { session = a.session; said = a.said.items; turned = a.turned.items; closed = a.closed } };
 
     ghost invariant = { λ a. (a.session < 64) × AreGood a.said.items };
 }
@@ -58,6 +60,7 @@ impl<'a, D: Door> LockedDoor<'a, D> {
             door,
             said: Reserved::new(alloc),
             turned: Reserved::new(alloc),
+            closed: false,
         }
     }
 
@@ -78,6 +81,8 @@ impl<'a, D: Door> CallDoor for LockedDoor<'a, D> {
 
     ghost turned = { λ d. d.turned };
 
+    ghost closed = { λ d. d.closed };
+
     fn session(&self) -> u32 {
         self.session
     }
@@ -91,6 +96,7 @@ impl<'a, D: Door> CallDoor for LockedDoor<'a, D> {
     }
 
     fn call<R: Clock + Wait>(&mut self, rt: &R, call: &Call) -> Result<Reply, CallErr> {
+        self.closed = false;
         let place = u32::try_from(self.said.len()).map_err(|_| CallErr::Memory)?;
         self.said.reserve(1)?;
         self.turned.reserve(1)?;
@@ -124,6 +130,7 @@ impl<'a, D: Door> CallDoor for LockedDoor<'a, D> {
         let at = self.door.now(rt);
         let reply = self.recorder.lock(rt).close(self.session, at)?;
         say_closing(&mut self.said, reply);
+        self.closed = true;
         Ok(())
     }
 }

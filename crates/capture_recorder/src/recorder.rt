@@ -2,7 +2,7 @@
 
 ghost use Rattle.std.specs.Prelude.{◌≡◌, ◌≢◌, ℕ, ◌+◌, ◌<◌, ◌≤◌, false, if◌then◌else◌, length, IfOk, IfSome, OnOk, OnErr, IsSomeAnd, Some};
 ghost use Rattle.desk_values.specs.Good.{IsGoodReply};
-ghost use Rattle.capture_format.specs.SessionFile.{AreCallsOf};
+ghost use Rattle.capture_format.specs.SessionFile.{AreCallsOf, MayTellAll};
 ghost use Rattle.machine_model.specs.State.{is_connected, is_given, session_at};
 ghost use Rattle.machine_model.specs.Step.{reply_in, step};
 ghost use Rattle.capture_recorder.specs.Limits.{accepted_limit};
@@ -104,6 +104,7 @@ impl Recorder {
     pub fn session(&self, session: u32) -> Result<CallList, Memory>
         ensures value { IfOk result (λ list. list.items ≡ calls_of session self.now.calls) }
         ensures file { IfOk result (λ list. AreCallsOf session list.items) }
+        ensures told { IfOk result (λ list. MayTellAll self.now.start.schema.version list.items) }
     {
         self.know_recording();
         let list = session_calls(self.alloc, self.calls.as_slice(), session)?;

@@ -2,6 +2,8 @@
 
 ghost use Rattle.std.specs.Prelude.{◌≡◌, ◌++◌, ℕ, List as Items, drop, IfOk, OnOk, map};
 ghost use Rattle.desk_values.specs.declared.capture.Captured.{Captured as Recorded};
+ghost use Rattle.std.specs.List.{AllByRecursion};
+ghost use Rattle.capture_format.specs.SessionFile.{MayTellAll};
 ghost use Rattle.capture_recorder.specs.Listed.{HaveJust};
 ghost use Rattle.capture_recorder.specs.Recording.{IsRecording, Recording};
 ghost use Rattle.captured_calls.specs.Sessions.{AreSessionsFrom, calls_of, session_lists};
@@ -10,7 +12,7 @@ use desk_values::{CallList, Captured, Copied, List, Memory, SessionLists};
 use std::alloc::Global;
 
 /// The calls of each session below `count`, in their order. Where they are those of a recorder, each list can be written
-/// as the file of its session. Where no call is of a session beyond them, the lists have just these calls, and put by
+/// as the file of its session, of its start's version. Where no call is of a session beyond them, the lists have just these calls, and put by
 /// stamp again they are the calls where these stand at their stamps.
 pub fn sessions_of(alloc: Global, calls: &CallList, count: u32) -> Result<SessionLists, Memory>
     ensures lists { IfOk result (λ lists. map (λ list. list.items) lists ≡ session_lists count calls.now.items) }
@@ -18,6 +20,9 @@ pub fn sessions_of(alloc: Global, calls: &CallList, count: u32) -> Result<Sessio
     ensures files { IfOk result
         (λ lists. (r : Recording) → IsRecording r → r.calls ≡ calls.now.items
         → AreSessionsFrom 0 (map (λ list. list.items) lists)) }
+    ensures told { IfOk result
+        (λ lists. (r : Recording) → IsRecording r → r.calls ≡ calls.now.items
+        → AllByRecursion (MayTellAll r.start.schema.version) (map (λ list. list.items) lists)) }
 {
     know_lists();
     let mut lists = List::new(alloc);
@@ -47,5 +52,7 @@ pub(crate) fn session_calls(
 /// The calls of each session of a recorder have a file, and the lists of the sessions have just the calls. It costs nothing.
 fn know_lists()
     ensures files { (r : Recording) (count : ℕ) → IsRecording r → AreSessionsFrom 0 (session_lists count r.calls) }
+    ensures told { (r : Recording) (count : ℕ) → IsRecording r
+        → AllByRecursion (MayTellAll r.start.schema.version) (session_lists count r.calls) }
     ensures just { (count : ℕ) (calls : Items Recorded) → HaveJust count calls (session_lists count calls) }
 {}

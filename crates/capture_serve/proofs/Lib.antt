@@ -5,3 +5,4 @@ pub mod Closed
 pub mod Whole
 pub mod Wholes
 pub mod Sending
+pub mod Reading

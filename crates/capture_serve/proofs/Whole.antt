@@ -1,8 +1,9 @@
 -- The whole service, put together.
 use Rattle.std.proofs.Common.{◌≡◌, ◌∙◌, ℕ, suc, ◌+◌, ◌≤◌, List, [], ◌∷◌, ◌++◌, length, map, min, Option, Some, None, IsSomeAnd, Result, Ok, Err, IfOk, refl, sym, ap, subst, arith, slice_get, if◌then◌else◌}
-use Rattle.std.specs.Prelude.{count_by, OnOk}
+use Rattle.std.specs.Prelude.{count_by, false, is_err, IfErr, OnOk}
 use Rattle.std.specs.List.{AllByRecursion}
-use Rattle.std.proofs.lemmas.List.{length-map}
+use mathlib.Core.Bool.{true≢false}
+use Rattle.std.proofs.lemmas.List.{append-nil, length-map}
 use Rattle.std.proofs.lemmas.Result.{IfOk-at_ok}
 use Rattle.std.proofs.lemmas.List.Folds.{fold-map}
 use Rattle.desk_files.specs.Outside.{Told}
@@ -16,9 +17,10 @@ use Rattle.capture_recorder.specs.Gathering.{kept_in, said_in}
 use Rattle.capture_recorder.specs.Recording.{Recording}
 use Rattle.capture_http.specs.declared.conn_end.ConnEnd.{ConnEnd}
 use Rattle.capture_serve.specs.Connections.{EachFrom, IsConnection, IsGivenBack, comes}
-use Rattle.capture_serve.specs.Service.{AreGivenBack, AreServed, CaptureView, IsService, is_short}
-use Rattle.capture_serve.specs.Failing.{IfDiffers}
+use Rattle.capture_serve.specs.Service.{AreAllGivenBack, AreGivenBack, AreServed, CaptureView, HasGivenBack, HasGivenBackAll, IsService, is_short}
+use Rattle.capture_serve.specs.Failing.{GivesBack}
 use Rattle.capture_serve.specs.declared.failing.ServeErr.{ServeErr}
+use Rattle.capture_serve.specs.declared.halt.Halt.{Halt}
 use Rattle.capture_serve.specs.declared.failing.ServeErr.TheVariants as serve
 use Rattle.capture_serve.specs.declared.returning.Notes.{Notes}
 use Rattle.capture_serve.specs.Inside.Passing.{AreBack, AreClosed, Came, Connected, Gave, HasNoted, IsCapturedOf, IsPassed, Moment, Passed, PassedThrough, Took, arrivals_from, moment_of}
@@ -163,26 +165,53 @@ sents_length : (n : ℕ) (sents : List (List ℕ)) → length (arrivals_from n s
 sents_length n [] = refl
 sents_length n (sent ∷ sents) = ap (λ (k : ℕ). suc k) (sents_length (n + 1) sents)
 
-given_through : (most : ℕ) (passes : List Passed) (before after : Connections) → AllByRecursion IsPassed passes → length passes ≤ most → PassedThrough most passes before after → AreGivenBack most before after
-given_through most passes before after each few through = record {
-  sent = through.sent;
+given_from : (most : ℕ) (passes : List Passed) (sent : List (List ℕ)) (before mid after : Connections) → AllByRecursion IsPassed passes → length passes ≤ most → Took (map moment_of passes) sent before mid → Gave passes mid after → AreGivenBack most before after
+given_from most passes sent before mid after each few took gave = record {
+  sent = sent;
   ends = map end_of passes;
-  back = through.back;
-  taken = through.taken;
-  few = omega (arith, few, sym (sents_length 0 through.sent) ∙ ap (λ (l : List Moment). length l) (sym through.arrive) ∙ length-map passes moment_of);
-  returned = through.returned;
-  each = given_each 0 passes through.sent through.back each through.arrive through.are_back;
+  back = gave.back;
+  taken = took.taken ∙ ap (λ (l : List (List ℕ)). sent ++ l) (sym gave.waiting);
+  few = omega (arith, few, sym (sents_length 0 sent) ∙ ap (λ (l : List Moment). length l) (sym took.arrive) ∙ length-map passes moment_of);
+  returned = gave.returned ∙ ap (λ (l : List Returned). l ++ gave.back) took.returned;
+  each = given_each 0 passes sent gave.back each took.arrive gave.are_back;
 }
 
-pub given_back : (most : ℕ) (notes : Notes) (before after : Option Connections) → Connected most notes before after → Told before (λ b. IsSomeAnd after (AreGivenBack most b))
+-- also where the host failed or memory was short while they came
+pub given_halted : (halted : Result (Unit {0}) Halt) (most : ℕ) (given : Result Notes Memory) (before mid after : Option Connections) (passes : List Passed) → is_err given ≡ false → Came halted most (map moment_of passes) before mid
+    → OnOk given (GaveSo passes mid after) → AllByRecursion IsPassed passes → length passes ≤ most → HasGivenBack most before after
+given_halted halted most (Err short) before mid after passes well came gave each few = absurd (true≢false well)
+given_halted halted most (Ok notes) None mid after passes well came gave each few = tt
+given_halted halted most (Ok notes) (Some b) None after passes well came gave each few = absurd came
+given_halted halted most (Ok notes) (Some b) (Some m) None passes well came gave each few = absurd gave
+given_halted halted most (Ok notes) (Some b) (Some m) (Some a) passes well came gave each few = given_from most passes came.0 b m a each few came.1 gave
+
+-- none came
+pub none_back : (most : ℕ) (before : Option Connections) → HasGivenBack most before before
+none_back most None = tt
+none_back most (Some b) = record { sent = []; ends = []; back = []; taken = refl; few = omega arith; returned = sym (append-nil b.returned); each = tt }
+
+all_given : (most : ℕ) (passes : List Passed) (before after : Connections) → AllByRecursion IsPassed passes → length passes ≤ most → PassedThrough most passes before after → AreAllGivenBack most before after
+unfolding given_from
+all_given most passes before after each few through = record {
+  given = given_from most passes through.sent before (record { waiting = after.waiting; returned = before.returned }) after each few
+      (record { taken = through.taken; returned = refl; arrive = through.arrive }) (record { back = through.back; waiting = refl; returned = through.returned; are_back = through.are_back });
+  count = through.count;
+}
+
+pub given_back : (most : ℕ) (notes : Notes) (before after : Option Connections) → Connected most notes before after → HasGivenBackAll most before after
 given_back most notes before after connected = all before after connected.through where
-  all : (before after : Option Connections) → Told before (λ b. IsSomeAnd after (PassedThrough most connected.passes b)) → Told before (λ b. IsSomeAnd after (AreGivenBack most b))
+  all : (before after : Option Connections) → Told before (λ b. IsSomeAnd after (PassedThrough most connected.passes b)) → HasGivenBackAll most before after
   all None after through = tt
   all (Some b) None through = absurd through
-  all (Some b) (Some a) through = given_through most connected.passes b a connected.each connected.few through
+  all (Some b) (Some a) through = all_given most connected.passes b a connected.each connected.few through
 
-pub if_differs : {X : Type 0} (result : Result X ServeErr) (P : Type 0) → P → IfDiffers result P
-if_differs (Ok done) P p = tt
-if_differs (Err serve.Failed) P p = tt
-if_differs (Err (serve.Differs finding)) P p = p
-if_differs (Err serve.Memory) P p = tt
+some_given : (most : ℕ) (before after : Option Connections) → HasGivenBackAll most before after → HasGivenBack most before after
+some_given most None after all = tt
+some_given most (Some b) None all = absurd all
+some_given most (Some b) (Some a) all = all.given
+
+pub gives_back : {X : Type 0} (most : ℕ) (before after : Option Connections) (result : Result X ServeErr) → HasGivenBackAll most before after → IfErr result (GivesBack most before after)
+gives_back most before after (Ok done) all = tt
+gives_back most before after (Err (serve.Failed short)) all = λ well. some_given most before after all
+gives_back most before after (Err (serve.Differs finding)) all = all
+gives_back most before after (Err serve.Memory) all = tt

@@ -1,6 +1,7 @@
 -- What may be found to differ of what was served.
-use Rattle.std.specs.Prelude.{◌≡◌, List, Result, Ok, Err, ⊤}
+use Rattle.std.specs.Prelude.{◌≡◌, ℕ, false, List, Option, Result, Ok, Err, ⊤}
 use Rattle.desk_files.specs.Outside.{Ending, Answered, DeviceFailed}
+use Rattle.desk_files.specs.Hosts.{Connections}
 use Rattle.desk_schema.specs.Start.{StartView}
 use Rattle.capture_recorder.specs.declared.door.Said.{Said}
 use Rattle.capture_recorder.specs.declared.door.Turned.{Turned}
@@ -8,6 +9,7 @@ use Rattle.capture_recorder.specs.declared.gathering.GatherErr.{GatherErr}
 use Rattle.capture_recorder.specs.declared.gathering.GatherErr.TheVariants as gather
 use Rattle.capture_recorder.specs.Gathering.{Gathers}
 use Rattle.capture_recorder.specs.Recording.{IsRecording, Recording}
+use Rattle.capture_serve.specs.Service.{HasGivenBack, HasGivenBackAll}
 use Rattle.capture_serve.specs.declared.failing.ServeErr.{ServeErr}
 use Rattle.capture_serve.specs.declared.failing.ServeErr.TheVariants as serve
 use Rattle.capture_serve.specs.declared.failing.Finding.{Finding}
@@ -32,20 +34,20 @@ pub record IsFinding (start : StartView) (finding : Finding) : Type 0 where
 
 -- how serving this start may fail: a device failed, something differs, or memory was short
 abbrev pub Fails : StartView → ServeErr → Type 0
-Fails start serve.Failed = ⊤
+Fails start (serve.Failed short) = ⊤
 Fails start (serve.Differs finding) = IsFinding start finding
 Fails start serve.Memory = ⊤
 
--- where something differs, this
-abbrev pub IfDiffers : {X : Type 0} → Result X ServeErr → Type 0 → Type 0
-IfDiffers (Ok done) P = ⊤
-IfDiffers (Err serve.Failed) P = ⊤
-IfDiffers (Err (serve.Differs finding)) P = P
-IfDiffers (Err serve.Memory) P = ⊤
+-- what was given back at a failure: all that were to be served or that there were, where something differs; where the host failed, those that
+-- were taken, unless memory was short as well
+abbrev pub GivesBack : ℕ → Option Connections → Option Connections → ServeErr → Type 0
+GivesBack most before after (serve.Failed short) = short ≡ false → HasGivenBack most before after
+GivesBack most before after (serve.Differs finding) = HasGivenBackAll most before after
+GivesBack most before after serve.Memory = ⊤
 
 -- how serving ends for the host
 abbrev pub serve_ending : {X : Type 0} → Result X ServeErr → Ending
 serve_ending (Ok done) = Answered
-serve_ending (Err serve.Failed) = DeviceFailed
+serve_ending (Err (serve.Failed short)) = DeviceFailed
 serve_ending (Err (serve.Differs finding)) = Answered
 serve_ending (Err serve.Memory) = Answered

@@ -1,2 +1,3 @@
 -- Words of private clauses and of what holds of fields. They need not be believed.
 pub mod Passing
+pub mod Knowing

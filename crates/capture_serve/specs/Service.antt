@@ -1,11 +1,12 @@
 -- What stands of all connections that were served, and of the capture.
-use Rattle.std.specs.Prelude.{◌≡◌, ℕ, ◌<◌, ◌≤◌, Bool, true, false, List, ◌++◌, length, min, count_by, Option, IsSomeAnd}
+use Rattle.std.specs.Prelude.{◌≡◌, ℕ, ◌+◌, ◌<◌, ◌≤◌, Bool, true, false, List, [], ◌∷◌, ◌++◌, length, min, count_by, Option, IsSomeAnd}
 use Rattle.desk_values.specs.declared.capture.Captured.{Captured}
 use Rattle.desk_values.specs.Limits.{session_limit}
 use Rattle.desk_schema.specs.Start.{StartView}
 use Rattle.desk_files.specs.Outside.{Told}
 use Rattle.desk_files.specs.Hosts.{Connections, Returned}
 use Rattle.machine_model.specs.State.{is_connected}
+use Rattle.capture_format.specs.SessionFile.{IsSessionFile, session_text}
 use Rattle.captured_calls.specs.Sessions.{session_lists}
 use Rattle.capture_recorder.specs.Listed.{AreBelow}
 use Rattle.capture_recorder.specs.Recording.{IsRecording, Recording}
@@ -41,12 +42,30 @@ pub record AreGivenBack (most : ℕ) (before after : Connections) : Type 0 where
   pub returned : after.returned ≡ before.returned ++ back
   pub each : EachFrom IsGivenBack 0 sent ends back
 
+-- they were as many as were to be served, or all that there were
+pub record AreAllGivenBack (most : ℕ) (before after : Connections) : Type 0 where
+  pub given : AreGivenBack most before after
+  pub count : length given.sent ≡ min most (length before.waiting)
+
+-- where the host tells its connections, at most so many were taken, served and given back
+abbrev pub HasGivenBack : ℕ → Option Connections → Option Connections → Type 0
+HasGivenBack most before after = Told before (λ connections. IsSomeAnd after (AreGivenBack most connections))
+
+-- and just so many, or all that there were
+abbrev pub HasGivenBackAll : ℕ → Option Connections → Option Connections → Type 0
+HasGivenBackAll most before after = Told before (λ connections. IsSomeAnd after (AreAllGivenBack most connections))
+
 -- how many connections there were, how many of them were short of memory, how many calls were captured, and those of each session
 pub record CaptureView : Type 0 where
   pub connections : ℕ
   pub short : ℕ
   pub calls : ℕ
   pub sessions : List (List Captured)
+
+-- the file of this version of each session, from this one on, is read as its calls
+abbrev pub AreReadFrom : ℕ → ℕ → List (List Captured) → Type 0
+AreReadFrom version session [] = Unit {0}
+AreReadFrom version session (calls ∷ lists) = IsSessionFile session version (session_text session version calls) calls × AreReadFrom version (session + 1) lists
 
 -- What was captured is all that a recorder holds: a legal capture from the start, of as many sessions as there were connections. No session
 -- is connected after its last call.

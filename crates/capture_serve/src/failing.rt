@@ -35,8 +35,11 @@ pub enum Finding {
 /// Why no capture came of a service.
 #[derive(Drop)]
 pub enum ServeErr {
-    /// The host failed.
-    Failed,
+    /// The host failed. Where memory was short as well, some of its connections may not have been given back.
+    Failed {
+        /// Whether it was.
+        short: bool,
+    },
     /// Something differs.
     Differs(Finding),
     /// Want of memory.

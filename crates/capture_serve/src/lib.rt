@@ -13,6 +13,7 @@ mod closing;
 mod connection;
 mod failing;
 mod halt;
+mod knowing;
 pub mod laws;
 mod returning;
 mod seating;

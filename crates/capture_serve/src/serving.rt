@@ -1,17 +1,18 @@
 //! The whole service, from its start to the capture.
 
-ghost use Rattle.std.specs.Prelude.{◌≡◌, ◌≤◌, length, IfErr, IfOk, IsSomeAnd};
-ghost use Rattle.desk_files.specs.Outside.{Counts, Told};
+ghost use Rattle.std.specs.Prelude.{◌≡◌, ◌≤◌, length, IfErr, IfOk};
+ghost use Rattle.desk_files.specs.Outside.{Counts};
 ghost use Rattle.captured_calls.specs.Sessions.{AreSessionsFrom};
-ghost use Rattle.capture_serve.specs.Failing.{Fails, IfDiffers, serve_ending};
+ghost use Rattle.capture_serve.specs.Failing.{Fails, GivesBack, serve_ending};
 ghost use Rattle.capture_serve.specs.Seen.{capture_of};
-ghost use Rattle.capture_serve.specs.Service.{AreGivenBack, IsService};
+ghost use Rattle.capture_serve.specs.Service.{AreReadFrom, IsService};
 ghost use Rattle.capture_serve.specs.Inside.Passing.{Connected, IsCapturedOf, IsFaultless, IsPlain};
 
 use crate::accepting::serve_all;
 use crate::closing::close_all;
 use crate::failing::{ServeErr, failed};
 use crate::halt::Halt;
+use crate::knowing::know_files;
 use crate::returning::{Notes, give_back};
 use capture_recorder::{Recorder, gather};
 use desk_files::{Door, Host};
@@ -36,8 +37,8 @@ pub struct Capture {
 }
 
 /// Serves so many connections at a port, or all that the host has, each as a session of a server with this start, and gives what
-/// they said. Each connection is given back, also where the host failed. `Failed` where the host failed; `Differs` where what was
-/// recorded is not what the connections were answered, which only a fault of this program can bring about.
+/// they said. Each connection is given back, also where the host failed, unless memory is short. `Failed` where the host failed;
+/// `Differs` where what was recorded is not what the connections were answered, which only a fault of this program can bring about.
 pub fn serve<R: Clock + Wait + Threads + Sync, H: Host, D: Door>(
     rt: &R,
     alloc: Global,
@@ -50,8 +51,9 @@ pub fn serve<R: Clock + Wait + Threads + Sync, H: Host, D: Door>(
     requires { most ≤ 64 }
     ensures service { IfOk result (λ capture. IsService start.now most (capture_of capture) (H.content host.old) (H.content host.new)) }
     ensures files { IfOk result (λ capture. AreSessionsFrom 0 (capture_of capture).sessions) }
+    ensures read { IfOk result (λ capture. AreReadFrom start.now.schema.version 0 (capture_of capture).sessions) }
     ensures fails { IfErr result (Fails start.now) }
-    ensures back { IfDiffers result (Told (H.content host.old) (λ before. IsSomeAnd (H.content host.new) (AreGivenBack most before))) }
+    ensures back { IfErr result (GivesBack most (H.content host.old) (H.content host.new)) }
     ensures counts { Counts (serve_ending result) (H.faults host.old) (H.faults host.new) }
 {
     let shared = Mutex::new(Recorder::load(alloc, start)?);
@@ -72,19 +74,21 @@ fn connect<R: Clock + Wait + Threads + Sync, H: Host, D: Door>(
     requires { most ≤ 64 }
     ensures connected { IfOk result (λ notes. Connected most notes (H.content host.old) (H.content host.new)) }
     ensures plain { IfErr result IsPlain }
+    ensures back { IfErr result (GivesBack most (H.content host.old) (H.content host.new)) }
     ensures counts { Counts (serve_ending result) (H.faults host.old) (H.faults host.new) }
 {
     if host.listen(port).is_err() {
-        return Err(ServeErr::Failed);
+        return Err(ServeErr::Failed { short: false });
     }
     let (served, halted) = serve_all(rt, alloc, host, shared, clock, most);
     let given = match served {
         Ok(served) => give_back(alloc, host, served),
         Err(Memory) => Err(Memory),
     };
+    let short = given.is_err();
     match halted {
         Ok(()) => Ok(given?),
-        Err(Halt::Failed) => Err(ServeErr::Failed),
+        Err(Halt::Failed) => Err(ServeErr::Failed { short }),
         Err(Halt::Memory) => Err(ServeErr::Memory),
     }
 }
@@ -101,6 +105,7 @@ fn captured<R: Clock + Wait, D: Door>(
     requires { length notes.said ≤ 64 }
     ensures captured { IfOk result (λ capture. IsCapturedOf start.now notes (capture_of capture)) }
     ensures files { IfOk result (λ capture. AreSessionsFrom 0 (capture_of capture).sessions) }
+    ensures read { IfOk result (λ capture. AreReadFrom start.now.schema.version 0 (capture_of capture).sessions) }
     ensures fails { IfErr result (λ error. Fails start.now error × IsFaultless error) }
 {
     let said = close_all(rt, alloc, &mut recorder, clock, notes.said)?;
@@ -108,10 +113,12 @@ fn captured<R: Clock + Wait, D: Door>(
         Ok(sessions) => sessions,
         Err(error) => return Err(failed(error)),
     };
-    Ok(Capture {
+    let capture = Capture {
         connections: said.len() as u32,
         short: notes.short,
         calls: recorder.calls().len() as u32,
         sessions,
-    })
+    };
+    know_files(start, &capture.sessions);
+    Ok(capture)
 }

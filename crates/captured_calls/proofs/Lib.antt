@@ -9,6 +9,7 @@ pub mod Files
 pub mod Following
 pub mod Strangers
 pub mod Growing
+pub mod Told
 pub mod Scanning
 pub mod Sound
 pub mod Legality

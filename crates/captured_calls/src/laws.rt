@@ -9,7 +9,8 @@ ghost use Rattle.desk_values.specs.declared.value.Value.{Value};
 ghost use Rattle.desk_values.specs.declared.call.Reply.{Reply};
 ghost use Rattle.desk_values.specs.declared.capture.Captured.{Captured};
 ghost use Rattle.desk_values.specs.Good.{IsGoodReply};
-ghost use Rattle.capture_format.specs.SessionFile.{AreCallsOf};
+ghost use Rattle.desk_schema.specs.Start.{StartView};
+ghost use Rattle.capture_format.specs.SessionFile.{AreCallsOf, MayTellAll};
 ghost use Rattle.replay_history.specs.Capture.{FitsIn, IsKnown, session_calls_before};
 ghost use Rattle.replay_history.specs.Gap.{IsCallAt, IsJustBefore, IsStamped};
 ghost use Rattle.object_depends.specs.declared.fact.Fact.{Fact};
@@ -21,6 +22,7 @@ ghost use Rattle.captured_calls.specs.Same.{same_reply, same_value};
 ghost use Rattle.captured_calls.specs.Sessions.{AreSessionsFrom, session_lists};
 ghost use Rattle.captured_calls.specs.Stamped.{AllFit, ArePlaced, HasText};
 ghost use Rattle.captured_calls.specs.Stamps.{HasEach, all_calls, by_stamp};
+ghost use Rattle.captured_calls.specs.Verdict.{IsLegal};
 
 /// The tests of two values and of two replies tell whether they are equal.
 pub fn tests_tell_equality()
@@ -50,6 +52,13 @@ pub fn sessions_have_files()
         → AllByRecursion HasText calls → AreSessionsFrom 0 (session_lists count calls) }
     ensures more { (lists : List (List Captured)) (calls : List Captured) → AreSessionsFrom 0 lists
         → AreCallsOf (length lists) calls → AreSessionsFrom 0 (lists ++ calls ∷ []) }
+{}
+
+/// Each of a legal capture's calls, also by their sessions, got a reply that a server of the start's version may give.
+pub fn legal_calls_are_told()
+    ensures calls { (start : StartView) (calls : List Captured) → IsLegal start calls → MayTellAll start.schema.version calls }
+    ensures lists { (start : StartView) (calls : List Captured) (count : ℕ) → IsLegal start calls
+        → AllByRecursion (MayTellAll start.schema.version) (session_lists count calls) }
 {}
 
 /// A call that stands behind as many calls of its session as its place says begins no earlier than the last of them ended,

@@ -5,7 +5,7 @@
 //! - `none NAME`: there is none
 //! - `run CALLS PRINTS WORDS`: runs a command over these files, where calls of the files and of the output with these
 //!   numbers fail; `-` for none. It prints the status, the line and each file that is new or has other bytes, by its name, and
-//!   in brackets what each connection was answered that was given back
+//!   in brackets what each connection was answered that was given back, and behind `@` the port at which the host was asked for connections
 //! - `conn READS WRITES ROOM TEXT`: the host of the next run has this connection too, which sends this text, whose reads and writes with
 //!   these numbers fail, and whose output has so much room
 //! - `host CALLS`: calls of that host with these numbers fail

@@ -2,7 +2,7 @@
 
 use crate::guests::Guests;
 use crate::kept::Kept;
-use crate::watched::Watched;
+use crate::watched::{Asked, Watched};
 use crate::words::words_of;
 use case_text::{first_word, stamps_of, txt};
 use desk_files::{MemDoor, MemFiles, MemHost, MemSink};
@@ -33,7 +33,10 @@ pub fn append_run<R: Clock + Wait + Threads + Sync>(
     let mut files = Watched::new(alloc, kept.to_files(alloc, stamps_of(alloc, calls)?)?);
     let mut out = MemSink::new(alloc, LINE_ROOM, stamps_of(alloc, prints)?)?;
     let door = MemDoor::new(alloc);
-    let mut host = guests.host()?;
+    let mut host = Asked {
+        host: guests.host()?,
+        port: None,
+    };
     let status = replay_main(
         rt,
         alloc,
@@ -47,7 +50,9 @@ pub fn append_run<R: Clock + Wait + Threads + Sync>(
     to.push(b' ')?;
     append_lines(out.held().as_slice(), to)?;
     append_changed(alloc, kept, &files, to)?;
-    append_given_back(&host, to)
+    append_given_back(&host.host, to)?;
+    append_port(host.port, to)?;
+    Ok(())
 }
 
 // The files that were not there before, or had other bytes, by their names.
@@ -87,6 +92,15 @@ fn append_given_back(host: &MemHost, to: &mut Bytes) -> Result<(), ReadErr> {
         to.append(b" <")?;
         append_lines(output.held().as_slice(), to)?;
         to.push(b'>')?;
+    }
+    Ok(())
+}
+
+// The port, where there is one.
+fn append_port(port: Option<u16>, to: &mut Bytes) -> Result<(), Memory> {
+    if let Some(port) = port {
+        to.append(b" @")?;
+        append_u64(u64::from(port), to)?;
     }
     Ok(())
 }

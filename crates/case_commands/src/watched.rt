@@ -1,10 +1,11 @@
-//! Files whose written names are noted.
+//! Files whose written names are noted, and a host whose port is.
 
 ghost use Rattle.std.specs.Prelude.{ℕ, Option};
+ghost use Rattle.desk_files.specs.Hosts.{Connections};
 ghost use Rattle.desk_files.specs.Outside.{FileMap};
 
-use desk_files::{FileErr, Files, WriteErr};
-use desk_values::{Bytes, Copied, List, Txt};
+use desk_files::{Failed, FileErr, Files, Host, WriteErr};
+use desk_values::{Bytes, Copied, List, Memory, Txt};
 use std::alloc::Global;
 
 /// Files, and the names of those that were to be written.
@@ -38,5 +39,37 @@ impl<F: Files + Drop> Files for Watched<F> {
     fn write(&mut self, name: &Txt, bytes: &[u8]) -> Result<(), WriteErr> {
         self.names.push(name.copy()?)?;
         self.files.write(name, bytes)
+    }
+}
+
+/// A host, and the port at which it was asked for connections.
+#[derive(Drop)]
+pub struct Asked<H: Drop> {
+    /// The host.
+    pub host: H,
+    /// The port, where it was asked.
+    pub port: Option<u16>,
+}
+
+impl<H: Host + Drop> Host for Asked<H> {
+    type In = H::In;
+
+    type Out = H::Out;
+
+    ghost content = { λ s. H.content s.host };
+
+    ghost faults = { λ s. H.faults s.host };
+
+    fn listen(&mut self, port: u16) -> Result<(), Failed> {
+        self.port = Some(port);
+        self.host.listen(port)
+    }
+
+    fn accept(&mut self) -> Result<Option<(Self::In, Self::Out)>, Failed> {
+        self.host.accept()
+    }
+
+    fn back(&mut self, input: Self::In, output: Self::Out) -> Result<(), Memory> {
+        self.host.back(input, output)
     }
 }

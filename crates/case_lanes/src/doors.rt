@@ -81,6 +81,11 @@ impl FirstDoor {
         }
     }
 
+    /// How often somebody came for the time.
+    pub fn came(&self) -> u64 {
+        self.came.load(Ordering::SeqCst)
+    }
+
     /// Whether its turns are spent.
     pub fn is_spent(&self) -> bool {
         TURNS <= self.turns.load(Ordering::SeqCst)

@@ -60,7 +60,8 @@ fn served<R: Clock + Wait + Threads + Sync + Print>(
     let door = FirstDoor::new();
     let words = "serve made cap/start.cap 2";
     let said = ran(rt, alloc, words, &mut files, guests(alloc, 2)?, &door)?;
-    println!(rt; "{words}: {said}, turns spent: {}", door.is_spent())?;
+    let (came, spent) = (door.came(), door.is_spent());
+    println!(rt; "{words}: {said}, {came} came, turns spent: {spent}")?;
     Ok(())
 }
 

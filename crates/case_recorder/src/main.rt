@@ -1,7 +1,7 @@
 //! Cases of the recorder, as lines. A case is its name, a start file, and calls of its sessions with their moments; for
 //! each call it prints the text of the reply, or why the call was turned away.
 //!
-//! - `case NAME`, then the lines of a start file, from `start 1` to `end`; or `generate N`, for the generated capture
+//! - `case NAME`, then the lines of a start file, from `start 1` or `start 2` to `end`; or `generate N`, for the generated capture
 //! - `N BEGAN ENDED connect SERVICE`, and so `disconnect`, `sql TEXT` and `bind VALUES sql TEXT`: a call of session N
 //! - `close N AT`: the end of a session's connection; it prints the reply, or `-` where the session is not connected
 //! - `fill N`: so many commits of session 0; it prints what the last is answered

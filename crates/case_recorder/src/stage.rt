@@ -126,7 +126,7 @@ pub fn told<R: Clock + Wait>(
         stage.generate(alloc, count.parse()?)?;
         return Ok(None);
     }
-    if line == "start 1" {
+    if line == "start 1" || line == "start 2" {
         stage.begin(alloc);
     }
     if stage.is_inside() {

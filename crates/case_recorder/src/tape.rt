@@ -84,5 +84,5 @@ impl Tape {
 
 fn file_of(alloc: Global, recorder: &Recorder, session: u32) -> Result<Bytes, Memory> {
     let calls = recorder.session(session)?;
-    write_session(alloc, &calls, session)
+    write_session(alloc, &calls, session, recorder.start().schema().version())
 }

@@ -114,7 +114,7 @@ fn file_of(
     if !same_items(calls.as_slice(), list.as_slice()) {
         return Err(anyhow!("other calls"));
     }
-    let file = write_session(alloc, &calls, session)?;
+    let file = write_session(alloc, &calls, session, recorder.start().schema().version())?;
     shown::text(alloc, &file)
 }
 

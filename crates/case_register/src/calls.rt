@@ -21,7 +21,7 @@ pub fn append_calls<K: Keeper>(
 
 /// A call, and what it answers: `get NAME`, `add NAME REPORT`, `register NAME REPORT`, `all`, `accept NAME STAMP CLASS`, or
 /// `accepted NAME`. In a REPORT `\NUMBER;` stands for the byte of that number.
-fn append_call<K: Keeper>(
+pub fn append_call<K: Keeper>(
     alloc: Global,
     keeper: &mut K,
     call: &str,
@@ -62,7 +62,7 @@ fn accept<K: Keeper>(
 }
 
 /// What a call without an answer of its own came to.
-fn append_done(done: Result<(), KeepErr>, to: &mut String) -> Result<(), anyhow::Error> {
+pub fn append_done(done: Result<(), KeepErr>, to: &mut String) -> Result<(), anyhow::Error> {
     match done {
         Ok(()) => to.push_str("done")?,
         Err(error) => write!(to, "{error}")?,

@@ -1,18 +1,27 @@
-//! Cases of the register of runs, one on each line: which keeper is called, and its calls with `|` between, or two runs that
-//! are compared. For each line it prints what the calls answer.
+//! Cases of the register of runs, one on each line: which keeper is called, and its calls with `|` between, a report that is
+//! read, or two runs that are compared. For each line it prints what the calls answer.
 //!
 //! - `memory FAILS RUNS CALLS`: a keeper in memory to which these runs were added, of whose calls those with these numbers fail
 //! - `faults CALLS`: one in memory, once for each of the calls, which fails
+//! - `database CALLS`: one over a database in memory
+//! - `file NAME CALLS`: one over a file
+//! - `shared NAME CALLS`: two over one file; a call is that of the first, or of the second behind `other `
+//! - `torn NAME NAME`: a file whose log is cut at many places of a write, each read by the second name
+//! - `report TEXT`: a report that is read
+//! - `altered TEXT`: the same report altered in each line
 //! - `compare LINES LINES ACCEPTED`: two runs, less what was accepted
 //! - `many COUNT`: two runs with so many lines each
 //!
-//! Enters: lines of the standard input. Leaves: as many lines. It touches nothing but the standard input and output. The
-//! expected lines were worked out by hand.
+//! Enters: lines of the standard input. Leaves: as many lines. It touches the standard input and output, and files of its own
+//! where it runs. The expected lines were worked out by hand.
 #![tactic(auto)]
 
 mod calls;
 mod comparisons;
+mod databases;
 mod memory;
+mod reports;
+mod torn;
 
 use case_text::first_word;
 use std::alloc::Global;
@@ -20,17 +29,23 @@ use std::alloc::Global;
 fn main(rt: HostRuntime) -> Result<(), anyhow::Error> {
     let alloc = rt.alloc();
     for line in rt.lines(alloc) {
-        let answer = answer(alloc, line?.as_str())?;
+        let answer = answer(&rt, alloc, line?.as_str())?;
         println!(rt; "{answer}")?;
     }
     Ok(())
 }
 
-fn answer(alloc: Global, line: &str) -> Result<String, anyhow::Error> {
+fn answer(system: &HostRuntime, alloc: Global, line: &str) -> Result<String, anyhow::Error> {
     let (word, rest) = first_word(line);
     match word {
         "memory" => memory::answer(alloc, rest),
         "faults" => memory::faults(alloc, rest),
+        "database" => databases::in_memory(alloc, rest),
+        "file" => databases::in_file(system, alloc, rest),
+        "shared" => databases::shared(system, alloc, rest),
+        "torn" => torn::answer(system, alloc, rest),
+        "report" => reports::answer(alloc, rest),
+        "altered" => reports::altered(alloc, rest),
         "many" => comparisons::many(alloc, rest),
         _ => comparisons::answer(alloc, rest),
     }

@@ -1,6 +1,7 @@
 //! A capture that a case tells by its files: that of the start, and then that of each session.
 
 ghost use Rattle.std.specs.Prelude.{◌≡◌, ◌≤◌, length, IfOk};
+ghost use Rattle.desk_schema.specs.Schema.{IsVersion};
 ghost use Rattle.captured_calls.specs.Sessions.{AreSessionsFrom};
 ghost use Rattle.prepare_plan.specs.Lists.{lists_of};
 
@@ -33,19 +34,20 @@ pub fn capture_of(alloc: Global, files: &[Bytes]) -> Result<Capture, ReadErr>
         Ok(file) => file.start,
         Err(error) => return Err(no_file(error)),
     };
-    let sessions = sessions(alloc, others)?;
+    let sessions = sessions(alloc, start.schema().version(), others)?;
     Ok(Capture { start, sessions })
 }
 
-// The calls of each session, by its file.
-fn sessions(alloc: Global, files: &[Bytes]) -> Result<SessionLists, ReadErr>
-    requires { length files.now ≤ 64 }
+// The calls of each session, by its file of this version.
+fn sessions(alloc: Global, version: u32, files: &[Bytes]) -> Result<SessionLists, ReadErr>
+    requires files { length files.now ≤ 64 }
+    requires version { IsVersion version }
     ensures count { IfOk result (λ sessions. length sessions ≡ length files.now) }
     ensures lists { IfOk result (λ sessions. AreSessionsFrom 0 (lists_of sessions)) }
 {
     let mut sessions = List::new(alloc);
     for i in 0..files.len() {
-        let calls = match read_session(alloc, files[i].as_slice(), i as u32) {
+        let calls = match read_session(alloc, files[i].as_slice(), i as u32, version) {
             Ok(calls) => calls,
             Err(error) => return Err(no_file(error)),
         };

@@ -4,7 +4,8 @@ ghost use Rattle.std.specs.Prelude.{◌≡◌, ◌≤◌, length, IfOk};
 ghost use Rattle.captured_calls.specs.Sessions.{AreSessionsFrom};
 ghost use Rattle.prepare_plan.specs.Lists.{lists_of};
 ghost use Rattle.captured_calls.specs.Verdict.{IsLegal};
-ghost use Rattle.replay_job.specs.Job.{AreKnownOf, HasMoments, IsTarget, seen};
+ghost use Rattle.replay_job.specs.Job.{AreKnownOf, HasMoments, seen};
+ghost use Rattle.desk_schema.specs.Target.{IsTarget};
 ghost use Rattle.replay_job.specs.Replays.{IsSoundJob};
 
 use crate::target::may_begin;

@@ -26,6 +26,8 @@ pub struct Answer {
     pub as_captured: bool,
     /// Whether the call is a numbered commit of the capture.
     pub numbered: bool,
+    /// How many numbered commits it saw there.
+    pub seen: u64,
     /// Whether this commits some rows.
     pub writes: bool,
     /// Whether one of the two replies is that of a commit.
@@ -154,6 +156,7 @@ fn answer_of(
         as_served,
         as_captured: captured.same(reply),
         numbered: call.number > 0,
+        seen: call.seen,
         writes: commits(&reply.outcome),
         commits: is_commit(&captured.outcome) || is_commit(&reply.outcome),
     })

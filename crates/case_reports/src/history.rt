@@ -186,5 +186,7 @@ fn is_required(mode: Mode, call: &Captured, other: &Captured, shared: bool) -> b
         Mode::Scn => seen,
         Mode::Object => seen && shared,
         Mode::Order => other.stamp < call.stamp,
+        Mode::Fence if call.number > 0 => other.stamp < call.stamp,
+        Mode::Fence => seen,
     }
 }

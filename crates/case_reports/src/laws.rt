@@ -26,6 +26,7 @@ pub enum Rule {
     Tables,
     Capture,
     Ordered,
+    Seen,
     SameCommits,
     OwnCommits,
     EndTables,
@@ -34,7 +35,7 @@ pub enum Rule {
 }
 
 /// What each law says.
-const NAMES: [&str; 23] = [
+const NAMES: [&str; 24] = [
     "the journal is read back with its mode and events",
     "each call is started and answered once",
     "a call starts behind the answers that its mode waits for",
@@ -52,7 +53,8 @@ const NAMES: [&str; 23] = [
     "maps.csv",
     "tables.txt",
     "a machine answers the capture as captured",
-    "scn, order: numbered commits are answered in captured order",
+    "scn, order, fence: numbered commits are answered in captured order",
+    "order, fence: the numbered commits answered before a call are those that it saw",
     "without a write divergence: a numbered commit is the same",
     "without a write divergence: no other commit writes",
     "without a write divergence: the tables are the captured ones by the final map",

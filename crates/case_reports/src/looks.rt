@@ -104,8 +104,11 @@ fn look_at_end(
     laws: &mut Laws,
 ) -> Result<(), anyhow::Error> {
     let tables = server.tables()?;
-    if matches!(replay.mode, Mode::Scn | Mode::Order) {
+    if matches!(replay.mode, Mode::Scn | Mode::Order | Mode::Fence) {
         look_at_commits(replayed, case.end, tables.as_slice(), laws);
+    }
+    if matches!(replay.mode, Mode::Order | Mode::Fence) {
+        look_at_seen(replayed.answers.as_slice(), laws);
     }
     look_at_tables(alloc, board, replayed, tables.as_slice(), laws)?;
     look_at_told(alloc, case, replay, board, replayed, laws)
@@ -124,6 +127,17 @@ fn look_at_commits(replayed: &Replayed, end: &[Image], tables: &[Image], laws: &
         let carried = are_carried(replayed.pairs.as_slice(), end, tables);
         laws.see(Rule::EndTables, carried && end.len() == tables.len());
         look_at_writes(answers, laws);
+    }
+}
+
+// As many numbered commits are answered before each call as it saw. They are answered by rising stamp, so they are those.
+fn look_at_seen(answers: &[Answer], laws: &mut Laws) {
+    let mut commits = 0u64;
+    for answer in answers {
+        laws.see_at(Rule::Seen, answer.line.stamp, answer.seen == commits);
+        if answer.numbered {
+            commits = commits.saturating_add(1);
+        }
     }
 }
 

@@ -1,9 +1,9 @@
-//! Random captures, replayed in random permitted orders, in the modes `off`, `scn`, `object` and `order` in turn.
+//! Random captures, replayed in random permitted orders, in the modes `off`, `scn`, `object`, `order` and `fence` in turn.
 //! Before each event the desk is asked of every stamp whether it is ready and whether it waits, and for the first open
 //! call; what it says is compared with a plain computation from the capture and the events so far. What a replay tells
 //! (its journal, its report, its tables and its pairs of ids) is compared with a plain computation from the journal
-//! that was written and the capture. In the modes `scn` and `order` it is also looked at whether commits keep their
-//! order, and whether the tables at the end are the captured ones.
+//! that was written and the capture. In the modes `scn`, `order` and `fence` it is also looked at whether commits
+//! keep their order, and whether the tables at the end are the captured ones.
 //!
 //! Then as many captures as are asked for are replayed by 2 to 8 lanes, in the same modes, with a door that holds each call for a
 //! random time, and the same is looked at of each: all but what the desk says on the way. How many of these replays took

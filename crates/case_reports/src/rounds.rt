@@ -226,12 +226,8 @@ fn one_or_none(services: &[Service], place: usize) -> &[Service] {
 
 // The modes take turns.
 fn mode_of(replay: u32) -> Mode {
-    match replay % 4 {
-        0 => Mode::Off,
-        1 => Mode::Scn,
-        2 => Mode::Object,
-        _ => Mode::Order,
-    }
+    let place = replay as usize % Mode::ALL.len();
+    Mode::ALL.get(place).copied().unwrap_or(Mode::Order)
 }
 
 // A replay, which is looked at.

@@ -1,7 +1,7 @@
 //! Random calls.
 //!
 //! A line tells a kind of call: its form and its text. `:1` and `:2` stand for keys from 1 to 12, `:3` for a number below
-//! 100.
+//! 100. A savepoint's name is the last letter of the text.
 
 use anyhow::anyhow;
 use case_text::Random;
@@ -23,6 +23,10 @@ pub enum Form {
     Gone,
     /// It makes a row with the key `:1`.
     New,
+    /// It sets the savepoint of this letter.
+    Savepoint(u8),
+    /// It goes back to the savepoint of this letter.
+    Back(u8),
 }
 
 /// A kind of call.
@@ -36,13 +40,13 @@ impl Kind {
     /// The kind that a line tells.
     pub fn of_line(alloc: Global, line: &str) -> Result<Kind, anyhow::Error> {
         let (word, text) = line.split_once(' ').ok_or(anyhow!("no text"))?;
-        let form = form_of(word).ok_or(anyhow!("no such form"))?;
+        let form = form_of(word, text).ok_or(anyhow!("no such form"))?;
         let text = Txt::from_bytes(alloc, text.as_bytes())?;
         Ok(Kind { form, text })
     }
 }
 
-fn form_of(word: &str) -> Option<Form> {
+fn form_of(word: &str, text: &str) -> Option<Form> {
     match word {
         "connect" => Some(Form::Connect),
         "disconnect" => Some(Form::Disconnect),
@@ -51,6 +55,8 @@ fn form_of(word: &str) -> Option<Form> {
         "moved" => Some(Form::Moved),
         "gone" => Some(Form::Gone),
         "new" => Some(Form::New),
+        "savepoint" => Some(Form::Savepoint(*text.as_bytes().last()?)),
+        "back" => Some(Form::Back(*text.as_bytes().last()?)),
         _ => None,
     }
 }

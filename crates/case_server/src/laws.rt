@@ -53,6 +53,7 @@ pub struct Laws {
     faults: Vec<u64>,
     kept: Law,
     ended: Law,
+    back: Law,
     drawn: Law,
     seen: Law,
     unseen: Law,
@@ -79,6 +80,7 @@ impl Laws {
             faults,
             kept: Law::new("only a commit with images changes the committed rows"),
             ended: Law::new("a rollback or a disconnect leaves the committed rows alone"),
+            back: Law::new("going back to a savepoint shows what the session held then as it was"),
             drawn: Law::new("a draw gives the value after the last one, so none comes twice"),
             seen: Law::new("after a commit a plain session sees what it wrote"),
             unseen: Law::new("after a commit a read-only transaction sees what it saw"),
@@ -103,6 +105,7 @@ impl Laws {
         for law in [
             &self.kept,
             &self.ended,
+            &self.back,
             &self.drawn,
             &self.seen,
             &self.unseen,
@@ -129,16 +132,22 @@ impl Laws {
                 Ok(())
             }
             _ => {
-                self.look_at_rows(seen);
+                self.look_at_rows(server.went_back(seen), seen);
                 Ok(())
             }
         }
     }
 
-    // No committed row is other than before.
-    fn look_at_rows(&mut self, seen: &Seen) {
+    // No committed row is other than before, also where the session went back to a savepoint.
+    fn look_at_rows(&mut self, went_back: Option<bool>, seen: &Seen) {
         let same = seen.before.same_rows(&seen.after);
         self.kept.see(self.calls, same);
+        if let Outcome::RolledBack = &seen.reply.outcome {
+            if let Some(as_then) = went_back {
+                self.back.see(self.calls, same && as_then);
+                return;
+            }
+        }
         match &seen.reply.outcome {
             Outcome::RolledBack => {
                 let undone = shows_all(seen.after.view(), seen.after.rows());

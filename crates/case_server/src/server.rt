@@ -4,7 +4,7 @@ use crate::calls::{Ask, Form};
 use anyhow::anyhow;
 use capture_format::read_start;
 use desk_values::{
-    Binds, Bytes, Call, Copied, Image, Images, Memory, Outcome, Reply, Same, Txt, Value,
+    Binds, Bytes, Call, Copied, Image, Images, Memory, Outcome, Reply, Same, Txt, Value, Values,
 };
 use std::alloc::Global;
 use std::marker::Model;
@@ -66,10 +66,24 @@ pub struct Touch {
 #[derive(Drop)]
 pub struct Seen {
     pub session: u32,
+    pub form: Form,
     pub touch: Touch,
     pub before: Sight,
     pub reply: Reply,
     pub after: Sight,
+}
+
+/// A savepoint that a session has.
+#[derive(Drop)]
+struct Point {
+    session: u32,
+    name: u8,
+    /// It is greater than that of each savepoint that was set before it.
+    order: u64,
+    /// How many things the session held.
+    held: usize,
+    /// What the session was told of all rows of the small table.
+    view: Outcome,
 }
 
 /// What a session is.
@@ -123,11 +137,15 @@ impl Machine {
 /// The server. Contracts see nothing of it.
 #[derive(Drop)]
 pub struct Server {
+    alloc: Global,
     machine: Machine,
     /// The call that asks for all rows of the small table.
     look: Call,
-    /// Which session holds what.
+    /// Which session holds what, in the order in which it came.
     holds: Vec<(u32, Thing)>,
+    points: Vec<Point>,
+    /// How many savepoints were set.
+    set: u64,
     modes: Vec<Mode>,
     /// The last value that was drawn.
     drawn: u64,
@@ -146,9 +164,12 @@ impl Server {
         let look = Txt::from_bytes(alloc, b"SELECT ROWID, id, qty, name, no FROM t")?;
         let modes = nobody(alloc)?;
         Ok(Server {
+            alloc,
             machine,
             look: Call::Sql(look, Binds::new(alloc)),
             holds: Vec::new(alloc),
+            points: Vec::new(alloc),
+            set: 0,
             modes,
             drawn: 0,
         })
@@ -161,6 +182,7 @@ impl Server {
         let after = looked(&mut self.machine, session, &self.look)?;
         Ok(Seen {
             session,
+            form: ask.form,
             touch: touched(ask, before.view()),
             before,
             reply,
@@ -193,6 +215,37 @@ impl Server {
         false
     }
 
+    /// Whether a session that went back to a savepoint is told of each row that it held then what it was told then.
+    pub fn went_back(&self, seen: &Seen) -> Option<bool> {
+        let Form::Back(name) = seen.form else {
+            return None;
+        };
+        let point = self.point(seen.session, name)?;
+        Some(self.shows_held(point, seen.after.view()))
+    }
+
+    fn shows_held(&self, point: &Point, view: &Outcome) -> bool {
+        let mut left = point.held;
+        for (holder, thing) in self.holds.iter() {
+            if *holder == point.session && left > 0 {
+                left -= 1;
+                if !same_thing(&point.view, view, *thing) {
+                    return false;
+                }
+            }
+        }
+        true
+    }
+
+    fn point(&self, session: u32, name: u8) -> Option<&Point> {
+        for point in self.points.iter() {
+            if point.session == session && point.name == name {
+                return Some(point);
+            }
+        }
+        None
+    }
+
     /// Learns from a call who holds what now, and what the session is.
     pub fn learn(&mut self, seen: &Seen) -> Result<(), anyhow::Error> {
         for draw in seen.reply.draws.as_slice() {
@@ -205,14 +258,50 @@ impl Server {
             Outcome::Connected => self.turn(seen.session, Mode::Plain),
             Outcome::Disconnected => self.end(seen.session, Mode::Out),
             Outcome::Marked => self.mark(seen),
-            Outcome::Committed(_) | Outcome::RolledBack => self.end(seen.session, Mode::Plain),
+            Outcome::Committed(_) => self.end(seen.session, Mode::Plain),
+            Outcome::RolledBack => self.roll_back(seen),
             Outcome::Refused(_) => Ok(()),
         }
     }
 
     fn mark(&mut self, seen: &Seen) -> Result<(), anyhow::Error> {
+        if let Form::Savepoint(name) = seen.form {
+            return self.set_point(seen, name);
+        }
         let saw = seen.before.view().copy()?;
         self.turn(seen.session, Mode::ReadOnly(saw))
+    }
+
+    fn set_point(&mut self, seen: &Seen, name: u8) -> Result<(), anyhow::Error> {
+        let session = seen.session;
+        let view = seen.before.view().copy()?;
+        let held = count_held(self.holds.as_slice(), session);
+        self.set = self.set.saturating_add(1);
+        self.points
+            .retain(|point| point.session != session || point.name != name);
+        self.points.push(Point {
+            session,
+            name,
+            order: self.set,
+            held,
+            view,
+        })?;
+        Ok(())
+    }
+
+    fn roll_back(&mut self, seen: &Seen) -> Result<(), anyhow::Error> {
+        let session = seen.session;
+        let Form::Back(name) = seen.form else {
+            return self.end(session, Mode::Plain);
+        };
+        let Some(point) = self.point(session, name) else {
+            return Err(anyhow!("no such savepoint"));
+        };
+        let (order, held) = (point.order, point.held);
+        self.holds = first_held(self.alloc, self.holds.as_slice(), session, held)?;
+        self.points
+            .retain(|point| point.session != session || point.order <= order);
+        Ok(())
     }
 
     fn hold(&mut self, seen: &Seen) -> Result<(), anyhow::Error> {
@@ -230,6 +319,7 @@ impl Server {
 
     fn end(&mut self, session: u32, mode: Mode) -> Result<(), anyhow::Error> {
         self.holds.retain(|hold| hold.0 != session);
+        self.points.retain(|point| point.session != session);
         self.turn(session, mode)
     }
 
@@ -248,6 +338,62 @@ fn nobody(alloc: Global) -> Result<Vec<Mode>, anyhow::Error> {
         modes.push(Mode::Out)?;
     }
     Ok(modes)
+}
+
+fn count_held(holds: &[(u32, Thing)], session: u32) -> usize {
+    let mut count: usize = 0;
+    for (holder, _) in holds.iter() {
+        if *holder == session {
+            count = count.saturating_add(1);
+        }
+    }
+    count
+}
+
+// The first things that a session holds, so many, and all that the others hold.
+fn first_held(
+    alloc: Global,
+    holds: &[(u32, Thing)],
+    session: u32,
+    count: usize,
+) -> Result<Vec<(u32, Thing)>, Memory> {
+    let mut kept = Vec::new(alloc);
+    let mut left = count;
+    for (holder, thing) in holds.iter() {
+        if *holder != session {
+            kept.push((*holder, *thing))?;
+        } else if left > 0 {
+            left -= 1;
+            kept.push((*holder, *thing))?;
+        }
+    }
+    Ok(kept)
+}
+
+// Whether two views have the same of a row. A key is in no view by itself.
+fn same_thing(one: &Outcome, other: &Outcome, thing: Thing) -> bool {
+    let Thing::Row(number) = thing else {
+        return true;
+    };
+    match (row_of(one, number), row_of(other, number)) {
+        (Some(left), Some(right)) => left.same(right),
+        (None, None) => true,
+        _ => false,
+    }
+}
+
+fn row_of(view: &Outcome, number: u64) -> Option<&Values> {
+    let Outcome::Rows(rows) = view else {
+        return None;
+    };
+    for row in rows.as_slice() {
+        if let [Value::Row(own), ..] = row.as_slice() {
+            if *own == number {
+                return Some(row);
+            }
+        }
+    }
+    None
 }
 
 fn touches(touch: &Touch, thing: Thing) -> bool {

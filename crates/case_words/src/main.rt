@@ -104,6 +104,9 @@ fn run_shown(
     if let Some(remap) = &ways.remap {
         write!(line, " remap {}", Path(remap))?;
     }
+    if let Some(change) = &ways.change {
+        write!(line, " change {}", Path(change))?;
+    }
     if let Some(lanes) = ways.lanes {
         write!(line, " lanes {lanes}")?;
     }

@@ -7,9 +7,9 @@ use Rattle.std.proofs.lemmas.List.{get_or-replicate, get_or_past, length-replica
 use Rattle.std.proofs.lemmas.Bool.{false≢true, both_ways, cases_Bool, cases_lt, and_parts, and_from}
 use Rattle.std.proofs.lemmas.List.Sums.{sum_by-cons}
 use Rattle.replay_history.specs.declared.mode.Mode.{Mode}
-use Rattle.replay_history.specs.declared.mode.Mode.TheVariants.{Scn, Object, Order}
+use Rattle.replay_history.specs.declared.mode.Mode.TheVariants.{Scn, Object, Order, Fence}
 use Rattle.object_depends.specs.declared.fact.Fact.{Fact}
-use Rattle.object_depends.specs.Facts.{fact_at, AreSound}
+use Rattle.object_depends.specs.Facts.{fact_at, is_commit, AreSound}
 use Rattle.object_depends.specs.Inside.{awaits}
 use Rattle.object_depends.proofs.Sound.{required_before, required_awaited, awaited_required}
 use Rattle.object_depends.proofs.Sharing.{shares_from, shares_some}
@@ -63,6 +63,12 @@ by_object a is k lt = by_tables a.facts a.answered.items a.tables.items is.sound
 
 pub by_order : (a : Inside) → IsGate a → (k : ℕ) → k < length a.facts → (k ≤ a.every.at) ↔ AreRequiredAnswered Order a.facts a.answered.items k
 by_order a is k lt = by_mark Order Every a.facts a.answered.items a.every k (λ j. refl) is.sound is.every lt
+
+pub by_fence : (a : Inside) → IsGate a → (k : ℕ) → k < length a.facts → is_commit (fact_at a.facts k) ≡ true → (k ≤ a.every.at) ↔ AreRequiredAnswered Fence a.facts a.answered.items k
+by_fence a is k lt commit = by_mark Fence Every a.facts a.answered.items a.every k (λ j. rw commit refl) is.sound is.every lt
+
+pub by_fence_seen : (a : Inside) → IsGate a → (k : ℕ) → k < length a.facts → is_commit (fact_at a.facts k) ≡ false → (k ≤ a.commits.at) ↔ AreRequiredAnswered Fence a.facts a.answered.items k
+by_fence_seen a is k lt none = by_mark Fence Commits a.facts a.answered.items a.commits k (λ j. rw none refl) is.sound is.commits lt
 
 -- a gate is never stuck
 pub first_is_ready : (gate : GateView) → AreSound gate.facts → (k : ℕ) → IsFirstOpen gate k → (is_in gate.started k ≡ true) ⊎ IsReady gate k

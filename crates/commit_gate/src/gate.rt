@@ -122,16 +122,18 @@ impl Gate {
     }
 
     // Whether the marks that a call waits for have come to it.
-    fn marks_passed(&self, refs: u32, k: u32) -> bool
+    fn marks_passed(&self, call: &Fact, k: u32) -> bool
         requires stamp { k < length self.now.facts }
-        requires refs { refs ≡ (fact_at self.now.facts k).refs }
+        requires call { call.now ≡ fact_at self.now.facts k }
         ensures { IsTrue result ↔ AreRequiredAnswered self.now.mode self.now.facts self.now.answered k }
     {
         match self.mode {
             Mode::Off => true,
             Mode::Scn => k <= self.commits.at,
-            Mode::Object => tables_passed(self.tables.as_slice(), refs, k),
+            Mode::Object => tables_passed(self.tables.as_slice(), call.refs, k),
             Mode::Order => k <= self.every.at,
+            Mode::Fence if 0 < call.number => k <= self.every.at,
+            Mode::Fence => k <= self.commits.at,
         }
     }
 
@@ -144,8 +146,8 @@ impl Gate {
         if stamp >= self.facts.len() || self.started[stamp] {
             return false;
         }
-        let Fact { session, refs, .. } = self.facts.as_slice()[stamp];
-        self.is_turn(session, k) && self.marks_passed(refs, k)
+        let call = self.facts.as_slice()[stamp];
+        self.is_turn(call.session, k) && self.marks_passed(&call, k)
     }
 
     /// Notes that a call is started.

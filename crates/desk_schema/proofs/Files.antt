@@ -5,15 +5,15 @@ use Rattle.std.proofs.lemmas.List.{append_assoc, append-nil}
 use Rattle.std.proofs.lemmas.List.Sums.{fold-append}
 use Rattle.desk_schema.specs.declared.line.StartLine.{StartLine}
 use Rattle.desk_values.specs.Limits.{session_limit}
-use Rattle.desk_schema.specs.declared.line.StartLine.TheVariants.{NextRow, Sessions, End}
+use Rattle.desk_schema.specs.declared.line.StartLine.TheVariants.{Head, Level as LevelLine, Seq as SeqLine, Service as ServiceLine, Table as TableLine, Column as ColumnLine, Row as RowLine, NextRow, Sessions, End}
 use Rattle.desk_schema.specs.declared.schema.Table.{Table}
-use Rattle.desk_schema.specs.Schema.{HasColumns, IsSchema}
+use Rattle.desk_schema.specs.Schema.{HasColumns, IsSchema, IsVersion}
 use Rattle.desk_schema.specs.Start.{StartView, part_lines, lines_of, file_lines}
-use Rattle.desk_schema.specs.State.{State, nothing, added, state_after, state_of}
+use Rattle.desk_schema.specs.State.{State, nothing, place, added, state_after, state_of}
 use Rattle.desk_schema.specs.Rules.{MayFollow, AreLinesFrom, AreLines}
 use Rattle.desk_schema.specs.Sound.{IsSoundTable, IsSoundStart}
 use Rattle.desk_schema.specs.Inside.Sound.{IsSoundState}
-use Rattle.desk_schema.specs.Draft.{IsReached}
+use Rattle.desk_schema.specs.Draft.{IsReached, with_version}
 use Rattle.desk_schema.specs.File.{IsStart, IsFile, IsFileOf}
 use Rattle.desk_schema.proofs.Growth.{written, written_added}
 use Rattle.desk_schema.proofs.Steps.{sound_nothing, sound_added}
@@ -55,14 +55,77 @@ reached_more state line is rule = record {
   leads = after_both is.lines (line ∷ []) ∙ ap (λ (s : State). added s line) is.leads;
 }
 
+-- ---- the same lines with another version
+
+may_still : (version : ℕ) (state : State) (line : StartLine) → MayFollow state line → MayFollow (with_version version state) line
+may_still version state (Head other) rule = rule
+may_still version state (LevelLine level) rule = rule
+may_still version state (SeqLine name next) rule = rule
+may_still version state (ServiceLine name rights) rule = rule
+may_still version state (TableLine name) rule = rule
+may_still version state (ColumnLine name kind not_null) rule = rule
+may_still version state (RowLine row table values) rule = record { fits = rule.fits; key = rule.key }
+may_still version state (NextRow next) rule = rule
+may_still version state (Sessions count) rule = rule
+may_still version state End rule = rule
+
+added_still : (version : ℕ) (state : State) (line : StartLine) → 1 ≤ state.last → MayFollow state line
+    → added (with_version version state) line ≡ with_version version (added state line)
+added_still version state (Head other) late rule = absurd (omega (arith, rule.0))
+added_still version state (LevelLine level) late rule = refl
+added_still version state (SeqLine name next) late rule = refl
+added_still version state (ServiceLine name rights) late rule = refl
+added_still version state (TableLine name) late rule = refl
+added_still version state (ColumnLine name kind not_null) late rule = refl
+added_still version state (RowLine row table values) late rule = refl
+added_still version state (NextRow next) late rule = refl
+added_still version state (Sessions count) late rule = refl
+added_still version state End late rule = refl
+
+some_place : (line : StartLine) → 1 ≤ place line
+some_place (Head version) = omega arith
+some_place _ = omega arith
+
+lines_still : (version : ℕ) (state : State) (lines : List StartLine) → 1 ≤ state.last → AreLinesFrom state lines
+    → AreLinesFrom (with_version version state) lines × (state_after (with_version version state) lines ≡ with_version version (state_after state lines))
+lines_still version state [] late are = (tt, refl)
+lines_still version state (line ∷ lines) late are =
+    let P : State → Type 0 = λ s. AreLinesFrom s lines × (state_after s lines ≡ with_version version (state_after (added state line) lines)) in
+    let rest = subst P (sym (added_still version state line late are.0)) (lines_still version (added state line) lines (some_place line) are.1) in
+    ((may_still version state line are.0, rest.0), rest.1)
+
+-- the first line is the version
+reached_by : (version : ℕ) (state : State) (lines : List StartLine) → IsVersion version → 1 ≤ state.last → AreLines lines → state_of lines ≡ state
+    → IsReached (with_version version state)
+reached_by version state [] is late are leads = let e : 0 ≡ state.last = ap (λ (s : State). s.last) leads in absurd (omega arith)
+reached_by version state (Head other ∷ lines) is late are leads =
+    let rest = lines_still version (added nothing (Head other)) lines (omega arith) are.1 in
+    record { lines = Head version ∷ lines; are_lines = ((refl, is), rest.0); leads = rest.1 ∙ ap (with_version version) leads }
+reached_by version state (LevelLine level ∷ lines) is late are leads = absurd (omega (arith, are.0.0))
+reached_by version state (SeqLine name next ∷ lines) is late are leads = absurd (omega (arith, are.0.order.from))
+reached_by version state (ServiceLine name rights ∷ lines) is late are leads = absurd (omega (arith, are.0.order.from))
+reached_by version state (TableLine name ∷ lines) is late are leads = absurd (omega (arith, are.0.order.from))
+reached_by version state (ColumnLine name kind not_null ∷ lines) is late are leads = absurd (omega (arith, are.0.order.from))
+reached_by version state (RowLine row table values ∷ lines) is late are leads = absurd (omega (arith, are.0.fits.order.from))
+reached_by version state (NextRow next ∷ lines) is late are leads = absurd (omega (arith, are.0.order.from))
+reached_by version state (Sessions count ∷ lines) is late are leads = absurd (omega (arith, are.0.0))
+reached_by version state (End ∷ lines) is late are leads = absurd (omega (arith, are.0))
+
+pub reached_with : (version : ℕ) (state : State) → IsVersion version → 1 ≤ state.last → IsReached state → IsReached (with_version version state)
+reached_with version state is late reached = reached_by version state reached.lines is late reached.are_lines reached.leads
+
+pub sound_reached : (state : State) → IsReached state → IsSoundState state
+sound_reached state reached = let P : State → Type 0 = IsSoundState in subst P reached.leads (sound_of reached.lines reached.are_lines)
+
 -- ---- a start
 
 all_have_columns : (sequences : ℕ) (tables : List Table) → AllByRecursion (IsSoundTable sequences) tables → AllByRecursion (λ table. 1 ≤ length table.columns) tables → AllByRecursion HasColumns tables
 all_have_columns sequences [] sound whole = tt
 all_have_columns sequences (table ∷ tables) sound whole = (record { least = whole.0; most = sound.0.most }, all_have_columns sequences tables sound.1 whole.1)
 
-pub whole_schema : (state : State) → IsSoundState state → (state.last ≡ 5 → ⊥) → IsSchema state.start.schema
-whole_schema state is whole = let schema = state.start.schema in record {
+pub whole_schema : (state : State) → IsSoundState state → 1 ≤ state.last → (state.last ≡ 5 → ⊥) → IsSchema state.start.schema
+whole_schema state is late whole = let schema = state.start.schema in record {
+  version = is.order.version late;
   sequences = is.sound.sequences.most;
   services = is.sound.is_schema.services;
   tables = is.sound.is_schema.tables;
@@ -85,7 +148,7 @@ sound_start start is =
     let sound = sound_of (lines_of start) is.lines in
     let last : state.last ≡ 8 = last_of_start start in
     let P : StartView → Type 0 = IsSoundStart in
-    subst P is.declared (record { level = sound.order.level (omega arith); is_schema = whole_schema state sound (λ five. omega arith); sound = sound.sound; next_row = sound.next_row (omega arith) })
+    subst P is.declared (record { level = sound.order.level (omega arith); is_schema = whole_schema state sound (omega arith) (λ five. omega arith); sound = sound.sound; next_row = sound.next_row (omega arith) })
 
 -- ---- files and starts, both ways
 

@@ -24,7 +24,7 @@ lines_at last start sessions =
     (cond (nat_le 9 last) (lines_of start ++ Sessions sessions ∷ [])
     (cond (nat_le 8 last) (lines_of start)
     (cond (nat_le 2 last) (part_lines start)
-    (cond (nat_le 1 last) (Head ∷ []) []))))
+    (cond (nat_le 1 last) (Head start.schema.version ∷ []) []))))
 
 abbrev pub written : State → List StartLine
 written state = lines_at state.last state.start state.sessions
@@ -55,7 +55,7 @@ module _ (start : StartView) where
 
   -- the first two lines, and more
   abbrev opened : List StartLine → List StartLine
-  opened lines = Head ∷ LevelLine start.schema.level ∷ lines
+  opened lines = Head start.schema.version ∷ LevelLine start.schema.level ∷ lines
 
   abbrev first : List StartLine
   first = sequence_lines names start.next_values
@@ -87,7 +87,7 @@ module _ (start : StartView) where
 
 -- one more line that may follow
 pub written_added : (state : State) (line : StartLine) → IsSoundState state → MayFollow state line → written (added state line) ≡ written state ++ line ∷ []
-written_added state Head is rule = rw rule refl
+written_added state (Head version) is rule = rw rule.0 refl
 written_added state (LevelLine level) is rule =
     let o = is.order in
     rw (rule.0, o.no_sequences (omega (arith, rule.0)), o.no_services (omega (arith, rule.0)), o.no_tables (omega (arith, rule.0)), o.no_rows (omega (arith, rule.0))) refl

@@ -11,3 +11,10 @@ pub mod Lasts
 pub mod Files
 pub mod Columns
 pub mod Drafting
+pub mod LinesSaid
+pub mod Edits
+pub mod Targets
+pub mod Records
+pub mod RecordFields
+pub mod Placing
+pub mod Changing

@@ -30,7 +30,7 @@ use Rattle.desk_schema.proofs.Sequences.{with_name-with_number}
 
 pub sound_nothing : IsSoundState nothing
 sound_nothing = record {
-  order = record { level = λ h. absurd (omega arith); no_sequences = λ _. refl; no_services = λ _. refl; no_tables = λ _. refl; some_table = λ h k. absurd (omega arith); no_rows = λ _. refl; begun = tt; whole = λ _. tt };
+  order = record { version = λ h. absurd (omega arith); level = λ h. absurd (omega arith); no_sequences = λ _. refl; no_services = λ _. refl; no_tables = λ _. refl; some_table = λ h k. absurd (omega arith); no_rows = λ _. refl; begun = tt; whole = λ _. tt };
   sound = record {
     sequences = record { most = omega arith; counts = refl; are_names = tt; distinct = λ place h. absurd (omega arith); limits = tt };
     is_schema = record { services = omega arith; services_named = tt; services_distinct = λ place h. absurd (omega arith); tables = omega arith; tables_sound = tt; tables_distinct = λ place h. absurd (omega arith) };
@@ -116,21 +116,23 @@ length-with_column (table ∷ next ∷ tables) column = ap suc (length-with_colu
 -- ---- the order
 
 order_added : (state : State) (line : StartLine) → IsSoundState state → MayFollow state line → IsInOrder (place line) (start_with state.start line)
-order_added state Head is rule =
+order_added state (Head version) is rule =
     let o = is.order in
     record {
+      version = λ _. rule.1;
       level = λ h. absurd (omega arith);
-      no_sequences = λ _. o.no_sequences (omega (arith, rule));
-      no_services = λ _. o.no_services (omega (arith, rule));
-      no_tables = λ _. o.no_tables (omega (arith, rule));
+      no_sequences = λ _. o.no_sequences (omega (arith, rule.0));
+      no_services = λ _. o.no_services (omega (arith, rule.0));
+      no_tables = λ _. o.no_tables (omega (arith, rule.0));
       some_table = λ h k. absurd (omega arith);
-      no_rows = λ _. o.no_rows (omega (arith, rule));
+      no_rows = λ _. o.no_rows (omega (arith, rule.0));
       begun = o.begun;
-      whole = λ _. o.whole (λ h. omega (arith, rule));
+      whole = λ _. o.whole (λ h. omega (arith, rule.0));
     }
 order_added state (LevelLine level) is rule =
     let o = is.order in
     record {
+      version = λ _. o.version (omega (arith, rule.0));
       level = λ _. rule.1;
       no_sequences = λ _. o.no_sequences (omega (arith, rule.0));
       no_services = λ _. o.no_services (omega (arith, rule.0));
@@ -145,6 +147,7 @@ order_added state (SeqLine name next) is rule =
     let low = rule.order.from in
     let high = rule.order.to in
     record {
+      version = λ _. o.version (omega arith);
       level = λ _. o.level low;
       no_sequences = λ h. absurd (omega arith);
       no_services = λ _. o.no_services high;
@@ -159,6 +162,7 @@ order_added state (ServiceLine name rights) is rule =
     let low = rule.order.from in
     let high = rule.order.to in
     record {
+      version = λ _. o.version (omega arith);
       level = λ _. o.level low;
       no_sequences = λ h. absurd (omega arith);
       no_services = λ h. absurd (omega arith);
@@ -172,6 +176,7 @@ order_added state (TableLine name) is rule =
     let o = is.order in
     let tables = state.start.schema.tables in
     record {
+      version = λ _. o.version (omega (arith, rule.order.from));
       level = λ _. o.level rule.order.from;
       no_sequences = λ h. absurd (omega arith);
       no_services = λ h. absurd (omega arith);
@@ -188,6 +193,7 @@ order_added state (ColumnLine name kind not_null) is rule =
     let column : Column = record { name = name; kind = with_number state.start.schema.sequences kind; not_null = not_null } in
     let whole : AllByRecursion (λ table. 1 ≤ length table.columns) (with_column tables column) = whole-with_column tables column o.begun in
     record {
+      version = λ _. o.version (omega arith);
       level = λ _. o.level (omega arith);
       no_sequences = λ h. absurd (omega arith);
       no_services = λ h. absurd (omega arith);
@@ -201,6 +207,7 @@ order_added state (RowLine row table values) is rule =
     let o = is.order in
     let low = rule.fits.order.from in
     record {
+      version = λ _. o.version (omega arith);
       level = λ _. o.level (omega arith);
       no_sequences = λ h. absurd (omega arith);
       no_services = λ h. absurd (omega arith);
@@ -213,6 +220,7 @@ order_added state (RowLine row table values) is rule =
 order_added state (NextRow next) is rule =
     let o = is.order in
     record {
+      version = λ _. o.version (omega (arith, rule.order.from));
       level = λ _. o.level rule.order.from;
       no_sequences = λ h. absurd (omega arith);
       no_services = λ h. absurd (omega arith);
@@ -225,6 +233,7 @@ order_added state (NextRow next) is rule =
 order_added state (Sessions count) is rule =
     let o = is.order in
     record {
+      version = λ _. o.version (omega (arith, rule.0));
       level = λ _. o.level (omega (arith, rule.0));
       no_sequences = λ h. absurd (omega arith);
       no_services = λ h. absurd (omega arith);
@@ -237,6 +246,7 @@ order_added state (Sessions count) is rule =
 order_added state End is rule =
     let o = is.order in
     record {
+      version = λ _. o.version (omega (arith, rule));
       level = λ _. o.level (omega (arith, rule));
       no_sequences = λ h. absurd (omega arith);
       no_services = λ h. absurd (omega arith);
@@ -268,7 +278,18 @@ module _ {X : Type 0} (name_in : X → List ℕ) (items : List X) (item : X) whe
   all_distinct distinct fresh = let P : List (List ℕ) → Type 0 = AreDistinct in subst P (sym (map-append name_in items (item ∷ []))) (distinct-push (map name_in items) (name_in item) distinct fresh)
 
 parts_added : (state : State) (line : StartLine) → IsSoundState state → MayFollow state line → IsSound (start_with state.start line)
-parts_added state Head is rule = is.sound
+parts_added state (Head version) is rule = let old = is.sound in record {
+  sequences = old.sequences;
+  is_schema = record {
+    services = old.is_schema.services;
+    services_named = old.is_schema.services_named;
+    services_distinct = old.is_schema.services_distinct;
+    tables = old.is_schema.tables;
+    tables_sound = old.is_schema.tables_sound;
+    tables_distinct = old.is_schema.tables_distinct;
+  };
+  sound_rows = no_rows _ _ _ (is.order.no_rows (omega (arith, rule.0)));
+}
 parts_added state (LevelLine level) is rule = let old = is.sound in record {
   sequences = old.sequences;
   is_schema = record {
@@ -378,7 +399,7 @@ parts_added state (Sessions count) is rule = is.sound
 parts_added state End is rule = is.sound
 
 next_row_added : (state : State) (line : StartLine) → IsSoundState state → MayFollow state line → 8 ≤ place line → IsSoundNextRow (start_with state.start line)
-next_row_added state Head is rule late = absurd (omega arith)
+next_row_added state (Head version) is rule late = absurd (omega arith)
 next_row_added state (LevelLine level) is rule late = absurd (omega arith)
 next_row_added state (SeqLine name next) is rule late = absurd (omega arith)
 next_row_added state (ServiceLine name rights) is rule late = absurd (omega arith)
@@ -390,7 +411,7 @@ next_row_added state (Sessions count) is rule late = is.next_row (omega (arith, 
 next_row_added state End is rule late = is.next_row (omega (arith, rule))
 
 sessions_added : (state : State) (line : StartLine) → IsSoundState state → MayFollow state line → sessions_with state.sessions line ≤ session_limit
-sessions_added state Head is rule = is.sessions
+sessions_added state (Head version) is rule = is.sessions
 sessions_added state (LevelLine level) is rule = is.sessions
 sessions_added state (SeqLine name next) is rule = is.sessions
 sessions_added state (ServiceLine name rights) is rule = is.sessions

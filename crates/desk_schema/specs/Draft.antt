@@ -31,6 +31,10 @@ drafted last schema nexts rows =
 abbrev pub finished : StartView → State
 finished start = record { last = 8; start = start; sessions = 0 }
 
+-- the state with another version in its first line
+abbrev pub with_version : ℕ → State → State
+with_version version state = record state { start = record state.start { schema = record state.start.schema { version = version } } }
+
 -- lines that keep the rules lead to this state
 pub record IsReached (state : State) : Type 0 where
   pub lines : List StartLine

@@ -8,4 +8,6 @@ pub mod Rules
 pub mod Sound
 pub mod Draft
 pub mod File
+pub mod Change
+pub mod Target
 pub mod Inside

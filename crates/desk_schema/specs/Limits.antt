@@ -1,9 +1,13 @@
 -- The limits of a start.
 use Rattle.std.specs.Prelude.{ℕ}
 
--- the only level of the SQL rules
-abbrev pub only_level : ℕ
-only_level = 1
+-- the highest level of the SQL rules; the lowest is 1
+abbrev pub level_limit : ℕ
+level_limit = 2
+
+-- the newest version of start and session files: from version 2 on the server has savepoints
+abbrev pub last_version : ℕ
+last_version = 2
 
 -- the most sequences
 abbrev pub sequence_limit : ℕ

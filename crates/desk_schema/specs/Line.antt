@@ -22,7 +22,7 @@ kind_text (written.Seq sequence) = codes "seq " ++ sequence
 
 -- the one text of a line, without its line feed
 abbrev pub line_text : StartLine → List ℕ
-line_text Head = codes "start 1"
+line_text (Head version) = codes "start " ++ decimal version
 line_text (LevelLine level) = codes "level " ++ decimal level
 line_text (SeqLine name next) = codes "seq " ++ (name ++ 32 ∷ decimal next)
 line_text (ServiceLine name rights) = codes "svc " ++ (name ++ 32 ∷ rights_word rights)

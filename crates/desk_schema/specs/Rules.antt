@@ -6,10 +6,10 @@ use Rattle.std.specs.List.{AllByRecursion, AllZip, Contains, filter_map}
 use Rattle.desk_values.specs.declared.value.Value.{Value}
 use Rattle.desk_values.specs.declared.value.Value.TheVariants as value
 use Rattle.desk_values.specs.declared.value.Image.{Image}
-use Rattle.desk_values.specs.Comparison.{same_key}
+use Rattle.desk_values.specs.Comparison.{same_key, without_trailing_spaces}
 use Rattle.desk_values.specs.Good.{IsTxt}
 use Rattle.desk_values.specs.Limits.{session_limit, table_limit}
-use Rattle.desk_schema.specs.Limits.{only_level, sequence_limit, service_limit, column_limit, start_row_limit, length_limit, next_limit}
+use Rattle.desk_schema.specs.Limits.{level_limit, sequence_limit, service_limit, column_limit, start_row_limit, length_limit, next_limit}
 use Rattle.desk_schema.specs.declared.line.StartLine.{StartLine}
 use Rattle.desk_schema.specs.declared.line.StartLine.TheVariants.{Head, Level as LevelLine, Seq as SeqLine, Service as ServiceLine, Table as TableLine, Column as ColumnLine, Row as RowLine, NextRow, Sessions, End}
 use Rattle.desk_schema.specs.declared.line.ColumnKind.{ColumnKind}
@@ -20,8 +20,12 @@ use Rattle.desk_schema.specs.declared.schema.Service.{Service}
 use Rattle.desk_schema.specs.declared.schema.Table.{Table}
 use Rattle.desk_schema.specs.declared.schema.Column.{Column}
 use Rattle.desk_schema.specs.Name.{IsName}
-use Rattle.desk_schema.specs.Schema.{SchemaView, table_names, column_names, service_names, columns_of}
+use Rattle.desk_schema.specs.Schema.{SchemaView, IsVersion, table_names, column_names, service_names, columns_of}
 use Rattle.desk_schema.specs.State.{State, nothing, added}
+
+-- a level of the SQL rules
+abbrev pub IsLevel : ℕ → Type 0
+IsLevel level = (1 ≤ level) × (level ≤ level_limit)
 
 -- the columns so far of the last table
 abbrev pub last_columns : List Table → List Column
@@ -104,6 +108,11 @@ key_in table row = if row.table == table then option_map key_of row.left else No
 abbrev pub keys_of : ℕ → List Image → List Value
 keys_of table rows = filter_map (key_in table) rows
 
+-- what counts of a key at a level: of a text at level 2 what stands before the spaces at its end
+abbrev pub counted : ℕ → Value → Value
+counted level (value.Text text) = value.Text (if level == 2 then without_trailing_spaces text else text)
+counted level other = other
+
 -- none of the keys is this one at the level
 abbrev pub IsNewKey : ℕ → List Value → Value → Type 0
 IsNewKey level keys key = AllByRecursion (λ other. same_key level other key ≡ false) keys
@@ -139,8 +148,8 @@ pub record NextRowMayFollow (last : ℕ) (rows : List Image) (next : ℕ) : Type
 
 -- the line has what it needs
 abbrev pub MayFollow : State → StartLine → Type 0
-MayFollow state Head = state.last ≡ 0
-MayFollow state (LevelLine level) = (state.last ≡ 1) × (level ≡ only_level)
+MayFollow state (Head version) = (state.last ≡ 0) × IsVersion version
+MayFollow state (LevelLine level) = (state.last ≡ 1) × IsLevel level
 MayFollow state (SeqLine name next) = SequenceMayFollow state.last state.start.schema.sequences name next
 MayFollow state (ServiceLine name rights) = ServiceMayFollow state.last state.start.schema.services name
 MayFollow state (TableLine name) = TableMayFollow state.last state.start.schema.tables name

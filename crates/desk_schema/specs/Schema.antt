@@ -5,7 +5,7 @@ use Rattle.std.specs.List.{AllByRecursion}
 use Rattle.std.specs.Str.{bytes_eq, str_to_ascii_lowercase, str_eq_ignore_ascii_case}
 use Rattle.desk_values.specs.Word.{HasOwnWords, member_with_word}
 use Rattle.desk_values.specs.Limits.{table_limit}
-use Rattle.desk_schema.specs.Limits.{sequence_limit, service_limit, column_limit}
+use Rattle.desk_schema.specs.Limits.{last_version, sequence_limit, service_limit, column_limit}
 use Rattle.desk_schema.specs.declared.schema.Service.{Service}
 use Rattle.desk_schema.specs.declared.schema.Table.{Table}
 use Rattle.desk_schema.specs.declared.schema.Column.{Column}
@@ -14,6 +14,8 @@ use Rattle.desk_schema.specs.declared.schema.Rights.{Rights}
 use Rattle.desk_schema.specs.declared.schema.Rights.TheVariants.{ReadWrite, ReadOnly}
 
 pub record SchemaView : Type 0 where
+  -- that of the files
+  pub version : ℕ
   pub level : ℕ
   -- the names of the sequences, by number
   pub sequences : List (List ℕ)
@@ -26,8 +28,14 @@ pub record HasColumns (table : Table) : Type 0 where
   pub least : 1 ≤ length table.columns
   pub most : length table.columns ≤ column_limit
 
--- how much a schema holds
+-- a version of the files
+pub record IsVersion (version : ℕ) : Type 0 where
+  pub least : 1 ≤ version
+  pub most : version ≤ last_version
+
+-- its version, and how much a schema holds
 pub record IsSchema (schema : SchemaView) : Type 0 where
+  pub version : IsVersion schema.version
   pub sequences : length schema.sequences ≤ sequence_limit
   pub services : length schema.services ≤ service_limit
   pub tables : length schema.tables ≤ table_limit

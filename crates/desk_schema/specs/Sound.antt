@@ -6,7 +6,7 @@ use Rattle.desk_values.specs.declared.value.Image.{Image}
 use Rattle.desk_values.specs.Comparison.{same_key}
 use Rattle.desk_values.specs.Good.{Ascend}
 use Rattle.desk_values.specs.Limits.{table_limit}
-use Rattle.desk_schema.specs.Limits.{only_level, sequence_limit, service_limit, column_limit, start_row_limit, length_limit, next_limit}
+use Rattle.desk_schema.specs.Limits.{sequence_limit, service_limit, column_limit, start_row_limit, length_limit, next_limit}
 use Rattle.desk_schema.specs.declared.schema.Kind.{Kind}
 use Rattle.desk_schema.specs.declared.schema.Kind.TheVariants.{Int, Text, Seq}
 use Rattle.desk_schema.specs.declared.schema.Table.{Table}
@@ -14,7 +14,7 @@ use Rattle.desk_schema.specs.Name.{IsName}
 use Rattle.desk_schema.specs.Schema.{SchemaView, IsSchema, place_of, table_names, column_names, service_names, columns_of}
 use Rattle.desk_schema.specs.Line.{name_of}
 use Rattle.desk_schema.specs.Start.{StartView}
-use Rattle.desk_schema.specs.Rules.{IsRange, IsAllowed, AreBelow, keys_of}
+use Rattle.desk_schema.specs.Rules.{IsLevel, IsRange, IsAllowed, AreBelow, keys_of}
 
 -- no name stands twice: each is found at its own place
 abbrev pub AreDistinct : List (List ℕ) → Type 0
@@ -80,7 +80,7 @@ pub record IsSoundNextRow (start : StartView) : Type 0 where
 
 -- what holds of every start that keeps the rules
 pub record IsSoundStart (start : StartView) : Type 0 where
-  pub level : start.schema.level ≡ only_level
+  pub level : IsLevel start.schema.level
   pub is_schema : IsSchema start.schema
   pub sound : IsSound start
   pub next_row : IsSoundNextRow start

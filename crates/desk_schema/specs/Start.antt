@@ -43,7 +43,7 @@ row_line row = RowLine row.row row.table (values_left row.left)
 abbrev pub part_lines : StartView → List StartLine
 part_lines start =
     let schema = start.schema in
-    Head ∷ LevelLine schema.level ∷ (sequence_lines schema.sequences start.next_values ++ (map service_line schema.services ++ (flat_map (table_lines schema.sequences) schema.tables ++ map row_line start.rows)))
+    Head schema.version ∷ LevelLine schema.level ∷ (sequence_lines schema.sequences start.next_values ++ (map service_line schema.services ++ (flat_map (table_lines schema.sequences) schema.tables ++ map row_line start.rows)))
 
 -- up to its next row
 abbrev pub lines_of : StartView → List StartLine

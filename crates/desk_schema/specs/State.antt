@@ -16,7 +16,7 @@ pub record State : Type 0 where
 
 -- the place of each kind of line in the order of a file
 abbrev pub place : StartLine → ℕ
-place Head = 1
+place (Head version) = 1
 place (LevelLine level) = 2
 place (SeqLine name next) = 3
 place (ServiceLine name rights) = 4
@@ -29,7 +29,7 @@ place End = 10
 
 -- before the first line
 abbrev pub nothing : State
-nothing = record { last = 0; start = record { schema = record { level = 0; sequences = []; services = []; tables = [] }; rows = []; next_row = 0; next_values = [] }; sessions = 0 }
+nothing = record { last = 0; start = record { schema = record { version = 0; level = 0; sequences = []; services = []; tables = [] }; rows = []; next_row = 0; next_values = [] }; sessions = 0 }
 
 -- the last table with one more column
 abbrev pub with_column : List Table → Column → List Table
@@ -39,6 +39,7 @@ with_column (table ∷ next ∷ tables) column = table ∷ with_column (next ∷
 
 -- a start with what a line declares
 abbrev pub start_with : StartView → StartLine → StartView
+start_with start (Head version) = record start { schema = record start.schema { version = version } }
 start_with start (LevelLine level) = record start { schema = record start.schema { level = level } }
 start_with start (SeqLine name next) = record start { schema = record start.schema { sequences = start.schema.sequences ++ name ∷ [] }; next_values = start.next_values ++ next ∷ [] }
 start_with start (ServiceLine name rights) = record start { schema = record start.schema { services = start.schema.services ++ record { name = name; rights = rights } ∷ [] } }

@@ -1,12 +1,12 @@
-ghost use Rattle.std.specs.Prelude.{◌≡◌, IfOk, IfSome, IfNone, OnOk, OnErr};
+ghost use Rattle.std.specs.Prelude.{◌≡◌, IfOk, IfSome, IfNone, IsErrOf, OnOk, OnErr};
 ghost use Rattle.std.specs.List.{Contains};
 ghost use Rattle.desk_schema.specs.declared.line.StartLine.{StartLine};
 ghost use Rattle.desk_schema.specs.declared.draft.DraftErr.TheVariants.{Memory as OutOfMemory};
-ghost use Rattle.desk_schema.specs.Schema.{place_of};
+ghost use Rattle.desk_schema.specs.Schema.{IsVersion, place_of};
 ghost use Rattle.desk_schema.specs.Line.{name_of, with_name};
 ghost use Rattle.desk_schema.specs.State.{added, nothing};
 ghost use Rattle.desk_schema.specs.Rules.{MayFollow};
-ghost use Rattle.desk_schema.specs.Draft.{IsReached, finished, Judges, JudgesUnlessMemory};
+ghost use Rattle.desk_schema.specs.Draft.{IsReached, finished, Judges, JudgesUnlessMemory, with_version};
 
 use crate::additions::{last_columns, push_column, push_row, push_sequence};
 use crate::keys::{KeySet, row_key};
@@ -14,7 +14,7 @@ use crate::lookup::place_in;
 use crate::rules::{
     Last, fits_row, may_add_column, may_add_sequence, may_add_service, may_add_table, may_finish,
 };
-use crate::schema::{Column, Kind, Rights, Schema, Service, Table};
+use crate::schema::{Column, FIRST_VERSION, Kind, Rights, Schema, Service, Table, is_version};
 use crate::start::Start;
 use desk_values::{Copied, Image, List, Memory, ReadErr, Txt, Values};
 use std::alloc::{AllocFailed, Global};
@@ -61,8 +61,8 @@ impl From<DraftErr> for ReadErr {
     }
 }
 
-/// The one level of the SQL rules.
-const LEVEL: u32 = 1;
+/// The highest level of the SQL rules. The lowest is 1.
+const LEVEL_LIMIT: u32 = 2;
 
 /// A start whose lines come one after the other, in the order of a start file: the level, sequences, services, tables
 /// each with its columns, rows, and the number of the next row. Contracts see the state that the lines so far lead to. A
@@ -70,6 +70,7 @@ const LEVEL: u32 = 1;
 #[derive(Drop)]
 pub struct Draft {
     last: Last,
+    version: u32,
     level: u32,
     sequences: Vec<Txt>,
     next_values: Vec<u64>,
@@ -88,6 +89,7 @@ impl Model for Draft {
 
     ghost view = { λ a. drafted a.last
         (record {
+          version = a.version;
           level = a.level;
           sequences = a.sequences.items;
           services = a.services;
@@ -97,6 +99,7 @@ impl Model for Draft {
     ghost invariant = { λ a. IsDraft
         (drafted a.last
         (record {
+          version = a.version;
           level = a.level;
           sequences = a.sequences.items;
           services = a.services;
@@ -105,17 +108,19 @@ impl Model for Draft {
 }
 
 impl Draft {
-    /// A draft with its first two lines: the version of the format, and the level of the SQL rules. `Rule` where the level
-    /// is not 1.
+    /// A draft with its first two lines: version 1 of the format, and the level of the SQL rules. `Rule` where the level
+    /// is not 1 or 2. It takes no memory.
     pub fn new(alloc: Global, level: u32) -> Result<Draft, DraftErr>
-        ensures ok { IfOk result (λ draft. draft ≡ added (added nothing StartLine.Head) (StartLine.Level level)) }
-        ensures rule { Judges result (MayFollow (added nothing StartLine.Head) (StartLine.Level level)) }
+        ensures ok { IfOk result (λ draft. draft ≡ added (added nothing (StartLine.Head 1)) (StartLine.Level level)) }
+        ensures rule { Judges result (MayFollow (added nothing (StartLine.Head 1)) (StartLine.Level level)) }
+        ensures total { ¬ IsErrOf result OutOfMemory }
     {
-        if level != LEVEL {
+        if !(1..=LEVEL_LIMIT).contains(&level) {
             return Err(DraftErr::Rule);
         }
         Ok(Draft {
             last: Last::Level,
+            version: FIRST_VERSION,
             level,
             sequences: Vec::new(alloc),
             next_values: Vec::new(alloc),
@@ -124,6 +129,20 @@ impl Draft {
             rows: Vec::new(alloc),
             keys: KeySet::new(alloc),
         })
+    }
+
+    /// Sets the version of the format. `Rule` where it is not 1 or 2. It takes no memory. An `Err` changes nothing.
+    pub fn set_version(&mut self, version: u32) -> Result<(), DraftErr>
+        ensures ok { OnOk result (self.new ≡ with_version version self.old) }
+        ensures rule { Judges result (IsVersion version) }
+        ensures total { ¬ IsErrOf result OutOfMemory }
+        ensures err { OnErr result (self.new ≡ self.old) }
+    {
+        if !is_version(version) {
+            return Err(DraftErr::Rule);
+        }
+        self.version = version;
+        Ok(())
     }
 
     /// Adds a sequence with its next value. `Rule` where a service or a table is there already; where there are 16
@@ -207,8 +226,8 @@ impl Draft {
     /// Adds a row of a table. `Rule` where there is no table, or the last one has no column; where there are 100,000 rows;
     /// where `row` is 0, or not above the row before it; where no table has this number; where there is not one value for
     /// each of its columns, null only where it may be, or else of the column's kind, and below the next value where it is
-    /// drawn; or where its first value, the key, is that of an earlier row of the table. Keys take memory, so `Memory` may
-    /// come where the key is taken. An `Err` changes nothing.
+    /// drawn; or where its first value, the key, is at the level that of an earlier row of the table. Keys take memory, so
+    /// `Memory` may come where the key is taken. An `Err` changes nothing.
     pub fn add_row(&mut self, row: u64, table: u32, values: Values) -> Result<(), DraftErr>
         ensures ok { OnOk result (self.new ≡ added self.old (StartLine.Row row table values)) }
         ensures rule { JudgesUnlessMemory result (MayFollow self.old (StartLine.Row row table values)) }
@@ -225,7 +244,7 @@ impl Draft {
         ) {
             return Err(DraftErr::Rule);
         }
-        let key = row_key(*self.rows.allocator(), table, values.as_slice())?;
+        let key = row_key(*self.rows.allocator(), self.level, table, values.as_slice())?;
         let image = Image {
             row,
             table,
@@ -244,7 +263,7 @@ impl Draft {
         ensures some { IfSome result (λ number. name_of self.now.start.schema.sequences number ≡ name.now) }
         ensures none { IfNone result (¬ Contains self.now.start.schema.sequences name.now) }
     {
-        place_in(self.sequences.as_slice(), name)
+        place_in(self.sequences.as_slice(), name.as_str().as_bytes())
     }
 
     /// The start of the lines so far and of the number of the next row. `Rule` where the last table has no column, or
@@ -258,6 +277,7 @@ impl Draft {
             return Err(DraftErr::Rule);
         }
         let schema = Schema::from_parts(
+            self.version,
             self.level,
             List::from_vec(self.sequences),
             self.services,

@@ -1,15 +1,16 @@
-ghost use Rattle.std.specs.Prelude.{◌≡◌, [], IfOk, OnErr};
+ghost use Rattle.std.specs.Prelude.{◌≡◌, ◌==◌, if◌then◌else◌, [], IfOk, OnErr};
+ghost use Rattle.desk_values.specs.Comparison.{without_trailing_spaces};
 ghost use Rattle.std.specs.Bool.{OnTrue, OnFalse};
 ghost use Rattle.std.specs.List.{Contains};
-ghost use Rattle.desk_schema.specs.Rules.{key_of};
+ghost use Rattle.desk_schema.specs.Rules.{counted, key_of};
 ghost use Rattle.desk_schema.specs.Inside.Keys.{key_value, row_key, IsWith};
 
-use desk_values::{Memory, Value};
+use desk_values::{Memory, Value, without_trailing_spaces};
 use std::alloc::Global;
 use std::collections::BTreeSet;
 use std::marker::Model;
 
-/// A value as the key of a row.
+/// What counts of a value as the key of a row.
 #[derive(PartialEq, Eq, PartialOrd, Ord, Drop)]
 pub(crate) enum Key {
     Null,
@@ -27,16 +28,16 @@ pub(crate) struct RowKey {
 }
 
 impl Key {
-    /// The key that is this value.
-    pub(crate) fn of(alloc: Global, value: &Value) -> Result<Key, Memory>
-        ensures { IfOk result (λ key. key_value key ≡ value.now) }
+    /// What counts of this value at a level.
+    pub(crate) fn of(alloc: Global, level: u32, value: &Value) -> Result<Key, Memory>
+        ensures { IfOk result (λ key. key_value key ≡ counted level value.now) }
     {
         match value {
             Value::Null => Ok(Key::Null),
             Value::Int(number) => Ok(Key::Int(*number)),
             Value::Text(text) => {
                 let mut bytes = Vec::new(alloc);
-                bytes.extend_from_slice(text.as_str().as_bytes())?;
+                bytes.extend_from_slice(counted_bytes(level, text.as_str().as_bytes()))?;
                 Ok(Key::Text(bytes))
             }
             Value::Row(row) => Ok(Key::Row(*row)),
@@ -45,12 +46,28 @@ impl Key {
     }
 }
 
-/// The key of a row of a table: its first value.
-pub(crate) fn row_key(alloc: Global, table: u32, values: &[Value]) -> Result<RowKey, Memory>
-    ensures { IfOk result (λ key. row_key key ≡ (table, key_of values.now)) }
+/// The bytes of a text that count at a level.
+fn counted_bytes(level: u32, bytes: &[u8]) -> &[u8]
+    ensures { result.now ≡ (if level == 2 then without_trailing_spaces bytes.now else bytes.now) }
+{
+    if level == 2 {
+        without_trailing_spaces(bytes)
+    } else {
+        bytes
+    }
+}
+
+/// The key of a row of a table: what counts of its first value at a level.
+pub(crate) fn row_key(
+    alloc: Global,
+    level: u32,
+    table: u32,
+    values: &[Value],
+) -> Result<RowKey, Memory>
+    ensures { IfOk result (λ key. row_key key ≡ (table, counted level (key_of values.now))) }
 {
     let key = match values.first() {
-        Some(value) => Key::of(alloc, value)?,
+        Some(value) => Key::of(alloc, level, value)?,
         None => Key::Null,
     };
     Ok(RowKey { table, key })

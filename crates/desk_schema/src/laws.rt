@@ -1,4 +1,5 @@
-//! What ties the lines of a start file to the start that they declare, for every file and every start.
+//! What ties the lines of a start file to the start that they declare, and a change to what comes of it, for every file and
+//! every start.
 //!
 //! Nothing enters and nothing leaves: each call does nothing, and its clauses are the laws.
 ghost use Rattle.std.specs.Prelude.{ℕ, ◌≡◌, ◌≤◌, ◌↔◌, ◌++◌, ◌∷◌, [], IsTrue, List};
@@ -9,9 +10,11 @@ ghost use Rattle.desk_schema.specs.declared.line.StartLine.{StartLine};
 ghost use Rattle.desk_values.specs.Limits.{session_limit};
 ghost use Rattle.desk_schema.specs.Start.{StartView, file_lines};
 ghost use Rattle.desk_schema.specs.State.{state_of};
-ghost use Rattle.desk_schema.specs.Rules.{AreLines, MayFollow};
+ghost use Rattle.desk_schema.specs.Rules.{AreLines, MayFollow, counted};
 ghost use Rattle.desk_schema.specs.File.{IsFile, IsFileOf, IsStart};
 ghost use Rattle.desk_schema.specs.Sound.{IsSoundStart};
+ghost use Rattle.desk_schema.specs.Change.{ChangesTo, IsFirstBad};
+ghost use Rattle.desk_schema.specs.Target.{IsTarget};
 
 /// A file is the lines of the start and of the number of sessions that it declares.
 pub fn files_are_starts()
@@ -36,6 +39,31 @@ pub fn lines_grow()
     ensures grown { (lines : List StartLine) (line : StartLine) → AreLines lines → MayFollow (state_of lines) line
         → AreLines (lines ++ line ∷ []) }
     ensures front { (front rest : List StartLine) → AreLines (front ++ rest) → AreLines front }
+{}
+
+/// What the records of a change lead to is a target of the start: it has the version, tables, columns, kinds, sequences and
+/// rows of the start, and no next value is lower. It keeps the rules of starts.
+pub fn changes_are_targets()
+    ensures target { (start last : StartView) (records : List (List (List ℕ))) → ChangesTo start records last
+        → IsTarget start last }
+    ensures start { (start last : StartView) (records : List (List (List ℕ))) → IsStart start
+        → ChangesTo start records last → IsStart last }
+{}
+
+/// A change has one answer: one start that its records lead to, or else one first bad record.
+pub fn changes_have_one_answer()
+    ensures start { (start a b : StartView) (records : List (List (List ℕ))) → ChangesTo start records a
+        → ChangesTo start records b → a ≡ b }
+    ensures bad { (start : StartView) (records : List (List (List ℕ))) (m n : ℕ) → IsFirstBad start records m
+        → IsFirstBad start records n → m ≡ n }
+    ensures apart { (start last : StartView) (records : List (List (List ℕ))) (n : ℕ) → ChangesTo start records last
+        → ¬ IsFirstBad start records n }
+{}
+
+/// At a level a key that is there is the same as another one just where what counts of the two is equal.
+pub fn keys_at_a_level()
+    ensures { (level : ℕ) (key other : Value) → ¬ (other ≡ Null)
+        → IsTrue (same_key level key other) ↔ (counted level key ≡ counted level other) }
 {}
 
 /// At level 1 a key that is there is the same as another one just where the two are equal.

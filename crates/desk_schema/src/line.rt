@@ -16,7 +16,7 @@ pub enum ColumnKind {
 #[derive(Drop)]
 pub enum StartLine {
     /// The version of the format.
-    Head,
+    Head(u32),
     /// The level of the SQL rules.
     Level(u32),
     /// A sequence's name and its next value.

@@ -37,12 +37,12 @@ pub(crate) fn place_ignoring_case_in<N: Named>(items: &[N], name: &Txt) -> Optio
 }
 
 /// The place of the first item of just this name.
-pub(crate) fn place_in<N: Named>(items: &[N], name: &Txt) -> Option<u32>
+pub(crate) fn place_in<N: Named>(items: &[N], name: &[u8]) -> Option<u32>
     requires { length items.now ≤ 32 }
     ensures { result ≡ place_of (map N.name_in items.now) name.now }
 {
     for (i, item) in items.iter().enumerate() {
-        if item.name().as_str() == name.as_str() {
+        if item.name().as_str().as_bytes() == name {
             return Some(i as u32);
         }
     }

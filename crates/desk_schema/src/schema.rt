@@ -1,11 +1,23 @@
 ghost use Rattle.std.specs.Prelude.{◌≡◌, ◌↔◌, ◌≤◌, length, IfOk, IsNone, IsTrue, slice_get};
 ghost use Rattle.std.specs.List.{Contains};
 ghost use Rattle.std.specs.Option.{option_map};
-ghost use Rattle.desk_schema.specs.Schema.{columns_of, column_names, IsNoName, IsSchema, place_ignoring_case, rights_of, service_names, shape_of, table_names};
+ghost use Rattle.desk_schema.specs.Schema.{columns_of, column_names, IsNoName, IsSchema, IsVersion, place_ignoring_case, place_of, rights_of, service_names, shape_of, table_names};
 
-use crate::lookup::{Named, place_ignoring_case_in};
+use crate::lookup::{Named, place_ignoring_case_in, place_in};
 use desk_values::{Copied, List, Memory, Same, Txt, Word};
 use std::marker::Model;
+
+/// The versions of the files.
+pub(crate) const FIRST_VERSION: u32 = 1;
+
+const LAST_VERSION: u32 = 2;
+
+/// Whether the files have such a version: 1 or 2.
+pub fn is_version(version: u32) -> bool
+    ensures { IsTrue result ↔ IsVersion version }
+{
+    FIRST_VERSION <= version && version <= LAST_VERSION
+}
 
 /// What a column holds where it is not null.
 #[derive(Clone, Copy, Debug, PartialEq, Eq)]
@@ -102,9 +114,10 @@ impl Named for Table {
     }
 }
 
-/// The level of the SQL rules, the sequences' names, the services and the tables.
+/// The version of the files, the level of the SQL rules, the sequences' names, the services and the tables.
 #[derive(Drop)]
 pub struct Schema {
+    version: u32,
     level: u32,
     sequences: List<Txt>,
     services: List<Service>,
@@ -116,9 +129,23 @@ impl Model for Schema {
 
     ghost Value = { SchemaView };
 
-    ghost view = { λ a. record { level = a.level; sequences = a.sequences; services = a.services; tables = a.tables } };
+    ghost view = { λ a.
+        record {
+          version = a.version;
+          level = a.level;
+          sequences = a.sequences;
+          services = a.services;
+          tables = a.tables;
+        } };
 
-    ghost invariant = { λ a. IsSchema (record { level = a.level; sequences = a.sequences; services = a.services; tables = a.tables }) };
+    ghost invariant = { λ a. IsSchema
+        (record {
+          version = a.version;
+          level = a.level;
+          sequences = a.sequences;
+          services = a.services;
+          tables = a.tables;
+        }) };
 }
 
 impl Copied for Service {
@@ -152,6 +179,7 @@ impl Copied for Table {
 impl Copied for Schema {
     fn copy(&self) -> Result<Schema, Memory> {
         Ok(Schema {
+            version: self.version,
             level: self.level,
             sequences: self.sequences.copy()?,
             services: self.services.copy()?,
@@ -180,7 +208,8 @@ impl Same for Table {
 
 impl Same for Schema {
     fn same(&self, other: &Schema) -> bool {
-        self.level == other.level
+        self.version == other.version
+            && self.level == other.level
             && self.sequences.same(&other.sequences)
             && self.services.same(&other.services)
             && self.tables.same(&other.tables)
@@ -200,20 +229,44 @@ pub(crate) fn columns_of(tables: &[Table], table: u32) -> &[Column]
 impl Schema {
     /// The schema of these parts.
     pub(crate) fn from_parts(
+        version: u32,
         level: u32,
         sequences: List<Txt>,
         services: List<Service>,
         tables: List<Table>,
     ) -> Schema
-        requires { IsSchema (record { level = level; sequences = sequences; services = services; tables = tables }) }
-        ensures { result ≡ record { level = level; sequences = sequences; services = services; tables = tables } }
+        requires { IsSchema
+            (record {
+              version = version;
+              level = level;
+              sequences = sequences;
+              services = services;
+              tables = tables;
+            }) }
+        ensures { result
+            ≡ record {
+              version = version;
+              level = level;
+              sequences = sequences;
+              services = services;
+              tables = tables;
+            } }
     {
         Schema {
+            version,
             level,
             sequences,
             services,
             tables,
         }
+    }
+
+    /// The version of the files: 1, or 2, from which on the server has savepoints.
+    pub fn version(&self) -> u32
+        ensures value { result ≡ self.now.version }
+        ensures valid { IsVersion result }
+    {
+        self.version
     }
 
     /// The level of the SQL rules.
@@ -275,6 +328,34 @@ impl Schema {
         ensures none { IsNone result ↔ IsNoName self.now.sequences name.now }
     {
         place_ignoring_case_in(self.sequences.as_slice(), name)
+    }
+
+    /// The number of the table of just this name.
+    pub(crate) fn table_place(&self, name: &[u8]) -> Option<u32>
+        ensures { result ≡ place_of (table_names self.now.tables) name.now }
+    {
+        place_in(self.tables.as_slice(), name)
+    }
+
+    /// The number of the column of just this name in a table.
+    pub(crate) fn column_place(&self, table: u32, name: &[u8]) -> Option<u32>
+        ensures { result ≡ place_of (column_names (columns_of self.now.tables table)) name.now }
+    {
+        place_in(self.columns(table), name)
+    }
+
+    /// The number of the sequence of just this name.
+    pub(crate) fn sequence_place(&self, name: &[u8]) -> Option<u32>
+        ensures { result ≡ place_of self.now.sequences name.now }
+    {
+        place_in(self.sequences.as_slice(), name)
+    }
+
+    /// The place of the service of just this name.
+    pub(crate) fn service_place(&self, name: &[u8]) -> Option<u32>
+        ensures { result ≡ place_of (service_names self.now.services) name.now }
+    {
+        place_in(self.services.as_slice(), name)
     }
 
     /// The rights of the service of just this name.

@@ -1,6 +1,8 @@
 ghost use Rattle.std.specs.Prelude.{◌≡◌, slice_get, IfOk, IsTrue, ◌↔◌};
 ghost use Rattle.desk_schema.specs.File.{IsStart};
+ghost use Rattle.desk_schema.specs.Change.{Changes, records_in};
 
+use crate::change::{ChangeErr, changed_start};
 use crate::schema::Schema;
 use desk_values::{Copied, Images, Memory, Same};
 use std::marker::Model;
@@ -98,6 +100,24 @@ impl Start {
         ensures { result.now ≡ self.now.next_values }
     {
         self.next_values.as_slice()
+    }
+
+    /// The start that the records of a change file lead to, one after another: CSV without a head record.
+    ///
+    /// `level,L` sets the level of the SQL rules. `range,TABLE,COLUMN,LOW,HIGH` sets the range of a column of numbers,
+    /// `length,TABLE,COLUMN,BYTES` the length of a column of texts, and `null,TABLE,COLUMN,notnull` or `null` whether a
+    /// column may be null. `next,SEQUENCE,NEXT` sets a next value, which may not fall. `service,NAME,rw` or `ro` sets a
+    /// service's rights where it stands, or adds it behind the others; `service,NAME,none` takes it away. Names are matched
+    /// byte for byte.
+    ///
+    /// # Errors
+    ///
+    /// `BadRow` with the number, from 1, of the first record that is none of these, that names what is not there, or after
+    /// which a rule of starts is broken, by the rows too. `Memory` for want of memory.
+    pub fn change(&self, bytes: &[u8]) -> Result<Start, ChangeErr>
+        ensures { Changes self.now (records_in bytes.now) result }
+    {
+        changed_start(self, bytes)
     }
 
     /// Whether the two starts are equal. Services are compared in order.

@@ -16,8 +16,8 @@ unfolding fault_numbered
 numbered_again Syntax = refl
 numbered_again _ = refl
 
--- no number of a fault is over 33
-pub fault_number_small : (fault : Fault) → fault_number fault < 34
+-- no number of a fault is over 34
+pub fault_number_small : (fault : Fault) → fault_number fault < 35
 fault_number_small Syntax = lit< tt
 fault_number_small _ = lit< tt
 

@@ -2,7 +2,7 @@
 use Rattle.std.specs.Prelude.{ℕ, ◌==◌, List, [], ◌∷◌, Option}
 use Rattle.std.specs.List.{find}
 use Rattle.desk_values.specs.declared.fault.Fault.{Fault}
-use Rattle.desk_values.specs.declared.fault.Fault.TheVariants.{Syntax, UnknownTable, UnknownColumn, UnknownSequence, UnknownService, Kinds, BindMissing, Locked, DuplicateKey, NullValue, OutOfRange, TextTooLong, ZeroDivisor, Overflow, ReadOnly, NotConnected, AlreadyConnected, UnderWay, TooManyRows}
+use Rattle.desk_values.specs.declared.fault.Fault.TheVariants.{Syntax, UnknownTable, UnknownColumn, UnknownSequence, UnknownService, Kinds, BindMissing, Locked, DuplicateKey, NullValue, OutOfRange, TextTooLong, ZeroDivisor, Overflow, ReadOnly, NotConnected, AlreadyConnected, UnderWay, TooManyRows, NoSavepoint}
 
 abbrev pub fault_number : Fault → ℕ
 fault_number Syntax = 10
@@ -24,9 +24,9 @@ fault_number NotConnected = 28
 fault_number AlreadyConnected = 29
 fault_number UnderWay = 32
 fault_number TooManyRows = 33
+fault_number NoSavepoint = 34
 
--- The order in which faults are told: of two that apply, the one of lower rank. Each has the next rank, from 0, but that
--- 11 is kept for a savepoint that is not there.
+-- The order in which faults are told: of two that apply, the one of lower rank. Each has the next rank, from 0.
 abbrev pub fault_rank : Fault → ℕ
 fault_rank Syntax = 0
 fault_rank NotConnected = 1
@@ -39,6 +39,7 @@ fault_rank BindMissing = 7
 fault_rank Kinds = 8
 fault_rank ReadOnly = 9
 fault_rank UnderWay = 10
+fault_rank NoSavepoint = 11
 fault_rank ZeroDivisor = 12
 fault_rank Overflow = 13
 fault_rank TooManyRows = 14
@@ -51,7 +52,7 @@ fault_rank DuplicateKey = 19
 abbrev pub all_faults : List Fault
 all_faults = Syntax ∷ UnknownTable ∷ UnknownColumn ∷ UnknownSequence ∷ UnknownService ∷ Kinds
     ∷ BindMissing ∷ Locked ∷ DuplicateKey ∷ NullValue ∷ OutOfRange ∷ TextTooLong ∷ ZeroDivisor
-    ∷ Overflow ∷ ReadOnly ∷ NotConnected ∷ AlreadyConnected ∷ UnderWay ∷ TooManyRows ∷ []
+    ∷ Overflow ∷ ReadOnly ∷ NotConnected ∷ AlreadyConnected ∷ UnderWay ∷ TooManyRows ∷ NoSavepoint ∷ []
 
 -- the fault with this number, where there is one
 unfoldable pub fault_numbered : ℕ → Option Fault

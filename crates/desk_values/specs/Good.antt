@@ -1,5 +1,5 @@
 -- Which values and replies can be written as text.
-use Rattle.std.specs.Prelude.{ℕ, ◌<◌, ◌≤◌, ◌^◌, Bool, true, false, ◌&&◌, nat_lt, List, [], ◌∷◌, length, IfSome, FitsSigned}
+use Rattle.std.specs.Prelude.{◌≡◌, ℕ, ◌<◌, ◌≤◌, ◌^◌, Bool, true, false, ◌&&◌, nat_lt, List, [], ◌∷◌, length, IfSome, FitsSigned}
 use Rattle.std.specs.Int.{w64}
 use Rattle.std.specs.Str.{IsUtf8}
 use Rattle.std.specs.List.{AllByRecursion}
@@ -12,6 +12,7 @@ use Rattle.desk_values.specs.declared.call.Outcome.TheVariants.{Rows, Count, Com
 use Rattle.desk_values.specs.declared.call.Call.{Call}
 use Rattle.desk_values.specs.declared.call.Call.TheVariants.{Connect, Sql, Disconnect}
 use Rattle.desk_values.specs.declared.call.Reply.{Reply}
+use Rattle.desk_values.specs.declared.fault.Fault.TheVariants.{NoSavepoint}
 
 -- a text of the desk: at most 1,000 bytes of UTF-8
 pub record IsTxt (bytes : List ℕ) : Type 0 where
@@ -115,3 +116,12 @@ is_draw other = false
 abbrev pub all_draws : List Value → Bool
 all_draws [] = true
 all_draws (first ∷ others) = is_draw first && all_draws others
+
+-- it tells that a savepoint is not there
+abbrev pub misses_savepoint : Outcome → Bool
+misses_savepoint (Refused NoSavepoint) = true
+misses_savepoint other = false
+
+-- a server of version 1 has no savepoints, and tells of none
+abbrev pub MayTell : ℕ → Reply → Type 0
+MayTell version reply = version ≡ 1 → misses_savepoint reply.outcome ≡ false

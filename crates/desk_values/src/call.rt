@@ -75,7 +75,7 @@ pub struct Reply {
 }
 
 impl Reply {
-    ghost use Rattle.desk_values.specs.Good.{HasGoodShape, IsGoodReply};
+    ghost use Rattle.desk_values.specs.Good.{HasGoodShape, IsGoodReply, misses_savepoint};
 
     /// Whether the reply can be written as a text. No row is empty, nor is what an image leaves; images stand by rising
     /// row, in tables up to 31; and only draws stand among the draws.
@@ -96,6 +96,13 @@ impl Reply {
         ensures { IsGoodReply self.now }
     {
         prove!(self.good());
+    }
+
+    /// Whether it tells that a savepoint is not there.
+    pub fn misses_savepoint(&self) -> bool
+        ensures { result ≡ misses_savepoint self.now.outcome }
+    {
+        matches!(self.outcome, Outcome::Refused(Fault::NoSavepoint))
     }
 }
 

@@ -7,9 +7,9 @@ use crate::text::Txt;
 use crate::value::Value;
 use std::cmp::Ordering;
 
-// The bytes without the spaces at their end.
+/// The bytes without the spaces at their end.
 #[tactic(auto, unfolding(crate::specs::Comparison::without_trailing_spaces))]
-fn without_trailing_spaces(mut bytes: &[u8]) -> &[u8]
+pub fn without_trailing_spaces(mut bytes: &[u8]) -> &[u8]
     ensures { result.now ≡ without_trailing_spaces bytes.entry.now }
 {
     while let [front @ .., b' '] = bytes {

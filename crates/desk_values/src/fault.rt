@@ -43,9 +43,11 @@ pub enum Fault {
     UnderWay,
     /// Over 1,000 rows.
     TooManyRows,
+    /// The session has no savepoint of this name.
+    NoSavepoint,
 }
 
-const ALL: [Fault; 19] = [
+const ALL: [Fault; 20] = [
     Fault::Syntax,
     Fault::UnknownTable,
     Fault::UnknownColumn,
@@ -65,6 +67,7 @@ const ALL: [Fault; 19] = [
     Fault::AlreadyConnected,
     Fault::UnderWay,
     Fault::TooManyRows,
+    Fault::NoSavepoint,
 ];
 
 #[tactic(auto, unfolding(crate::specs::Fault::fault_numbered))]
@@ -99,6 +102,7 @@ impl Fault {
             Fault::AlreadyConnected => 29,
             Fault::UnderWay => 32,
             Fault::TooManyRows => 33,
+            Fault::NoSavepoint => 34,
         }
     }
 
@@ -118,6 +122,7 @@ impl Fault {
             Fault::Kinds => 8,
             Fault::ReadOnly => 9,
             Fault::UnderWay => 10,
+            Fault::NoSavepoint => 11,
             Fault::ZeroDivisor => 12,
             Fault::Overflow => 13,
             Fault::TooManyRows => 14,

@@ -28,7 +28,7 @@ mod writing;
 
 pub use call::{Call, Outcome, Reply};
 pub use capture::{CallList, Captured, Event, History, SessionLists};
-pub use comparison::{same_key, text_order, value_equal, value_order};
+pub use comparison::{same_key, text_order, value_equal, value_order, without_trailing_spaces};
 pub use fault::Fault;
 pub use limits::{LAST_MOMENT, SESSION_LIMIT};
 pub use list::List;
@@ -37,7 +37,7 @@ pub use read_err::ReadErr;
 pub use reading::{read_value, read_values};
 pub use reserved::Reserved;
 pub use same::{Same, same_items};
-pub use sorting::sort_rows;
+pub use sorting::{kind_then_value, sort_rows, value_by_value};
 pub use text::{TEXT_LIMIT, Txt, TxtErr};
 pub use value::{
     BIND_LIMIT, BindErr, Binds, Bytes, Image, Images, RowList, Stamps, TABLE_LIMIT, Value, Values,

@@ -20,8 +20,8 @@ pub fn sort_rows(rows: &RowList) -> Result<RowList, Memory>
     Ok(List::from_vec(sorted))
 }
 
-/// The order of two rows.
-fn value_by_value(a: &[Value], b: &[Value]) -> Ordering
+/// The order of two rows: value by value, and one that is the beginning of another stands before it.
+pub fn value_by_value(a: &[Value], b: &[Value]) -> Ordering
     ensures { result ≡ value_by_value a.now b.now }
 {
     let shared = a.len().min(b.len());
@@ -34,8 +34,8 @@ fn value_by_value(a: &[Value], b: &[Value]) -> Ordering
     a.len().cmp(&b.len())
 }
 
-/// The order of two values.
-fn kind_then_value(a: &Value, b: &Value) -> Ordering
+/// The order of two values: Null, numbers, texts, rows and draws in this order, within a kind by number or by bytes.
+pub fn kind_then_value(a: &Value, b: &Value) -> Ordering
     ensures { result ≡ kind_then_value a.now b.now }
 {
     match (a, b) {

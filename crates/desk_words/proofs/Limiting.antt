@@ -72,8 +72,9 @@ ways_hold values =
     always HasWays _ _ (λ mode. leads (IsBetween 0 percent_limit) HasWays _ _ (percent_chosen (codes "think") values)
     (λ think low. leads (IsBetween 0 percent_limit) HasWays _ _ (percent_chosen (codes "connect") values)
     (λ connect few. leads (λ x. IfSome x IsPath) HasWays _ _ (maybe_holds IsPath (codes "remap") path_in values path_holds)
-    (λ remap path. leads (λ x. IfSome x IsLaneCount) HasWays _ _ (maybe_holds IsLaneCount (codes "lanes") (number_in 1 lane_limit) values (number_holds 1 lane_limit))
-    (λ lanes count. record { think = low.1; connect = few.1; remap = path; lanes = count })))))
+    (λ remap path. leads (λ x. IfSome x IsPath) HasWays _ _ (maybe_holds IsPath (codes "change") path_in values path_holds)
+    (λ change other. leads (λ x. IfSome x IsLaneCount) HasWays _ _ (maybe_holds IsLaneCount (codes "lanes") (number_in 1 lane_limit) values (number_holds 1 lane_limit))
+    (λ lanes count. record { think = low.1; connect = few.1; remap = path; change = other; lanes = count }))))))
 
 run_holds : (values : List Row) → IfSome (run_in values) IsWithinLimits
 run_holds values =

@@ -53,8 +53,9 @@ ways_in values = do
   think ← chosen (codes "think") percent_in whole values
   connect ← chosen (codes "connect") percent_in whole values
   remap ← maybe (codes "remap") path_in values
+  change ← maybe (codes "change") path_in values
   lanes ← maybe (codes "lanes") (number_in 1 lane_limit) values
-  Some (record { mode = mode; think = think; connect = connect; remap = remap; lanes = lanes })
+  Some (record { mode = mode; think = think; connect = connect; remap = remap; change = change; lanes = lanes })
 
 abbrev pub run_in : List Row → Option Command
 run_in values = do

@@ -23,6 +23,7 @@ pub record HasWays (ways : Ways) : Type 0 where
   pub think : ways.think ≤ percent_limit
   pub connect : ways.connect ≤ percent_limit
   pub remap : IfSome ways.remap IsPath
+  pub change : IfSome ways.change IsPath
   pub lanes : IfSome ways.lanes IsLaneCount
 
 abbrev pub IsWithinLimits : Command → Type 0

@@ -18,7 +18,7 @@ static FORMS: [Form; 5] = [
     Form {
         name: "run",
         places: &["capture", "out"],
-        options: &["mode", "think", "connect", "remap", "lanes"],
+        options: &["mode", "think", "connect", "remap", "change", "lanes"],
     },
     Form {
         name: "prepare",

@@ -85,11 +85,15 @@ pub(crate) fn percent_of(values: &ArgMatches<'_>, name: &str) -> Option<u32>
     }
 }
 
-/// The path that is said, if one is.
-pub(crate) fn remap_of(alloc: Global, values: &ArgMatches<'_>) -> Result<Option<Txt>, ReadErr>
-    ensures { Reads result (maybe (codes "remap") path_in (values_in values.now)) }
+/// The path of the file that is said, if one is.
+pub(crate) fn file_of(
+    alloc: Global,
+    values: &ArgMatches<'_>,
+    name: &str,
+) -> Result<Option<Txt>, ReadErr>
+    ensures { Reads result (maybe name.now path_in (values_in values.now)) }
 {
-    match value_of(values, "remap") {
+    match value_of(values, name) {
         Some(text) => Ok(Some(path_in(alloc, text)?)),
         None => Ok(None),
     }

@@ -5,7 +5,7 @@ ghost use Rattle.desk_values.specs.Reading.{Reads};
 ghost use Rattle.desk_words.specs.Command.{ways_in};
 ghost use Rattle.desk_words.specs.Inside.Finding.{values_in};
 
-use crate::values::{lanes_of, mode_of, percent_of, remap_of};
+use crate::values::{file_of, lanes_of, mode_of, percent_of};
 use clap::ArgMatches;
 use desk_values::{ReadErr, Txt};
 use replay_history::Mode;
@@ -22,6 +22,8 @@ pub struct Ways {
     pub connect: u32,
     /// The file that says what the captured services are sent as, if there is one.
     pub remap: Option<Txt>,
+    /// The file that says how the target differs from the captured start, if there is one.
+    pub change: Option<Txt>,
     /// How many lanes serve the sessions, if that is said: 1 to 64.
     pub lanes: Option<u32>,
 }
@@ -33,13 +35,15 @@ pub(crate) fn ways_in(alloc: Global, values: &ArgMatches<'_>) -> Result<Ways, Re
     let mode = mode_of(values).ok_or(ReadErr::Bad)?;
     let think = percent_of(values, "think").ok_or(ReadErr::Bad)?;
     let connect = percent_of(values, "connect").ok_or(ReadErr::Bad)?;
-    let remap = remap_of(alloc, values)?;
+    let remap = file_of(alloc, values, "remap")?;
+    let change = file_of(alloc, values, "change")?;
     let lanes = lanes_of(values).ok_or(ReadErr::Bad)?;
     Ok(Ways {
         mode,
         think,
         connect,
         remap,
+        change,
         lanes,
     })
 }

@@ -1,2 +1,4 @@
 pub mod Complete
 pub mod Ends
+pub mod Served
+pub mod Sizes

@@ -1,3 +1,4 @@
 -- On which words and files a command does its work.
 pub mod Complete
 pub mod Ends
+pub mod Served

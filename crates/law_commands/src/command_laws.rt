@@ -2,9 +2,10 @@
 
 ghost use Rattle.law_commands.specs.Commands.Complete.{CapturesAreMade, CapturesArePrepared, CapturesAreReplayed, CapturesAreTried, LegalCapturesArePrepared, LegalCapturesAreReplayed, StartsAreServed};
 ghost use Rattle.law_commands.specs.Commands.Ends.{JournalsTellTheirHistory, PlansTellTheirHistory, QuietRunsCarryTables, RunsAgainAreQuiet, TablesAreCarried};
+ghost use Rattle.law_commands.specs.Commands.Served.{ServedCapturesAreLegal, ServedCapturesAreNotBad, ServedCapturesAreNotBadToPrepare, ServedCapturesArePrepared, ServedCapturesAreReplayed};
 
 /// Completeness of `run`: where the words are its command, the files of the capture are there, each within the limit of one
-/// file and all within that of a capture, the remap file says services where one is named, and the calls are accepted, the calls are to be replayed. By the clause `each` of
+/// file and all within that of a capture, the remap file says services and the change file makes a target, each where one is named, and the calls are accepted, the calls are to be replayed. By the clause `each` of
 /// `replay_main` the command then ends with its work done, or by a fault or want of memory.
 pub fn captures_are_replayed()
     ensures { CapturesAreReplayed }
@@ -53,4 +54,14 @@ pub fn runs_again_are_quiet()
 pub fn tables_are_carried()
     ensures carried { TablesAreCarried }
     ensures quiet { QuietRunsCarryTables }
+{}
+
+/// What `serve` writes is a legal capture, as `run` and `prepare` read it, as long as it is within the limits of files: they do not refuse it,
+/// and by stamp it is all that was recorded. Of any size, neither calls it a bad capture.
+pub fn served_captures_are_legal()
+    ensures legal { ServedCapturesAreLegal }
+    ensures replayed { ServedCapturesAreReplayed }
+    ensures prepared { ServedCapturesArePrepared }
+    ensures not_bad { ServedCapturesAreNotBad }
+    ensures not_bad_to_prepare { ServedCapturesAreNotBadToPrepare }
 {}

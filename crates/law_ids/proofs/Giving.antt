@@ -5,7 +5,7 @@ use Rattle.desk_values.specs.declared.fault.Fault.{Fault}
 use Rattle.desk_values.specs.declared.call.Call.{Call}
 use Rattle.desk_values.specs.declared.call.Outcome.TheVariants.{Connected, Disconnected}
 use Rattle.desk_schema.specs.Schema.{SchemaView, columns_of}
-use Rattle.sql_tree.specs.Plain.{Plan, select, next, insert, update, delete, commit, rollback, set_read_only}
+use Rattle.sql_tree.specs.Plain.{Plan, select, next, insert, update, delete, commit, rollback, set_read_only, savepoint, rollback_to}
 use Rattle.machine_model.specs.State.{State}
 use Rattle.machine_model.specs.View.{View}
 use Rattle.machine_model.specs.Request.{Request, connect, disconnect, unreadable, unsound, statement, request_of}
@@ -52,6 +52,8 @@ module _ (next_values : List ℕ) (row : ℕ) where
   executed_given schema view env commit = nothing_given (executed schema view next_values row env commit) refl refl
   executed_given schema view env rollback = nothing_given (executed schema view next_values row env rollback) refl refl
   executed_given schema view env set_read_only = nothing_given (executed schema view next_values row env set_read_only) refl refl
+  executed_given schema view env (savepoint name) = nothing_given (executed schema view next_values row env (savepoint name)) refl refl
+  executed_given schema view env (rollback_to name) = nothing_given (executed schema view next_values row env (rollback_to name)) refl refl
 
   answer_given : (schema : SchemaView) (view : View) (request : Request) → IsNext (answer schema view next_values row request)
   answer_given schema view (connect service) =

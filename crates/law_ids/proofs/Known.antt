@@ -12,7 +12,7 @@ use Rattle.desk_values.specs.declared.capture.Captured.{Captured}
 use Rattle.desk_values.specs.Ids.{ids_of_image, is_id}
 use Rattle.desk_values.specs.Comparison.{same_key}
 use Rattle.desk_schema.specs.Start.{StartView}
-use Rattle.desk_schema.proofs.Drafting.{is_same, same_is}
+use Rattle.machine_model.proofs.Exact.{is_same, same_is}
 use Rattle.replay_history.specs.Capture.{IsKnown, IsRun, StandsIn}
 use Rattle.machine_model.specs.State.{State, is_between, is_given, opening, stands_in}
 use Rattle.machine_model.specs.Step.{Gives}

@@ -1,7 +1,7 @@
 -- Each answer to a call keeps rows and keys apart.
-use Rattle.std.proofs.Common.{◌≡◌, ◌∙◌, ℕ, Bool, true, false, ◌&&◌, ◌||◌, not, List, [], ◌∷◌, refl, sym, ap, inl, inr, if◌then◌else◌}
+use Rattle.std.proofs.Common.{◌≡◌, ◌∙◌, ℕ, Bool, true, false, ◌&&◌, ◌||◌, not, List, [], ◌∷◌, refl, sym, ap, subst, inl, inr, if◌then◌else◌}
 use Rattle.std.specs.Prelude.{Option, None, Some, is_some, is_none}
-use Rattle.std.specs.List.{list_any}
+use Rattle.std.specs.List.{AllByRecursion, list_any}
 use Rattle.std.proofs.lemmas.Bool.{false≢true, or_parts}
 use Rattle.desk_values.specs.declared.value.Value.{Value}
 use Rattle.desk_values.specs.declared.value.Image.{Image}
@@ -11,16 +11,19 @@ use Rattle.desk_values.specs.declared.fault.Fault.TheVariants.{NotConnected, Syn
 use Rattle.desk_values.specs.declared.call.Outcome.TheVariants.{Connected, Disconnected}
 use Rattle.desk_schema.specs.Schema.{columns_of}
 use Rattle.sql_tree.specs.declared.tree.Key.{Key}
-use Rattle.sql_tree.specs.Plain.{Term, Asked, Entry, Change, Plan, select, next, insert, update, delete, commit, rollback, set_read_only}
+use Rattle.sql_tree.specs.Plain.{Term, Asked, Entry, Change, Plan, select, next, insert, update, delete, commit, rollback, set_read_only, savepoint, rollback_to}
 use Rattle.sql_eval.specs.SchemaNames.{table_of}
 use Rattle.machine_model.specs.declared.causes.Causes.{Causes}
 use Rattle.machine_model.specs.declared.effect.Effect.{Effect}
-use Rattle.machine_model.specs.Answer.{Answer, answer, delete_causes, delete_effect, done, executed, insert_causes, insert_effect, meets_lock, new_row, ended, refused, reply_of, ruled, select_causes, select_effect, unchanged, unless, update_causes, update_effect}
+use Rattle.machine_model.specs.Answer.{Answer, answer, delete_causes, delete_effect, done, executed, gone_back, insert_causes, insert_effect, marked, meets_lock, new_row, ended, refused, reply_of, ruled, select_causes, select_effect, unchanged, unless, update_causes, update_effect}
 use Rattle.machine_model.specs.Causes.{connect_fault, disconnect_fault, is_empty, is_read_only, is_under_way, needs_write_access, ranked, sets_read_only, statement_fault}
 use Rattle.machine_model.specs.Draws.{draws_of}
 use Rattle.machine_model.specs.Found.{Environment, matches, matching}
 use Rattle.machine_model.specs.Request.{Request, connect, disconnect, unreadable, unsound, statement, request_of, table_in}
-use Rattle.machine_model.specs.Rows.{row_numbers}
+use Rattle.machine_model.specs.Rows.{lay, lay_all, row_numbers}
+use Rattle.machine_model.specs.declared.session.Savepoint.{Savepoint}
+use Rattle.machine_model.specs.declared.session.Transaction.{Transaction}
+use Rattle.machine_model.proofs.Marks.{each_up_to, each_with, own_at_one}
 use Rattle.machine_model.specs.State.{State, nothing, session_at}
 use Rattle.machine_model.specs.Step.{after, step}
 use Rattle.machine_model.specs.View.{View, view_of}
@@ -28,7 +31,8 @@ use Rattle.law_keys.proofs.Members.{In, in_filtered, none_in}
 use Rattle.law_keys.proofs.Writing.{Sees, deletes, holds_rows, inserts}
 use Rattle.law_keys.proofs.Updating.{updates}
 use Rattle.law_keys.proofs.Seeing.{own_in, sees}
-use Rattle.law_keys.proofs.Steps.{IsTidy, commits, ends, stays, writes}
+use Rattle.law_keys.proofs.Steps.{IsTidy, commits, ends, own_kept, stays, turns, writes}
+use Rattle.law_keys.proofs.Choices.{HasNothing, IsChoice, IsLess, back_choice, back_kept, choice_less, marked_choice, nested_back, nested_marked}
 
 -- ---- what it is that nothing forbids
 
@@ -71,13 +75,17 @@ empty_is (x ∷ xs) is = absurd (false≢true (sym is))
 
 nothing_yet : (view : View) → is_under_way view ≡ false → view.own ≡ nothing
 nothing_yet view is =
-    let keys = or_parts _ (not (is_empty view.own.keys)) is in
+    let marks = or_parts _ (not (is_empty view.savepoints)) is in
+    let keys = or_parts _ (not (is_empty view.own.keys)) marks.0 in
     let rows = or_parts _ (not (is_empty view.own.rows)) keys.0 in
     let changes = or_parts view.reads_only (not (is_empty view.own.changes)) rows.0 in
     let no_changes = empty_is view.own.changes changes.1 in
     let no_rows = empty_is view.own.rows rows.1 in
     let no_keys = empty_is view.own.keys keys.1 in
     λ i. record { changes = no_changes i; rows = no_rows i; keys = no_keys i }
+
+no_marks : (view : View) → is_under_way view ≡ false → view.savepoints ≡ []
+no_marks view is = empty_is view.savepoints (or_parts _ (not (is_empty view.savepoints)) is).1
 
 reads_latest : (snapshot : Option ℕ) → is_some snapshot ≡ false → snapshot ≡ None
 reads_latest None is = refl
@@ -99,11 +107,15 @@ module _ (state : State) (is : IsTidy state) (session : ℕ) where
   reads_seen None = refl
   reads_seen (Some table) = refl
 
-  only_reads : (table : Option ℕ) → (view_of state session table).reads_only ≡ true → own_in state session ≡ nothing
+  marks_seen : (table : Option ℕ) → (view_of state session table).savepoints ≡ (session_at state session).savepoints
+  marks_seen None = refl
+  marks_seen (Some table) = refl
+
+  only_reads : (table : Option ℕ) → (view_of state session table).reads_only ≡ true → HasNothing (session_at state session)
   only_reads table reads = is.reads session (sym (reads_seen table) ∙ reads)
 
   refused_tidy : (table : Option ℕ) (draws : List Value) (fault : Fault) → IsTidy (after state session (refused (view_of state session table) draws fault))
-  refused_tidy table draws fault = stays state is session (refused (view_of state session table) draws fault) (own_seen table) refl refl (only_reads table)
+  refused_tidy table draws fault = stays state is session (refused (view_of state session table) draws fault) (own_seen table) (marks_seen table) refl refl (only_reads table)
 
   unless_tidy : (table : Option ℕ) (draws : List Value) (fault : Option Fault) (a : Answer) → (fault ≡ None → IsTidy (after state session a)) → IsTidy (after state session (unless (view_of state session table) draws fault a))
   unless_tidy table draws None a tidy = tidy refl
@@ -116,16 +128,31 @@ module _ (state : State) (is : IsTidy state) (session : ℕ) where
   -- a statement on a table that may write
   module _ (table : ℕ) (binds : List Value) (writing : (on table).reads_only ≡ false) where
     here : Sees state.start.schema.level state.start.rows state.commits (own_in state) session table (on table)
-    here = sees state is.kept session table (reads_latest (session_at state session).snapshot writing)
+    here = sees state (own_kept state is) session table (reads_latest (session_at state session).snapshot writing)
+
+    -- whatever the others go back to
+    module _ (choice : ℕ → Transaction) (is_one : IsChoice state choice) (at : choice session ≡ own_in state session) where
+      less : (t : ℕ) → IsLess (choice t) (own_in state t)
+      less t = choice_less (session_at state t) (choice t) (is.nested t) (is_one t)
+
+      sees_so : Sees state.start.schema.level state.start.rows state.commits choice session table (on table)
+      sees_so = record {
+        rows_in = λ x there. subst (λ (own : Transaction). In x (lay (lay_all state.start.rows state.commits) own.changes) × (x.table ≡ table)) (sym at) (here.rows_in x there);
+        in_rows = λ x there of. here.in_rows x (subst (λ (own : Transaction). In x (lay (lay_all state.start.rows state.commits) own.changes)) at there) of;
+        locked = λ x t other there held. here.locked x t other there ((less t).rows x.row held);
+        locked_key = λ t l v other held key. here.locked_key t l v other ((less t).keys l held) key;
+        transaction = sym at;
+      }
 
     module _ (condition : Option (Term ℕ)) (unlocked : list_any (matches (env_in state binds) condition) (on table).locked ≡ false) where
       among : (x : Image) → In x (matching (env_in state binds) condition (on table).rows) → In x (on table).rows
       among x there = (in_filtered (matches (env_in state binds) condition) x (on table).rows there).0
 
-      free : (x : Image) (t : ℕ) → (t ≡ session → ⊥) → In x (matching (env_in state binds) condition (on table).rows) → In x.row (own_in state t).rows → ⊥
-      free x t other there held =
+      free : (choice : ℕ → Transaction) → IsChoice state choice → (x : Image) (t : ℕ) → (t ≡ session → ⊥) → In x (matching (env_in state binds) condition (on table).rows) → In x.row (choice t).rows → ⊥
+      free choice is_one x t other there held =
           let found = in_filtered (matches (env_in state binds) condition) x (on table).rows there in
-          false≢true (sym (none_in (matches (env_in state binds) condition) x (on table).locked unlocked (here.locked x t other found.0 held)) ∙ found.1)
+          let theirs = (choice_less (session_at state t) (choice t) (is.nested t) (is_one t)).rows x.row held in
+          false≢true (sym (none_in (matches (env_in state binds) condition) x (on table).locked unlocked (here.locked x t other found.0 theirs)) ∙ found.1)
 
   -- ---- statements that nothing forbids
 
@@ -137,13 +164,13 @@ module _ (state : State) (is : IsTidy state) (session : ℕ) where
     select_tidy : (table : ℕ) (asked : Asked ℕ) (condition : Option (Term ℕ)) (keys : List (Key ℕ)) (for_update : Bool) → (for_update ≡ true → (on table).reads_only ≡ false)
         → ranked (select_causes (env_in state binds) (on table) asked condition for_update) ≡ None
         → IsTidy (after state session (done table (on table) [] (select_effect (env_in state binds) (on table) asked condition keys for_update)))
-    select_tidy table asked condition keys false may none = stays state is session (done table (on table) [] (select_effect (env_in state binds) (on table) asked condition keys false)) refl refl refl (only_reads (Some table))
+    select_tidy table asked condition keys false may none = stays state is session (done table (on table) [] (select_effect (env_in state binds) (on table) asked condition keys false)) refl refl refl refl (only_reads (Some table))
     select_tidy table asked condition keys true may none =
         let view = on table in
         let unlocked = (free_causes (select_causes (env_in state binds) view asked condition true) none).0 in
         let found = matching (env_in state binds) condition view.rows in
-        writes state is session (done table view [] (select_effect (env_in state binds) view asked condition keys true)) table (record { images = []; rows = row_numbers found; keys = [] }) refl refl (inl refl) (may refl)
-        (holds_rows state.start.schema.level state.start.rows state.commits state.next_row (own_in state) is.kept session table view (here table binds (may refl)) found (among table binds (may refl) condition unlocked) (free table binds (may refl) condition unlocked) (row_numbers found) (λ row there. there))
+        writes state is session (done table view [] (select_effect (env_in state binds) view asked condition keys true)) table (record { images = []; rows = row_numbers found; keys = [] }) refl refl refl (inl refl) (may refl) (λ choice kept is_one at.
+        holds_rows state.start.schema.level state.start.rows state.commits state.next_row choice kept session table view (sees_so table binds (may refl) choice is_one at) found (among table binds (may refl) condition unlocked) (free table binds (may refl) condition unlocked choice is_one) (row_numbers found) (λ row there. there))
 
     insert_tidy : (table : ℕ) (named : Option (List ℕ)) (entries : List (Entry ℕ)) (draws : List Value) → (on table).reads_only ≡ false
         → ranked (insert_causes (env_in state binds) (columns_of state.start.schema.tables table) (on table) draws (new_row (env_in state binds) (columns_of state.start.schema.tables table) draws state.next_row table named entries) entries) ≡ None
@@ -153,8 +180,8 @@ module _ (state : State) (is : IsTidy state) (session : ℕ) where
         let cs = columns_of state.start.schema.tables table in
         let new = new_row (env_in state binds) cs draws state.next_row table named entries in
         let causes = free_causes (insert_causes (env_in state binds) cs view draws new entries) none in
-        writes state is session (done table view draws (insert_effect new)) table (insert_effect new).writing refl refl (inr refl) may
-        (inserts state.start.schema.level state.start.rows state.commits state.next_row (own_in state) is.kept session table view (here table binds may) new refl refl causes.0 causes.1)
+        writes state is session (done table view draws (insert_effect new)) table (insert_effect new).writing refl refl refl (inr refl) may (λ choice kept is_one at.
+        inserts state.start.schema.level state.start.rows state.commits state.next_row choice kept session table view (sees_so table binds may choice is_one at) new refl refl causes.0 causes.1)
 
     update_tidy : (table : ℕ) (changes : List (Change ℕ)) (condition : Option (Term ℕ)) → (on table).reads_only ≡ false
         → ranked (update_causes (env_in state binds) (columns_of state.start.schema.tables table) (on table) changes condition) ≡ None
@@ -164,8 +191,8 @@ module _ (state : State) (is : IsTidy state) (session : ℕ) where
         let env = env_in state binds in
         let causes = free_causes (update_causes env (columns_of state.start.schema.tables table) view changes condition) none in
         let locks = or_parts (list_any (matches env condition) view.locked) (list_any (meets_lock env view changes) (matching env condition view.rows)) causes.0 in
-        writes state is session (done table view [] (update_effect env view changes condition)) table (update_effect env view changes condition).writing refl refl (inl refl) may
-        (updates env state.start.rows state.commits state.next_row (own_in state) is.kept session table view (here table binds may) changes condition (free table binds may condition locks.0) locks.1 causes.1)
+        writes state is session (done table view [] (update_effect env view changes condition)) table (update_effect env view changes condition).writing refl refl refl (inl refl) may (λ choice kept is_one at.
+        updates env state.start.rows state.commits state.next_row choice kept session table view (sees_so table binds may choice is_one at) changes condition (free table binds may condition locks.0 choice is_one) locks.1 causes.1)
 
     delete_tidy : (table : ℕ) (condition : Option (Term ℕ)) → (on table).reads_only ≡ false
         → ranked (delete_causes (env_in state binds) (on table) condition) ≡ None
@@ -173,15 +200,15 @@ module _ (state : State) (is : IsTidy state) (session : ℕ) where
     delete_tidy table condition may none =
         let view = on table in
         let unlocked = (free_causes (delete_causes (env_in state binds) view condition) none).0 in
-        writes state is session (done table view [] (delete_effect (env_in state binds) view condition)) table (delete_effect (env_in state binds) view condition).writing refl refl (inl refl) may
-        (deletes state.start.schema.level state.start.rows state.commits state.next_row (own_in state) is.kept session table view (here table binds may) (matching (env_in state binds) condition view.rows) (among table binds may condition unlocked) (free table binds may condition unlocked))
+        writes state is session (done table view [] (delete_effect (env_in state binds) view condition)) table (delete_effect (env_in state binds) view condition).writing refl refl refl (inl refl) may (λ choice kept is_one at.
+        deletes state.start.schema.level state.start.rows state.commits state.next_row choice kept session table view (sees_so table binds may choice is_one at) (matching (env_in state binds) condition view.rows) (among table binds may condition unlocked) (free table binds may condition unlocked choice is_one))
 
     ruled_tidy : (table : ℕ) (draws : List Value) (causes : Causes) (effect : Effect) → (ranked causes ≡ None → IsTidy (after state session (done table (on table) draws effect))) → IsTidy (after state session (ruled table (on table) draws causes effect))
     ruled_tidy table draws causes effect tidy = unless_tidy (Some table) draws (ranked causes) (done table (on table) draws effect) tidy
 
     executed_tidy : (plan : Plan ℕ) → statement_fault (view_of state session (table_of plan)) plan ≡ None → IsTidy (after state session (executed state.start.schema (view_of state session (table_of plan)) state.next_values state.next_row (env_in state binds) plan))
     executed_tidy (select table asked condition keys for_update) free = ruled_tidy table [] (select_causes (env_in state binds) (on table) asked condition for_update) (select_effect (env_in state binds) (on table) asked condition keys for_update) (select_tidy table asked condition keys for_update (may_write (on table) (select table asked condition keys for_update) free))
-    executed_tidy (next sequence) free = stays state is session (executed state.start.schema (view_of state session None) state.next_values state.next_row (env_in state binds) (next sequence)) refl refl refl (only_reads None)
+    executed_tidy (next sequence) free = stays state is session (executed state.start.schema (view_of state session None) state.next_values state.next_row (env_in state binds) (next sequence)) refl refl refl refl (only_reads None)
     executed_tidy (insert table named entries) free =
         let draws = draws_of (insert table named entries) state.next_values in
         let cs = columns_of state.start.schema.tables table in
@@ -189,18 +216,32 @@ module _ (state : State) (is : IsTidy state) (session : ℕ) where
         ruled_tidy table draws (insert_causes (env_in state binds) cs (on table) draws new entries) (insert_effect new) (insert_tidy table named entries draws (may_write (on table) (insert table named entries) free refl))
     executed_tidy (update table changes condition) free = ruled_tidy table [] (update_causes (env_in state binds) (columns_of state.start.schema.tables table) (on table) changes condition) (update_effect (env_in state binds) (on table) changes condition) (update_tidy table changes condition (may_write (on table) (update table changes condition) free refl))
     executed_tidy (delete table condition) free = ruled_tidy table [] (delete_causes (env_in state binds) (on table) condition) (delete_effect (env_in state binds) (on table) condition) (delete_tidy table condition (may_write (on table) (delete table condition) free refl))
-    executed_tidy commit free = commits state is session (executed state.start.schema (view_of state session None) state.next_values state.next_row (env_in state binds) commit) refl refl refl
-    executed_tidy rollback free = ends state is session (executed state.start.schema (view_of state session None) state.next_values state.next_row (env_in state binds) rollback) refl refl refl
-    executed_tidy set_read_only free = stays state is session (executed state.start.schema (view_of state session None) state.next_values state.next_row (env_in state binds) set_read_only) refl refl refl (λ reads. nothing_yet (view_of state session None) (not_under_way (view_of state session None) set_read_only free refl))
+    executed_tidy commit free = commits state is session (executed state.start.schema (view_of state session None) state.next_values state.next_row (env_in state binds) commit) refl refl refl refl
+    executed_tidy rollback free = ends state is session (executed state.start.schema (view_of state session None) state.next_values state.next_row (env_in state binds) rollback) refl refl refl refl
+    executed_tidy set_read_only free = stays state is session (executed state.start.schema (view_of state session None) state.next_values state.next_row (env_in state binds) set_read_only) refl refl refl refl (λ reads.
+        let view = view_of state session None in
+        let idle = not_under_way view set_read_only free refl in
+        record { own = nothing_yet view idle; kept = subst (AllByRecursion (λ (x : Savepoint). x.own ≡ nothing)) (sym (no_marks view idle)) tt })
+    executed_tidy (savepoint name) free =
+        let mine = session_at state session in
+        let point : Savepoint = record { name = name; own = mine.own } in
+        turns state is session (marked (view_of state session None) name) (inl refl) (marked_choice mine name) (nested_marked mine.savepoints point (is.nested session)) refl refl (λ reads.
+        let has = only_reads None reads in
+        (has.own, each_with (λ (x : Savepoint). x.own ≡ nothing) mine.savepoints point has.kept has.own))
+    executed_tidy (rollback_to name) free =
+        let mine = session_at state session in
+        turns state is session (gone_back (view_of state session None) name) (back_choice mine name) (back_kept mine name) (nested_back name mine.savepoints mine.own (is.nested session)) refl refl (λ reads.
+        let has = only_reads None reads in
+        (own_at_one (λ (own : Transaction). own ≡ nothing) name mine.own mine.savepoints has.own has.kept, each_up_to (λ (x : Savepoint). x.own ≡ nothing) name mine.savepoints has.kept))
 
   answer_tidy : (request : Request) → IsTidy (after state session (answer state.start.schema (view_of state session (table_in request)) state.next_values state.next_row request))
   answer_tidy (connect service) =
       let view = view_of state session None in
       let a = record (unchanged view (reply_of Connected [] None)) { rights = service } in
-      unless_tidy None [] (connect_fault view service) a (λ free. stays state is session a refl refl refl (only_reads None))
+      unless_tidy None [] (connect_fault view service) a (λ free. stays state is session a refl refl refl refl (only_reads None))
   answer_tidy disconnect =
       let view = view_of state session None in
-      unless_tidy None [] (disconnect_fault view) (ended None Disconnected) (λ free. ends state is session (ended None Disconnected) refl refl refl)
+      unless_tidy None [] (disconnect_fault view) (ended None Disconnected) (λ free. ends state is session (ended None Disconnected) refl refl refl refl)
   answer_tidy unreadable = refused_tidy None [] Syntax
   answer_tidy (unsound table fault) = refused_tidy table [] (if is_none (view_of state session table).rights then NotConnected else fault)
   answer_tidy (statement plan binds) =

@@ -18,7 +18,7 @@ use Rattle.law_keys.specs.Keys.{HasCommitted, HasNonNullKey, IsItWithKey, KeysAr
 use Rattle.law_keys.proofs.Members.{In, each_in, in_each, place_of}
 use Rattle.law_keys.proofs.Same.{back, key_in, key_is}
 use Rattle.law_keys.proofs.Seeing.{own_in}
-use Rattle.law_keys.proofs.Steps.{IsTidy}
+use Rattle.law_keys.proofs.Steps.{IsTidy, own_kept}
 
 -- a key that is not Null is one with itself
 same_self : (level : ℕ) (key : Value) → (key ≡ Null → ⊥) → same_key level key key ≡ true
@@ -43,7 +43,7 @@ module _ (state : State) (is : IsTidy state) (there : KeysAreThere state) (sessi
   latest_are = sym (ap (lay_all state.start.rows) (take_all (length state.commits) state.commits (omega arith)))
 
   gives : (x : Image) (key : Value) → In x (own_in state session).changes → is_there x ≡ true → row_key x ≡ key → (key ≡ Null → ⊥) → HoldsKey state session x.table key ⊎ HasCommitted state x key
-  gives x key among stands is_key some = elim (is.kept.known session x among stands (refl, same_self level (row_key x) (λ none. some (sym is_key ∙ none)))) [
+  gives x key among stands is_key some = elim ((own_kept state is).known session x among stands (refl, same_self level (row_key x) (λ none. some (sym is_key ∙ none)))) [
     | inl held ↦ (
         let same = back level held.0 (key_in x) held.2 in
         inl (any_at (IsKey level x.table key) held.0 (own_in state session).keys held.1 (held.2.0, ap (λ k. same_key level k held.0.key) (sym is_key) ∙ same.1)))

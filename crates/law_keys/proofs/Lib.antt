@@ -10,6 +10,7 @@ pub mod Updating
 pub mod Seeing
 pub mod Steps
 pub mod Answers
+pub mod Choices
 pub mod Given
 pub mod Runs
 pub mod There

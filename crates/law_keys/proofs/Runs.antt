@@ -2,7 +2,7 @@
 use Rattle.std.proofs.Common.{◌≡◌, ◌∙◌, ◌<◌, ℕ, zero, suc, true, false, List, [], ◌∷◌, map, get_or, take, refl, sym, ap, subst, inl, inr}
 use Rattle.std.specs.Prelude.{nat_eq, replicate, Option, None, Some, is_some, IsSomeAnd}
 use Rattle.std.specs.Option.{option_map}
-use Rattle.std.specs.List.{AllByRecursion, AllZip, cons_option}
+use Rattle.std.specs.List.{AllByRecursion, AllZip, Contains, cons_option}
 use Rattle.std.proofs.lemmas.Bool.{eq-eqb, false≢true}
 use Rattle.desk_values.specs.declared.value.Value.{Value}
 use Rattle.desk_values.specs.declared.value.Image.{Image}
@@ -15,6 +15,8 @@ use Rattle.desk_schema.specs.Sound.{AreApart, IsSoundRow, IsSoundStart}
 use Rattle.desk_schema.specs.Start.{StartView}
 use Rattle.desk_schema.proofs.Files.{sound_start}
 use Rattle.machine_model.specs.declared.session.HeldKey.{HeldKey}
+use Rattle.machine_model.specs.declared.session.Savepoint.{Savepoint}
+use Rattle.machine_model.specs.declared.session.Session.{Session}
 use Rattle.machine_model.specs.declared.session.Transaction.{Transaction}
 use Rattle.machine_model.specs.Rows.{IsRising, lay, lay_all, of_table, row_key}
 use Rattle.machine_model.specs.State.{State, disconnected, nothing, opening, session_at, tables}
@@ -25,14 +27,15 @@ use Rattle.machine_model.proofs.Looks.{rising_of_table}
 use Rattle.machine_model.proofs.SoundRows.{ascending_rises}
 use Rattle.law_steps.specs.Held.{HoldsKey, HoldsRow}
 use Rattle.law_steps.specs.Reading.{rows_in}
-use Rattle.law_keys.specs.Keys.{CommittedKeysDiffer, HaveOwnKeys, HoldKeysAlone, HoldRowsAlone, HoldWhatTheyChange, ReadersHaveNothing, ReadersSeeTables, SeenKeysDiffer, SeesTables}
+use Rattle.law_keys.specs.Keys.{CommittedKeysDiffer, HaveOwnKeys, HoldKeysAlone, HoldRowsAlone, HoldWhatTheyChange, ReadersHaveNothing, ReadersSeeTables, SavepointsHoldNoMore, SeenKeysDiffer, SeesTables}
 use Rattle.law_keys.proofs.Members.{In, at_place, each_in, in_each, in_filtered, in_place, in_taken, place_of}
 use Rattle.law_keys.proofs.Rows.{one_row}
 use Rattle.law_keys.proofs.Same.{Apart, Same, back, key_in, on, own_keys}
 use Rattle.law_keys.proofs.Keeping.{IsKeptBySteps, Stands}
 use Rattle.law_keys.proofs.Tables.{all_laid_of}
 use Rattle.law_keys.proofs.Seeing.{own_in, seen_of}
-use Rattle.law_keys.proofs.Steps.{IsTidy}
+use Rattle.law_keys.proofs.Steps.{IsTidy, own_kept}
+use Rattle.law_keys.proofs.Choices.{HasNothing, MayHave, Nested, nested_less}
 use Rattle.law_keys.proofs.Answers.{step_tidy}
 
 -- ---- the start
@@ -41,10 +44,10 @@ take_none : (n : ℕ) → take {A = List Image} n [] ≡ []
 take_none zero = refl
 take_none (suc n) = refl
 
-none_yet : (n t : ℕ) → (get_or (replicate n disconnected) t disconnected).own ≡ nothing
-none_yet zero t = refl
-none_yet (suc n) zero = refl
-none_yet (suc n) (suc t) = none_yet n t
+nobody_yet : (n t : ℕ) → get_or (replicate n disconnected) t disconnected ≡ disconnected
+nobody_yet zero t = refl
+nobody_yet (suc n) zero = refl
+nobody_yet (suc n) (suc t) = nobody_yet n t
 
 module _ (level table : ℕ) where
   left_key : (left : Option (List Value)) (image : Image) → image.left ≡ left → is_some left ≡ true → option_map key_of image.left ≡ Some (row_key image)
@@ -119,10 +122,15 @@ module _ (start : StartView) (is : IsSoundStart start) where
     seen = λ t. first_rows;
   }
 
+  no_choice : (t : ℕ) (own : Transaction) → MayHave (session_at (opening start) t) own → own ≡ nothing
+  no_choice t own (inl same) = same ∙ ap (λ (s : Session). s.own) (nobody_yet 64 t)
+  no_choice t own (inr kept) = absurd (subst (λ (s : Session). In kept.0 s.savepoints) (nobody_yet 64 t) kept.1)
+
   opening_tidy : IsTidy (opening start)
   opening_tidy = record {
-    kept = subst (IsKeptBySteps start.schema.level start.rows [] start.next_row) (λ i t. sym (none_yet 64 t) i) empty_kept;
-    reads = λ t reads. none_yet 64 t;
+    kept = λ choice is_one. subst (IsKeptBySteps start.schema.level start.rows [] start.next_row) (λ i t. sym (no_choice t (choice t) (is_one t)) i) empty_kept;
+    nested = λ t. subst (λ (s : Session). Nested s.savepoints s.own) (sym (nobody_yet 64 t)) tt;
+    reads = λ t reads. subst HasNothing (sym (nobody_yet 64 t)) (record { own = refl; kept = tt });
   }
 
 -- ---- runs
@@ -138,7 +146,7 @@ reached start calls is = run_tidy (opening start) calls (opening_tidy start (sou
 
 module _ (state : State) (is : IsTidy state) where
   pub rows_alone : HoldRowsAlone state
-  rows_alone one other row first second = is.kept.rows one other row (at_place (own_in state one).rows row first) (at_place (own_in state other).rows row second)
+  rows_alone one other row first second = (own_kept state is).rows one other row (at_place (own_in state one).rows row first) (at_place (own_in state other).rows row second)
 
   -- the key is one with one that the session holds
   held : (session table : ℕ) (key : Value) → HoldsKey state session table key → (k : HeldKey) × In k (own_in state session).keys × Same state.start.schema.level (record { table = table; key = key }) k
@@ -150,27 +158,36 @@ module _ (state : State) (is : IsTidy state) where
       let this : HeldKey = record { table = table; key = key } in
       let mine = held one table key first in
       let theirs = held other table key second in
-      is.kept.keys one other mine.0 theirs.0 mine.1 theirs.1 (on level mine.0 this theirs.0 (back level this mine.0 mine.2) theirs.2)
+      (own_kept state is).keys one other mine.0 theirs.0 mine.1 theirs.1 (on level mine.0 this theirs.0 (back level this mine.0 mine.2) theirs.2)
 
   pub holds_changes : HoldWhatTheyChange state
-  holds_changes session = in_each (λ (image : Image). HoldsRow state session image.row) (own_in state session).changes (λ image there. place_of image.row (own_in state session).rows (is.kept.changed session image there))
+  holds_changes session = in_each (λ (image : Image). HoldsRow state session image.row) (own_in state session).changes (λ image there. place_of image.row (own_in state session).rows ((own_kept state is).changed session image there))
+
+  pub savepoints_less : SavepointsHoldNoMore state
+  savepoints_less session =
+      let mine = session_at state session in
+      in_each (λ (kept : Savepoint). ((row : ℕ) → Contains kept.own.rows row → Contains mine.own.rows row) × ((held : HeldKey) → Contains kept.own.keys held → Contains mine.own.keys held)) mine.savepoints (λ kept among.
+      let less = nested_less mine.savepoints mine.own kept (is.nested session) among in (
+        λ row there. place_of row mine.own.rows (less.rows row (at_place kept.own.rows row there)),
+        λ held there. place_of held mine.own.keys (less.keys held (at_place kept.own.keys held there)),
+      ))
 
   pub readers : ReadersHaveNothing state
-  readers = is.reads
+  readers session reads = (is.reads session reads).own
 
   -- ---- what a session sees
 
   pub readers_see : ReadersSeeTables state
   readers_see session n table reads =
-      let empty = is.reads session (ap (λ snapshot. is_some snapshot) reads) in
+      let empty = (is.reads session (ap (λ snapshot. is_some snapshot) reads)).own in
       ap (λ snapshot. lay (lay_all (of_table table state.start.rows) (map (of_table table) (commits_seen snapshot state.commits))) (of_table table (own_in state session).changes)) reads
       ∙ ap (λ (own : Transaction). lay (lay_all (of_table table state.start.rows) (map (of_table table) (take n state.commits))) (of_table table own.changes)) empty
-      ∙ sym (all_laid_of table (Stands state.start.rows state.commits (own_in state)) is.kept.one_table state.start.rows (take n state.commits) is.kept.first (λ x there. inl there) (λ c among x there. inr (inl (c, in_taken c n state.commits among, there))))
+      ∙ sym (all_laid_of table (Stands state.start.rows state.commits (own_in state)) (own_kept state is).one_table state.start.rows (take n state.commits) (own_kept state is).first (λ x there. inl there) (λ c among x there. inr (inl (c, in_taken c n state.commits among, there))))
 
   sees_as : (snapshot : Option ℕ) (session table : ℕ) → (session_at state session).snapshot ≡ snapshot → rows_in state session table ≡ of_table table (lay (lay_all state.start.rows (commits_seen snapshot state.commits)) (own_in state session).changes)
-  sees_as None session table reads = seen_of state is.kept session table reads
+  sees_as None session table reads = seen_of state (own_kept state is) session table reads
   sees_as (Some n) session table reads =
-      let empty = is.reads session (ap (λ snapshot. is_some snapshot) reads) in
+      let empty = (is.reads session (ap (λ snapshot. is_some snapshot) reads)).own in
       readers_see session n table reads ∙ ap (λ (own : Transaction). of_table table (lay (tables state n) own.changes)) (sym empty)
 
   pub sees_tables : SeesTables state
@@ -179,7 +196,7 @@ module _ (state : State) (is : IsTidy state) where
   -- ---- keys
 
   pub committed_differ : CommittedKeysDiffer state
-  committed_differ commits table = own_keys table state.start.schema.level 0 (tables state commits) (rising_lay_all state.start.rows (take commits state.commits) is.kept.first) (is.kept.apart commits)
+  committed_differ commits table = own_keys table state.start.schema.level 0 (tables state commits) (rising_lay_all state.start.rows (take commits state.commits) (own_kept state is).first) ((own_kept state is).apart commits)
 
   -- the rows of one table, of those of which no two have one key
   of_table_apart : (table : ℕ) (rows : List Image) → IsRising rows → Apart state.start.schema.level rows → HaveOwnKeys state.start.schema.level table (of_table table rows)
@@ -187,10 +204,10 @@ module _ (state : State) (is : IsTidy state) where
       apart x y (in_filtered (λ (image : Image). nat_eq image.table table) x rows there).0 (in_filtered (λ (image : Image). nat_eq image.table table) y rows other).0)
 
   seen_as : (snapshot : Option ℕ) (session table : ℕ) → (session_at state session).snapshot ≡ snapshot → HaveOwnKeys state.start.schema.level table (rows_in state session table)
-  seen_as None session table reads = subst (HaveOwnKeys state.start.schema.level table) (sym (seen_of state is.kept session table reads))
-      (of_table_apart table (lay (lay_all state.start.rows state.commits) (own_in state session).changes) (rising_lay (lay_all state.start.rows state.commits) (own_in state session).changes (rising_lay_all state.start.rows state.commits is.kept.first)) (is.kept.seen session))
+  seen_as None session table reads = subst (HaveOwnKeys state.start.schema.level table) (sym (seen_of state (own_kept state is) session table reads))
+      (of_table_apart table (lay (lay_all state.start.rows state.commits) (own_in state session).changes) (rising_lay (lay_all state.start.rows state.commits) (own_in state session).changes (rising_lay_all state.start.rows state.commits (own_kept state is).first)) ((own_kept state is).seen session))
   seen_as (Some n) session table reads = subst (HaveOwnKeys state.start.schema.level table) (sym (readers_see session n table reads))
-      (of_table_apart table (tables state n) (rising_lay_all state.start.rows (take n state.commits) is.kept.first) (is.kept.apart n))
+      (of_table_apart table (tables state n) (rising_lay_all state.start.rows (take n state.commits) (own_kept state is).first) ((own_kept state is).apart n))
 
   pub seen_differ : SeenKeysDiffer state
   seen_differ session table = seen_as (session_at state session).snapshot session table refl

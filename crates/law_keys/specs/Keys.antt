@@ -1,6 +1,6 @@
 -- Who holds a row or a key, what a session sees, and rows of which no two have one key.
 use Rattle.std.specs.Prelude.{◌≡◌, ◌⊎◌, ℕ, true, List, length, Some, is_some, IfSome, IsSomeAnd}
-use Rattle.std.specs.List.{AllByRecursion, Any}
+use Rattle.std.specs.List.{AllByRecursion, Any, Contains}
 use Rattle.desk_values.specs.declared.value.Value.TheVariants.{Null}
 use Rattle.desk_values.specs.declared.value.Image.{Image}
 use Rattle.desk_values.specs.declared.call.Call.{Call}
@@ -10,6 +10,8 @@ use Rattle.desk_values.specs.Comparison.{same_key}
 use Rattle.desk_schema.specs.Rules.{key_in, key_of, keys_of}
 use Rattle.desk_schema.specs.Sound.{AreApart}
 use Rattle.desk_schema.specs.Start.{StartView}
+use Rattle.machine_model.specs.declared.session.HeldKey.{HeldKey}
+use Rattle.machine_model.specs.declared.session.Savepoint.{Savepoint}
 use Rattle.machine_model.specs.Rows.{lay, lay_all, of_table}
 use Rattle.machine_model.specs.State.{State, nothing, opening, session_at, tables}
 use Rattle.machine_model.specs.Step.{run}
@@ -49,6 +51,12 @@ abbrev pub HoldTheKeysTheyGive : State → Type 0
 HoldTheKeysTheyGive state =
     (session : ℕ) → AllByRecursion (λ (image : Image). IfSome image.left (λ values.
     HoldsKey state session image.table (key_of values) ⊎ HasCommitted state image (key_of values))) (session_at state session).own.changes
+
+-- where a savepoint was set its session held nothing that it does not hold now
+abbrev pub SavepointsHoldNoMore : State → Type 0
+SavepointsHoldNoMore state = (session : ℕ) → let mine = session_at state session in
+    AllByRecursion (λ (kept : Savepoint). ((row : ℕ) → Contains kept.own.rows row → Contains mine.own.rows row)
+    × ((held : HeldKey) → Contains kept.own.keys held → Contains mine.own.keys held)) mine.savepoints
 
 -- a transaction that only reads has changed nothing and holds nothing
 abbrev pub ReadersHaveNothing : State → Type 0

@@ -7,12 +7,18 @@
 #![tactic(auto)]
 
 ghost use Rattle.law_keys.specs.Keys.{AfterAnyCalls, CommittedKeysDiffer, HoldKeysAlone, HoldRowsAlone, HoldTheKeysTheyGive};
-ghost use Rattle.law_keys.specs.Keys.{HoldWhatTheyChange, KeysAreThere, ReadersHaveNothing, ReadersSeeTables, SeenKeysDiffer, SeesTables};
+ghost use Rattle.law_keys.specs.Keys.{HoldWhatTheyChange, KeysAreThere, ReadersHaveNothing, ReadersSeeTables};
+ghost use Rattle.law_keys.specs.Keys.{SavepointsHoldNoMore, SeenKeysDiffer, SeesTables};
 
 /// Whatever calls came before, no row and no key is held by two sessions.
 pub fn nothing_is_held_twice()
     ensures rows { AfterAnyCalls HoldRowsAlone }
     ensures keys { AfterAnyCalls HoldKeysAlone }
+{}
+
+/// Whatever calls came before, going back to a savepoint gives a session nothing to hold that it does not hold already.
+pub fn savepoints_hold_no_more()
+    ensures { AfterAnyCalls SavepointsHoldNoMore }
 {}
 
 /// Whatever calls came before, a session holds each row that it changes, and each key that it gives a row and that the row had

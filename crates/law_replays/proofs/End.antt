@@ -8,4 +8,5 @@ pub mod Own
 pub mod Classes
 pub mod Again
 pub mod Ends
+pub mod Seen
 pub mod Whole

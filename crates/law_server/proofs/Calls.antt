@@ -6,12 +6,11 @@ use Rattle.desk_values.specs.declared.value.Value.{Value}
 use Rattle.desk_values.specs.declared.call.Call.{Call}
 use Rattle.desk_values.specs.declared.call.Call.TheVariants.{Connect, Sql, Disconnect}
 use Rattle.desk_values.specs.declared.fault.Fault.{Fault}
-use Rattle.desk_values.specs.declared.fault.Fault.TheVariants.{Syntax, UnknownTable, UnknownColumn, UnknownSequence, UnknownService, Kinds, BindMissing, Locked, DuplicateKey, NullValue, OutOfRange, TextTooLong, ZeroDivisor, Overflow, ReadOnly, NotConnected, AlreadyConnected, UnderWay, TooManyRows}
+use Rattle.desk_values.specs.declared.fault.Fault.TheVariants.{Syntax, UnknownTable, UnknownColumn, UnknownSequence, UnknownService, Kinds, BindMissing, Locked, DuplicateKey, NullValue, OutOfRange, TextTooLong, ZeroDivisor, Overflow, ReadOnly, NotConnected, AlreadyConnected, UnderWay, TooManyRows, NoSavepoint}
 use Rattle.desk_values.specs.Fault.{fault_rank}
 use Rattle.desk_schema.specs.declared.schema.Rights.{Rights}
 use Rattle.desk_schema.specs.Schema.{SchemaView, columns_of, rights_of}
-use Rattle.sql_tree.specs.Plain.{Name, Plan, select, next, insert, update, delete, commit, rollback, set_read_only}
-use Rattle.sql_reader.specs.Reading.{statement_of}
+use Rattle.sql_tree.specs.Plain.{Name, Plan, select, next, insert, update, delete, commit, rollback, set_read_only, savepoint, rollback_to}
 use Rattle.sql_eval.specs.Check.{applies, check_of, first_fault}
 use Rattle.sql_eval.specs.Faults.{unless_told}
 use Rattle.sql_eval.specs.SchemaNames.{numbered}
@@ -23,9 +22,9 @@ use Rattle.machine_model.specs.Found.{Environment}
 use Rattle.machine_model.specs.Draws.{draws_of}
 use Rattle.machine_model.specs.View.{View}
 use Rattle.machine_model.specs.Step.{view_for}
-use Rattle.machine_model.specs.Request.{Request, checked, connect, disconnect, read, request_of, statement, table_named}
+use Rattle.machine_model.specs.Request.{Request, checked, connect, disconnect, read, request_of, statement, statement_in, table_named}
 use Rattle.machine_model.specs.Answer.{Answer, answer, delete_causes, delete_effect, done, executed, insert_causes, insert_effect, new_row, ruled, select_causes, select_effect, unless, update_causes, update_effect}
-use Rattle.law_server.specs.Ranks.{BeginsTooLate, Brings, Forbids, Refuses, TellsLowest, WritesUnallowed}
+use Rattle.law_server.specs.Ranks.{BeginsTooLate, Brings, Forbids, GoesBackToNone, Refuses, TellsLowest, WritesUnallowed}
 use Rattle.law_server.specs.Applies.{AnswersByRank, Applies, IsChecked, IsRead, RepliesByRank, fault_told}
 use Rattle.law_server.proofs.Ranks.{IsAtMost, causes_first, connections_first, first_applies, here, none_is, statements_first}
 use Rattle.law_server.proofs.Stages.{InEither, at_most, in_turn, tells_alike}
@@ -50,6 +49,7 @@ pub forbids_low : (view : View) (plan : Plan ℕ) (fault : Fault) → Forbids vi
 forbids_low view plan NotConnected is = omega arith
 forbids_low view plan ReadOnly is = omega arith
 forbids_low view plan UnderWay is = omega arith
+forbids_low view plan NoSavepoint is = omega arith
 forbids_low view plan other is = absurd is
 
 pub brings_high : (causes : Causes) (fault : Fault) → Brings causes fault → 11 < fault_rank fault
@@ -98,6 +98,8 @@ module _ (schema : SchemaView) (view : View) (next_values : List ℕ) (row : ℕ
   said_executed env commit = refl
   said_executed env rollback = refl
   said_executed env set_read_only = refl
+  said_executed env (savepoint name) = refl
+  said_executed env (rollback_to name) = refl
 
   abbrev said_to : Request → Option Fault
   said_to request = fault_told (answer schema view next_values row request).reply.outcome
@@ -151,17 +153,17 @@ module _ (schema : SchemaView) (view : View) (next_values : List ℕ) (row : ℕ
     here_with = record { level = schema.level; binds = binds }
 
     -- of a text that is no statement
-    unread : statement_of text ≡ None → Tells (Sql text binds) (Some Syntax)
+    unread : statement_in schema.version text ≡ None → Tells (Sql text binds) (Some Syntax)
     unread is = record { applies = is; lowest = λ other applied. omega arith }
 
-    module _ (parsed : Plan Name) (reads : statement_of text ≡ Some parsed) where
-      of_read : (Says : Plan Name → Type 0) → IsRead text Says → Says parsed
+    module _ (parsed : Plan Name) (reads : statement_in schema.version text ≡ Some parsed) where
+      of_read : (Says : Plan Name → Type 0) → IsRead schema.version text Says → Says parsed
       of_read Says is = subst (λ (o : Option (Plan Name)). IsSomeAnd o Says) reads is
 
-      to_read : (Says : Plan Name → Type 0) → Says parsed → IsRead text Says
+      to_read : (Says : Plan Name → Type 0) → Says parsed → IsRead schema.version text Says
       to_read Says is = subst (λ (o : Option (Plan Name)). IsSomeAnd o Says) (sym reads) is
 
-      no_syntax : {X : Type 0} → statement_of text ≡ None → X
+      no_syntax : {X : Type 0} → statement_in schema.version text ≡ None → X
       no_syntax is = absurd (let none : None ≡ Some parsed = sym is ∙ reads in cc)
 
       abbrev Finds : Fault → Plan Name → Type 0
@@ -205,6 +207,7 @@ module _ (schema : SchemaView) (view : View) (next_values : List ℕ) (row : ℕ
         lowest_unsound connected Kinds is = lowest_found Kinds (of_read (Finds Kinds) is)
         lowest_unsound connected ReadOnly is = omega (arith, found_low schema binds parsed fault is_found)
         lowest_unsound connected UnderWay is = omega (arith, found_low schema binds parsed fault is_found)
+        lowest_unsound connected NoSavepoint is = omega (arith, found_low schema binds parsed fault is_found)
         lowest_unsound connected ZeroDivisor is = unchecked (MeetsThere ZeroDivisor) is
         lowest_unsound connected Overflow is = unchecked (MeetsThere Overflow) is
         lowest_unsound connected TooManyRows is = unchecked (MeetsThere TooManyRows) is
@@ -237,7 +240,7 @@ module _ (schema : SchemaView) (view : View) (next_values : List ℕ) (row : ℕ
             to_read (λ (parsed : Plan Name). IsOkAnd (check_of schema binds parsed) (Says here_with))
             (subst (λ (r : Result (Plan ℕ) Fault). IsOkAnd r (Says here_with)) (sym passes) is)
 
-        overlooked : {X : Type 0} (fault : Fault) → IsRead text (Finds fault) → X
+        overlooked : {X : Type 0} (fault : Fault) → IsRead schema.version text (Finds fault) → X
         overlooked fault is = never (applies schema binds parsed fault) (of_read (Finds fault) is) (nothing_is_overlooked schema binds parsed plan passes fault)
 
         abbrev InStages : Fault → Type 0
@@ -248,6 +251,9 @@ module _ (schema : SchemaView) (view : View) (next_values : List ℕ) (row : ℕ
 
         abbrev BeginsToRead : Plan Name → Type 0
         BeginsToRead parsed = BeginsTooLate view (numbered schema parsed)
+
+        abbrev GoesBack : Plan Name → Type 0
+        GoesBack parsed = GoesBackToNone view (numbered schema parsed)
 
         to_stages : (fault : Fault) → AppliesHere fault → InStages fault
         to_stages Syntax is = no_syntax is
@@ -261,6 +267,7 @@ module _ (schema : SchemaView) (view : View) (next_values : List ℕ) (row : ℕ
         to_stages Kinds is = overlooked Kinds is
         to_stages ReadOnly is = let both = of_read WritesOf is in inl (ap needs_write_access (sym is_numbered) ∙ both.0, both.1)
         to_stages UnderWay is = let both = of_read BeginsToRead is in inl (sym is_numbered ∙ both.0, both.1)
+        to_stages NoSavepoint is = inl (subst (GoesBackToNone view) is_numbered (of_read GoesBack is))
         to_stages ZeroDivisor is = inr (brought schema view next_values row here_with plan ZeroDivisor (of_checked (MeetsThere ZeroDivisor) is))
         to_stages Overflow is = inr (brought schema view next_values row here_with plan Overflow (of_checked (MeetsThere Overflow) is))
         to_stages TooManyRows is = inr (brought schema view next_values row here_with plan TooManyRows (of_checked (MeetsThere TooManyRows) is))
@@ -274,6 +281,7 @@ module _ (schema : SchemaView) (view : View) (next_values : List ℕ) (row : ℕ
         of_forbidden NotConnected is = is
         of_forbidden ReadOnly is = to_read WritesOf (ap needs_write_access is_numbered ∙ is.0, is.1)
         of_forbidden UnderWay is = to_read BeginsToRead (is_numbered ∙ is.0, is.1)
+        of_forbidden NoSavepoint is = to_read GoesBack (subst (GoesBackToNone view) (sym is_numbered) is)
         of_forbidden other is = absurd is
 
         of_brought : (fault : Fault) → Brings touched fault → AppliesHere fault
@@ -305,14 +313,14 @@ module _ (schema : SchemaView) (view : View) (next_values : List ℕ) (row : ℕ
       by_checks (Ok plan) is = sound plan is
       by_checks (Err fault) is = by_rights fault is (is_none view.rights) refl
 
-    by_reading : (found : Option (Plan Name)) → statement_of text ≡ found → Tells (Sql text binds) (said_to (read schema binds found))
+    by_reading : (found : Option (Plan Name)) → statement_in schema.version text ≡ found → Tells (Sql text binds) (said_to (read schema binds found))
     by_reading None is = unread is
     by_reading (Some parsed) is = by_checks parsed is (check_of schema binds parsed) refl
 
   told : (call : Call) → Tells call (said_to (request_of schema call))
   told (Connect service) = connects service
   told Disconnect = ends
-  told (Sql text binds) = by_reading text binds (statement_of text) refl
+  told (Sql text binds) = by_reading text binds (statement_in schema.version text) refl
 
 pub answers_by_rank : AnswersByRank
 answers_by_rank schema view next_values row call = told schema view next_values row call

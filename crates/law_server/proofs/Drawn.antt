@@ -11,8 +11,7 @@ use Rattle.desk_values.specs.declared.fault.Fault.TheVariants.{AlreadyConnected,
 use Rattle.desk_values.specs.Fault.{fault_rank}
 use Rattle.desk_schema.specs.declared.schema.Rights.{Rights}
 use Rattle.desk_schema.specs.Schema.{SchemaView, columns_of, rights_of}
-use Rattle.sql_tree.specs.Plain.{Name, Plan, select, next, insert, update, delete, commit, rollback, set_read_only}
-use Rattle.sql_reader.specs.Reading.{statement_of}
+use Rattle.sql_tree.specs.Plain.{Name, Plan, select, next, insert, update, delete, commit, rollback, set_read_only, savepoint, rollback_to}
 use Rattle.sql_eval.specs.Check.{check_of, first_fault}
 use Rattle.sql_eval.specs.SchemaNames.{numbered}
 use Rattle.sql_eval.proofs.CheckLaws.{lowest_rank_is_told}
@@ -22,7 +21,7 @@ use Rattle.machine_model.specs.Causes.{connect_fault, disconnect_fault, ranked, 
 use Rattle.machine_model.specs.Found.{Environment}
 use Rattle.machine_model.specs.Draws.{draws_from, draws_of, drawn_from}
 use Rattle.machine_model.specs.View.{View}
-use Rattle.machine_model.specs.Request.{Request, checked, connect, disconnect, read, request_of, statement, table_named}
+use Rattle.machine_model.specs.Request.{Request, checked, connect, disconnect, read, request_of, statement, statement_in, table_named}
 use Rattle.machine_model.specs.Answer.{Answer, answer, delete_causes, delete_effect, done, executed, insert_causes, insert_effect, new_row, refused, ruled, select_causes, select_effect, unless, update_causes, update_effect}
 use Rattle.law_server.specs.Ranks.{Brings, Forbids, Refuses}
 use Rattle.law_server.specs.Applies.{DrawsByRank, drawn_by, fault_told, is_told_early}
@@ -88,6 +87,8 @@ module _ (schema : SchemaView) (view : View) (next_values : List ℕ) (row : ℕ
   drew_executed env commit = drew_nothing commit (executed schema view next_values row env commit) (λ sequence. refl) refl
   drew_executed env rollback = drew_nothing rollback (executed schema view next_values row env rollback) (λ sequence. refl) refl
   drew_executed env set_read_only = drew_nothing set_read_only (executed schema view next_values row env set_read_only) (λ sequence. refl) refl
+  drew_executed env (savepoint name) = drew_nothing (savepoint name) (executed schema view next_values row env (savepoint name)) (λ sequence. refl) refl
+  drew_executed env (rollback_to name) = drew_nothing (rollback_to name) (executed schema view next_values row env (rollback_to name)) (λ sequence. refl) refl
 
   abbrev DrewTo : Call → Request → Type 0
   DrewTo call request = Drew (drawn_by schema next_values call) (answer schema view next_values row request)
@@ -100,7 +101,7 @@ module _ (schema : SchemaView) (view : View) (next_values : List ℕ) (row : ℕ
   ends : DrewTo Disconnect disconnect
   ends = drew_early [] (disconnect_fault view) _ (first_applies (is_none view.rights) NotConnected None (λ fault. fault_rank fault ≤ 11) (λ is. omega arith) tt) refl
 
-  module _ (text : List ℕ) (binds : List Value) (parsed : Plan Name) (reads : statement_of text ≡ Some parsed) where
+  module _ (text : List ℕ) (binds : List Value) (parsed : Plan Name) (reads : statement_in schema.version text ≡ Some parsed) where
     abbrev drawn_here : Option (Plan Name) → List Value
     drawn_here found = unwrap_or (option_map (λ (parsed : Plan Name). draws_of (numbered schema parsed) next_values) found) []
 
@@ -121,14 +122,14 @@ module _ (schema : SchemaView) (view : View) (next_values : List ℕ) (row : ℕ
         let low = found_low schema binds parsed fault (lowest_rank_is_told schema binds parsed fault is).0 in
         by_rights fault (omega (arith, low)) (is_none view.rights)
 
-  by_reading : (text : List ℕ) (binds : List Value) (found : Option (Plan Name)) → statement_of text ≡ found → DrewTo (Sql text binds) (read schema binds found)
+  by_reading : (text : List ℕ) (binds : List Value) (found : Option (Plan Name)) → statement_in schema.version text ≡ found → DrewTo (Sql text binds) (read schema binds found)
   by_reading text binds None is = refl
   by_reading text binds (Some parsed) is = by_checks text binds parsed is (check_of schema binds parsed) refl
 
   drawn : (call : Call) → DrewTo call (request_of schema call)
   drawn (Connect service) = connects service
   drawn Disconnect = ends
-  drawn (Sql text binds) = by_reading text binds (statement_of text) refl
+  drawn (Sql text binds) = by_reading text binds (statement_in schema.version text) refl
 
 pub draws_by_rank : DrawsByRank
 draws_by_rank schema view next_values row call = drawn schema view next_values row call

@@ -1,7 +1,9 @@
 pub mod Rows
 pub mod Renaming
+pub mod Marks
 pub mod Ranks
 pub mod Calls
 pub mod Drawn
 pub mod Stages
 pub mod Touched
+pub mod Levels

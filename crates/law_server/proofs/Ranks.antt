@@ -1,20 +1,24 @@
 -- The first of the faults that apply is the one of the lowest rank.
-use Rattle.std.proofs.Common.{◌≡◌, ◌≤◌, inl, inr, ℕ, Bool, true, false, if◌then◌else◌, Option, None, Some, refl, ap, ◌∙◌, arith, ⊎_elim}
+use Rattle.std.proofs.Common.{◌≡◌, ◌≤◌, inl, inr, ℕ, Bool, true, false, if◌then◌else◌, List, [], ◌∷◌, Option, None, Some, refl, sym, ap, ◌∙◌, arith, ⊎_elim}
 use Rattle.std.proofs.lemmas.Bool.{and_parts, or_cases}
 use Rattle.std.proofs.Math.Bool.{or-true}
-use Rattle.std.specs.Prelude.{◌&&◌, ◌||◌, IfSome, IsSomeAnd, is_none, is_some}
+use Rattle.std.specs.Prelude.{◌&&◌, ◌||◌, not, IfSome, IsSomeAnd, is_none, is_some}
+use Rattle.std.specs.List.{AllByRecursion}
+use Rattle.std.proofs.lemmas.Slice.Eq.{bytes_eq-Decides}
 use Rattle.desk_values.specs.declared.fault.Fault.{Fault}
-use Rattle.desk_values.specs.declared.fault.Fault.TheVariants.{Syntax, UnknownTable, UnknownColumn, UnknownSequence, UnknownService, Kinds, BindMissing, Locked, DuplicateKey, NullValue, OutOfRange, TextTooLong, ZeroDivisor, Overflow, ReadOnly, NotConnected, AlreadyConnected, UnderWay, TooManyRows}
+use Rattle.desk_values.specs.declared.fault.Fault.TheVariants.{Syntax, UnknownTable, UnknownColumn, UnknownSequence, UnknownService, Kinds, BindMissing, Locked, DuplicateKey, NullValue, OutOfRange, TextTooLong, ZeroDivisor, Overflow, ReadOnly, NotConnected, AlreadyConnected, UnderWay, TooManyRows, NoSavepoint}
 use Rattle.desk_values.specs.Fault.{fault_rank}
 use Rattle.desk_schema.specs.declared.schema.Rights.{Rights}
 use Rattle.desk_schema.specs.declared.schema.Rights.TheVariants as rights
-use Rattle.sql_tree.specs.Plain.{Plan, select, next, insert, update, delete, commit, rollback, set_read_only}
+use Rattle.sql_tree.specs.Plain.{Plan, select, next, insert, update, delete, commit, rollback, set_read_only, savepoint, rollback_to}
 use Rattle.sql_eval.specs.declared.faults.Faults.{Faults}
 use Rattle.sql_eval.specs.Faults.{told}
 use Rattle.machine_model.specs.declared.causes.Causes.{Causes}
-use Rattle.machine_model.specs.Causes.{connect_fault, is_read_only, is_under_way, needs_write_access, ranked, sets_read_only, statement_fault}
+use Rattle.machine_model.specs.Causes.{connect_fault, is_read_only, is_under_way, lacks_savepoint, needs_write_access, ranked, sets_read_only, statement_fault}
+use Rattle.machine_model.specs.declared.session.Savepoint.{Savepoint}
+use Rattle.machine_model.specs.Savepoints.{has_savepoint, is_named}
 use Rattle.machine_model.specs.View.{View}
-use Rattle.law_server.specs.Ranks.{Brings, CausesByRank, ConnectionsByRank, Forbids, Has, MayOnlyRead, PartsByRank, Refuses, StatementsByRank}
+use Rattle.law_server.specs.Ranks.{Brings, CausesByRank, ConnectionsByRank, Forbids, GoesBackToNone, Has, MayOnlyRead, PartsByRank, Refuses, StatementsByRank}
 
 -- ---- a list of tests, the first of which that passes tells its fault
 
@@ -69,6 +73,7 @@ module _ (causes : Causes) where
   causes_lowest NotConnected is = absurd is
   causes_lowest AlreadyConnected is = absurd is
   causes_lowest UnderWay is = absurd is
+  causes_lowest NoSavepoint is = absurd is
 
 pub causes_first : CausesByRank
 causes_first causes = record { applies = causes_apply causes; lowest = causes_lowest causes }
@@ -93,6 +98,31 @@ sets_is (delete table condition) is = absurd (let never : false ≡ true = is in
 sets_is commit is = absurd (let never : false ≡ true = is in cc)
 sets_is rollback is = absurd (let never : false ≡ true = is in cc)
 sets_is set_read_only is = refl
+sets_is (savepoint name) is = absurd (let never : false ≡ true = is in cc)
+sets_is (rollback_to name) is = absurd (let never : false ≡ true = is in cc)
+
+none_have : (name : List ℕ) (xs : List Savepoint) → not (has_savepoint name xs) ≡ true → AllByRecursion (λ (x : Savepoint). ¬ (x.name ≡ name)) xs
+none_have name [] = λ is. tt
+none_have name (x ∷ xs) =
+    elim (is_named name x) as (λ b. is_named name x ≡ b → not (b || has_savepoint name xs) ≡ true → (¬ (x.name ≡ name)) × AllByRecursion (λ (y : Savepoint). ¬ (y.name ≡ name)) xs) [
+      | true ↦ λ named is. absurd (let never : false ≡ true = is in cc)
+      | false ↦ λ named is. (λ same. let both : false ≡ true = sym named ∙ (bytes_eq-Decides x.name name).1 same in cc, none_have name xs is)
+    ] refl
+
+have_none : (name : List ℕ) (xs : List Savepoint) → AllByRecursion (λ (x : Savepoint). ¬ (x.name ≡ name)) xs → not (has_savepoint name xs) ≡ true
+have_none name [] none = refl
+have_none name (x ∷ xs) none = elim (is_named name x) as (λ b. is_named name x ≡ b → not (b || has_savepoint name xs) ≡ true) [
+  | true ↦ λ named. absurd (none.0 ((bytes_eq-Decides x.name name).0 named))
+  | false ↦ λ named. have_none name xs none.1
+] refl
+
+lacks_is : (view : View) (plan : Plan ℕ) → lacks_savepoint view plan ≡ true → GoesBackToNone view plan
+lacks_is view (rollback_to name) is = none_have name view.savepoints is
+lacks_is view other is = absurd (let never : false ≡ true = is in cc)
+
+is_lacking : (view : View) (plan : Plan ℕ) → GoesBackToNone view plan → lacks_savepoint view plan ≡ true
+is_lacking view (rollback_to name) none = have_none name view.savepoints none
+is_lacking view other none = absurd none
 
 module _ (view : View) (plan : Plan ℕ) where
   may_only_read : (is_read_only view.rights || view.reads_only) ≡ true → MayOnlyRead view
@@ -107,7 +137,8 @@ module _ (view : View) (plan : Plan ℕ) where
   statements_apply =
       first_applies (is_none view.rights) NotConnected _ (Forbids view plan) (none_is view.rights)
       (first_applies (needs_write_access plan && (is_read_only view.rights || view.reads_only)) ReadOnly _ (Forbids view plan) (λ is. let both = and_parts (needs_write_access plan) (is_read_only view.rights || view.reads_only) is in (both.0, may_only_read both.1))
-      (first_applies (sets_read_only plan && is_under_way view) UnderWay _ (Forbids view plan) (λ is. let both = and_parts (sets_read_only plan) (is_under_way view) is in (sets_is plan both.0, both.1)) tt))
+      (first_applies (sets_read_only plan && is_under_way view) UnderWay _ (Forbids view plan) (λ is. let both = and_parts (sets_read_only plan) (is_under_way view) is in (sets_is plan both.0, both.1))
+      (first_applies (lacks_savepoint view plan) NoSavepoint _ (Forbids view plan) (lacks_is view plan) tt)))
 
   statements_lowest : (other : Fault) → Forbids view plan other → IsAtMost (fault_rank other) (statement_fault view plan)
   unfolding statement_fault
@@ -119,6 +150,11 @@ module _ (view : View) (plan : Plan ℕ) where
       before (is_none view.rights) NotConnected _ 10 (omega arith)
       (before (needs_write_access plan && (is_read_only view.rights || view.reads_only)) ReadOnly _ 10 (omega arith)
       (here (sets_read_only plan && is_under_way view) UnderWay _ 10 (omega arith) (ap (λ (p : Plan ℕ). sets_read_only p && is_under_way view) is.0 ∙ is.1)))
+  statements_lowest NoSavepoint is =
+      before (is_none view.rights) NotConnected _ 11 (omega arith)
+      (before (needs_write_access plan && (is_read_only view.rights || view.reads_only)) ReadOnly _ 11 (omega arith)
+      (before (sets_read_only plan && is_under_way view) UnderWay _ 11 (omega arith)
+      (here (lacks_savepoint view plan) NoSavepoint _ 11 (omega arith) (is_lacking view plan is))))
   statements_lowest Syntax is = absurd is
   statements_lowest UnknownTable is = absurd is
   statements_lowest UnknownColumn is = absurd is
@@ -161,6 +197,7 @@ module _ (view : View) (service : Option Rights) where
   connections_lowest ReadOnly is = absurd is
   connections_lowest NotConnected is = absurd is
   connections_lowest UnderWay is = absurd is
+  connections_lowest NoSavepoint is = absurd is
   connections_lowest TooManyRows is = absurd is
 
 pub connections_first : ConnectionsByRank
@@ -190,6 +227,7 @@ parts_lowest faults ReadOnly is = absurd is
 parts_lowest faults NotConnected is = absurd is
 parts_lowest faults AlreadyConnected is = absurd is
 parts_lowest faults UnderWay is = absurd is
+parts_lowest faults NoSavepoint is = absurd is
 parts_lowest faults TooManyRows is = absurd is
 
 pub parts_first : PartsByRank

@@ -12,7 +12,7 @@ use Rattle.desk_values.specs.declared.fault.Fault.{Fault}
 use Rattle.desk_values.specs.declared.fault.Fault.TheVariants.{Locked, DuplicateKey, NullValue, OutOfRange, TextTooLong, ZeroDivisor, Overflow, TooManyRows}
 use Rattle.desk_values.specs.Comparison.{same_key}
 use Rattle.desk_schema.specs.Schema.{SchemaView, columns_of}
-use Rattle.sql_tree.specs.Plain.{Asked, Change, Plan, Term, columns, values, totals, select, next, insert, update, delete, commit, rollback, set_read_only}
+use Rattle.sql_tree.specs.Plain.{Asked, Change, Plan, Term, columns, values, totals, select, next, insert, update, delete, commit, rollback, set_read_only, savepoint, rollback_to}
 use Rattle.sql_eval.specs.Faults.{any_fault, divides, joined, overflows}
 use Rattle.machine_model.specs.declared.causes.Causes.{Causes}
 use Rattle.machine_model.specs.Causes.{no_cause}
@@ -122,6 +122,8 @@ module _ (schema : SchemaView) (view : View) (next_values : List ℕ) (row : ℕ
   values_divide commit = nowhere
   values_divide rollback = nowhere
   values_divide set_read_only = nowhere
+  values_divide (savepoint name) = nowhere
+  values_divide (rollback_to name) = nowhere
 
   pub values_overflow : (plan : Plan ℕ) → Decides (causes_of plan).overflows (ValuesGive schema view next_values row env plan Overflow)
   unfolding any_fault joined
@@ -138,6 +140,8 @@ module _ (schema : SchemaView) (view : View) (next_values : List ℕ) (row : ℕ
   values_overflow commit = nowhere
   values_overflow rollback = nowhere
   values_overflow set_read_only = nowhere
+  values_overflow (savepoint name) = nowhere
+  values_overflow (rollback_to name) = nowhere
 
   -- ---- how many rows it touches, and what others hold
 
@@ -157,6 +161,8 @@ module _ (schema : SchemaView) (view : View) (next_values : List ℕ) (row : ℕ
   are_too_many commit = nowhere
   are_too_many rollback = nowhere
   are_too_many set_read_only = nowhere
+  are_too_many (savepoint name) = nowhere
+  are_too_many (rollback_to name) = nowhere
 
   meets_row : (condition : Option (Term ℕ)) → Decides (list_any (matches env condition) view.locked) (MeetsRow schema view next_values row env condition)
   meets_row condition = any_of (matches env condition) (λ image. matches env condition image ≡ true) (λ image. itself (matches env condition image)) view.locked
@@ -181,6 +187,8 @@ module _ (schema : SchemaView) (view : View) (next_values : List ℕ) (row : ℕ
   meets_hold commit = nowhere
   meets_hold rollback = nowhere
   meets_hold set_read_only = nowhere
+  meets_hold (savepoint name) = nowhere
+  meets_hold (rollback_to name) = nowhere
 
   -- ---- the rows that it writes
 
@@ -193,6 +201,8 @@ module _ (schema : SchemaView) (view : View) (next_values : List ℕ) (row : ℕ
   writes_null commit = nowhere
   writes_null rollback = nowhere
   writes_null set_read_only = nowhere
+  writes_null (savepoint name) = nowhere
+  writes_null (rollback_to name) = nowhere
 
   pub writes_long : (plan : Plan ℕ) → Decides (causes_of plan).too_long (WritesAgainst schema view next_values row exceeds env plan)
   writes_long (select table asked condition keys for_update) = nowhere
@@ -203,6 +213,8 @@ module _ (schema : SchemaView) (view : View) (next_values : List ℕ) (row : ℕ
   writes_long commit = nowhere
   writes_long rollback = nowhere
   writes_long set_read_only = nowhere
+  writes_long (savepoint name) = nowhere
+  writes_long (rollback_to name) = nowhere
 
   pub writes_out : (plan : Plan ℕ) → Decides (causes_of plan).out_of_range (WritesAgainst schema view next_values row leaves env plan)
   writes_out (select table asked condition keys for_update) = nowhere
@@ -213,6 +225,8 @@ module _ (schema : SchemaView) (view : View) (next_values : List ℕ) (row : ℕ
   writes_out commit = nowhere
   writes_out rollback = nowhere
   writes_out set_read_only = nowhere
+  writes_out (savepoint name) = nowhere
+  writes_out (rollback_to name) = nowhere
 
   pub repeats : (plan : Plan ℕ) → Decides (causes_of plan).duplicate (RepeatsKey schema view next_values row env plan)
   repeats (select table asked condition keys for_update) = nowhere
@@ -223,6 +237,8 @@ module _ (schema : SchemaView) (view : View) (next_values : List ℕ) (row : ℕ
   repeats commit = nowhere
   repeats rollback = nowhere
   repeats set_read_only = nowhere
+  repeats (savepoint name) = nowhere
+  repeats (rollback_to name) = nowhere
 
   -- ---- each fault of rows
 

@@ -9,13 +9,12 @@ use Rattle.desk_values.specs.declared.call.Call.TheVariants.{Connect, Sql, Disco
 use Rattle.desk_values.specs.declared.call.Outcome.{Outcome}
 use Rattle.desk_values.specs.declared.call.Outcome.TheVariants.{Refused}
 use Rattle.desk_values.specs.declared.fault.Fault.{Fault}
-use Rattle.desk_values.specs.declared.fault.Fault.TheVariants.{Syntax, UnknownTable, UnknownColumn, UnknownSequence, UnknownService, Kinds, BindMissing, Locked, DuplicateKey, NullValue, OutOfRange, TextTooLong, ZeroDivisor, Overflow, ReadOnly, NotConnected, AlreadyConnected, UnderWay, TooManyRows}
+use Rattle.desk_values.specs.declared.fault.Fault.TheVariants.{Syntax, UnknownTable, UnknownColumn, UnknownSequence, UnknownService, Kinds, BindMissing, Locked, DuplicateKey, NullValue, OutOfRange, TextTooLong, ZeroDivisor, Overflow, ReadOnly, NotConnected, AlreadyConnected, UnderWay, TooManyRows, NoSavepoint}
 use Rattle.desk_values.specs.Comparison.{same_key}
 use Rattle.desk_values.specs.Fault.{fault_rank}
 use Rattle.desk_schema.specs.declared.schema.Column.{Column}
 use Rattle.desk_schema.specs.Schema.{SchemaView, columns_of, rights_of}
 use Rattle.sql_tree.specs.Plain.{Asked, Change, Entry, Name, Plan, Term, Total, columns, values, totals, select, insert, update, delete}
-use Rattle.sql_reader.specs.Reading.{statement_of}
 use Rattle.sql_eval.specs.Check.{applies, check_of}
 use Rattle.sql_eval.specs.SchemaNames.{numbered}
 use Rattle.machine_model.specs.Limits.{row_limit}
@@ -25,15 +24,15 @@ use Rattle.machine_model.specs.Draws.{draws_of}
 use Rattle.machine_model.specs.Writes.{any_value, changed_rows, exceeds, input_value, leaves, moves_key, repeats_key, sources, updated, violates_not_null}
 use Rattle.machine_model.specs.State.{State}
 use Rattle.machine_model.specs.View.{View}
-use Rattle.machine_model.specs.Request.{request_of}
+use Rattle.machine_model.specs.Request.{request_of, statement_in}
 use Rattle.machine_model.specs.Answer.{are_totals, new_row, rows_after, total_in}
 use Rattle.machine_model.specs.Step.{reply_in, view_for}
 use Rattle.law_server.specs.Renaming.Laws.{reply_to}
-use Rattle.law_server.specs.Ranks.{BeginsTooLate, Refuses, TellsLowest, WritesUnallowed}
+use Rattle.law_server.specs.Ranks.{BeginsTooLate, GoesBackToNone, Refuses, TellsLowest, WritesUnallowed}
 
--- the text is that of a statement, and this is so of it
-abbrev pub IsRead : List ℕ → (Plan Name → Type 0) → Type 0
-IsRead text Says = IsSomeAnd (statement_of text) Says
+-- the text is that of a statement of a server of this version, and this is so of it
+abbrev pub IsRead : ℕ → List ℕ → (Plan Name → Type 0) → Type 0
+IsRead version text Says = IsSomeAnd (statement_in version text) Says
 
 -- ---- a call where it meets this schema, what its session sees, the next value of each sequence and the number of the next row
 
@@ -137,13 +136,13 @@ module _ (schema : SchemaView) (view : View) (next_values : List ℕ) (row : ℕ
   abbrev pub IsChecked : List ℕ → List Value → (Environment → Plan ℕ → Type 0) → Type 0
   IsChecked text binds Says =
       let env : Environment = record { level = schema.level; binds = binds } in
-      IsRead text (λ parsed. IsOkAnd (check_of schema binds parsed) (Says env))
+      IsRead schema.version text (λ parsed. IsOkAnd (check_of schema binds parsed) (Says env))
 
   -- The fault applies to the call, whatever others do, but for the two faults of one expression. They stand here in the order of
   -- rank.
   abbrev pub Applies : Call → Fault → Type 0
-  -- the text is that of no statement
-  Applies (Sql text binds) Syntax = statement_of text ≡ None
+  -- the text is that of no statement that a server of the schema's version has
+  Applies (Sql text binds) Syntax = statement_in schema.version text ≡ None
   -- the session is not connected
   Applies (Sql text binds) NotConnected = view.rights ≡ None
   Applies Disconnect NotConnected = view.rights ≡ None
@@ -152,19 +151,21 @@ module _ (schema : SchemaView) (view : View) (next_values : List ℕ) (row : ℕ
   -- there is no such service
   Applies (Connect service) UnknownService = Refuses view (rights_of schema.services service) UnknownService
   -- a check finds that the statement's table is not there
-  Applies (Sql text binds) UnknownTable = IsRead text (λ parsed. applies schema binds parsed UnknownTable ≡ true)
+  Applies (Sql text binds) UnknownTable = IsRead schema.version text (λ parsed. applies schema binds parsed UnknownTable ≡ true)
   -- a check finds fault with its columns: one is not there, is named twice, or stands where none may
-  Applies (Sql text binds) UnknownColumn = IsRead text (λ parsed. applies schema binds parsed UnknownColumn ≡ true)
+  Applies (Sql text binds) UnknownColumn = IsRead schema.version text (λ parsed. applies schema binds parsed UnknownColumn ≡ true)
   -- a check finds that a sequence of it is not there
-  Applies (Sql text binds) UnknownSequence = IsRead text (λ parsed. applies schema binds parsed UnknownSequence ≡ true)
+  Applies (Sql text binds) UnknownSequence = IsRead schema.version text (λ parsed. applies schema binds parsed UnknownSequence ≡ true)
   -- a check finds that a bind of it was not given
-  Applies (Sql text binds) BindMissing = IsRead text (λ parsed. applies schema binds parsed BindMissing ≡ true)
+  Applies (Sql text binds) BindMissing = IsRead schema.version text (λ parsed. applies schema binds parsed BindMissing ≡ true)
   -- a check finds that the kinds of its parts do not agree
-  Applies (Sql text binds) Kinds = IsRead text (λ parsed. applies schema binds parsed Kinds ≡ true)
+  Applies (Sql text binds) Kinds = IsRead schema.version text (λ parsed. applies schema binds parsed Kinds ≡ true)
   -- the statement writes, holds rows or draws, and the session may only read
-  Applies (Sql text binds) ReadOnly = IsRead text (λ parsed. WritesUnallowed view (numbered schema parsed))
+  Applies (Sql text binds) ReadOnly = IsRead schema.version text (λ parsed. WritesUnallowed view (numbered schema parsed))
   -- the statement is SET TRANSACTION READ ONLY, and the session's transaction is under way
-  Applies (Sql text binds) UnderWay = IsRead text (λ parsed. BeginsTooLate view (numbered schema parsed))
+  Applies (Sql text binds) UnderWay = IsRead schema.version text (λ parsed. BeginsTooLate view (numbered schema parsed))
+  -- the statement is ROLLBACK TO, and the session has no savepoint of its name
+  Applies (Sql text binds) NoSavepoint = IsRead schema.version text (λ parsed. GoesBackToNone view (numbered schema parsed))
   -- a value that it takes divides by zero
   Applies (Sql text binds) ZeroDivisor = IsChecked text binds (λ env plan. ValuesGive env plan ZeroDivisor)
   -- one leaves 64 bits
@@ -210,7 +211,7 @@ RepliesByRank = (state : State) (session : ℕ) (call : Call)
 -- the values that a call's statement draws
 abbrev pub drawn_by : SchemaView → List ℕ → Call → List Value
 drawn_by schema next_values (Sql text binds) =
-    unwrap_or (option_map (λ (parsed : Plan Name). draws_of (numbered schema parsed) next_values) (statement_of text)) []
+    unwrap_or (option_map (λ (parsed : Plan Name). draws_of (numbered schema parsed) next_values) (statement_in schema.version text)) []
 drawn_by schema next_values other = []
 
 -- the fault has a rank below those of rows

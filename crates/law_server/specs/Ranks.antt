@@ -1,14 +1,16 @@
 -- Which faults apply to a call, each told by itself, and the law on the one that is told.
 use Rattle.std.specs.Prelude.{◌≡◌, ◌≤◌, ◌⊎◌, true, IfSome, IsSome, IsSomeAnd, Option, None, Some, ℕ}
+use Rattle.std.specs.List.{AllByRecursion}
 use Rattle.desk_values.specs.declared.fault.Fault.{Fault}
-use Rattle.desk_values.specs.declared.fault.Fault.TheVariants.{UnknownService, Locked, DuplicateKey, NullValue, OutOfRange, TextTooLong, ZeroDivisor, Overflow, ReadOnly, NotConnected, AlreadyConnected, UnderWay, TooManyRows}
+use Rattle.desk_values.specs.declared.fault.Fault.TheVariants.{UnknownService, Locked, DuplicateKey, NullValue, OutOfRange, TextTooLong, ZeroDivisor, Overflow, ReadOnly, NotConnected, AlreadyConnected, UnderWay, TooManyRows, NoSavepoint}
 use Rattle.desk_values.specs.Fault.{fault_rank}
 use Rattle.desk_schema.specs.declared.schema.Rights.{Rights}
 use Rattle.desk_schema.specs.declared.schema.Rights.TheVariants as rights
-use Rattle.sql_tree.specs.Plain.{Plan, set_read_only}
+use Rattle.sql_tree.specs.Plain.{Plan, set_read_only, rollback_to}
 use Rattle.sql_eval.specs.declared.faults.Faults.{Faults}
 use Rattle.sql_eval.specs.Faults.{told}
 use Rattle.machine_model.specs.declared.causes.Causes.{Causes}
+use Rattle.machine_model.specs.declared.session.Savepoint.{Savepoint}
 use Rattle.machine_model.specs.Causes.{connect_fault, is_under_way, needs_write_access, ranked, statement_fault}
 use Rattle.machine_model.specs.View.{View}
 
@@ -41,11 +43,17 @@ WritesUnallowed view plan = (needs_write_access plan ≡ true) × MayOnlyRead vi
 abbrev pub BeginsTooLate : View → Plan ℕ → Type 0
 BeginsTooLate view plan = (plan ≡ set_read_only) × (is_under_way view ≡ true)
 
+-- the statement is ROLLBACK TO, where the session has no savepoint of its name
+abbrev pub GoesBackToNone : View → Plan ℕ → Type 0
+GoesBackToNone view (rollback_to name) = AllByRecursion (λ (savepoint : Savepoint). ¬ (savepoint.name ≡ name)) view.savepoints
+GoesBackToNone view other = ⊥
+
 -- the session forbids the statement for this fault
 abbrev pub Forbids : View → Plan ℕ → Fault → Type 0
 Forbids view plan NotConnected = view.rights ≡ None
 Forbids view plan ReadOnly = WritesUnallowed view plan
 Forbids view plan UnderWay = BeginsTooLate view plan
+Forbids view plan NoSavepoint = GoesBackToNone view plan
 Forbids view plan other = ⊥
 
 -- the session refuses a connection by a service with these rights for this fault

@@ -4,7 +4,7 @@ use Rattle.std.proofs.lemmas.Bool.{and_parts, eqb-true, eq-eqb, ltb-false, ltb-t
 use Rattle.std.proofs.lemmas.Int.{by_lt_z}
 use Rattle.std.specs.Cmp.{int_cmp_is}
 use Rattle.std.proofs.lemmas.List.Sums.{passes_at_first}
-use Rattle.std.specs.Prelude.{ℤ, pos, neg_ℤ, ◌+ℤ◌, ◌-ℤ◌, ◌*ℤ◌, ◌≤ℤ◌, ◌&&◌, cond, if◌then◌else◌, nat_eq, nat_lt, slice_get, Option, None, Some, Result, Ok, Err}
+use Rattle.std.specs.Prelude.{ℤ, pos, neg_ℤ, ◌+ℤ◌, ◌-ℤ◌, ◌*ℤ◌, ◌≤ℤ◌, ◌&&◌, ◌==◌, cond, if◌then◌else◌, nat_eq, nat_lt, slice_get, Option, None, Some, Result, Ok, Err}
 use Rattle.std.specs.Option.{option_and_then, option_map, unwrap_or}
 use Rattle.std.specs.Ordering.{int_cmp, is_lt}
 use Rattle.std.specs.declared.cmp.Ordering.TheVariants.{Less}
@@ -27,8 +27,8 @@ use Rattle.sql_eval.specs.Laws.{FitColumns, IsArithmetic}
 use Rattle.sql_eval.specs.Totals.{values_in}
 use Rattle.sql_eval.specs.Value.{arithmetic, bind_at, both, is_in_range, is_zero, minus, number, of_numbers, quotient, then_apply, value_of}
 use Rattle.machine_model.specs.Draws.{drawn_value, is_draw_of}
-use Rattle.machine_model.specs.Found.{Environment, sound, value_in, values_for}
-use Rattle.machine_model.specs.Writes.{any_column, assigned, column_value, exceeds, exceeds_length, input_value, inputs_for, leaves, leaves_range, row_values, sources, targets, violates_not_null}
+use Rattle.machine_model.specs.Found.{Environment, sound, value_in}
+use Rattle.machine_model.specs.Writes.{any_column, assigned, column_value, exceeds, exceeds_length, input_value, inputs_for, is_empty_text, leaves, leaves_range, row_values, set_values, stored, targets, violates_not_null}
 use Rattle.law_steps.specs.Fits.{FillColumns, KeepsKind, MayStandIn}
 
 -- the column takes the value's kind
@@ -221,6 +221,10 @@ module _ (k : Kind) where
   constant_taken : (cs : List Column) (binds : List Value) (level row : ℕ) (e : Term ℕ) → Fits (kind_of cs binds e) → Taken (sound (value_of level row [] binds e))
   constant_taken cs binds level row e fits = expression_taken cs binds [] (λ n kind. refl) level row e fits
 
+-- what a row keeps of a value that a column takes
+stored_taken : (k : Kind) (level : ℕ) (v : Value) → Taken k v → Taken k (stored level v)
+stored_taken k level v taken = elim (is_empty_text v && level == 2) as (λ b. Taken k (if b then Null else v)) [ true ↦ refl | false ↦ taken ]
+
 -- ---- an UPDATE
 
 set_taken : (cs : List Column) (vs : List Value) (n : ℕ) (c : Column) (v : Value) → AllZip IsTaken cs vs → slice_get cs n ≡ Some c → IsTaken c v → AllZip IsTaken cs (set vs n v)
@@ -232,15 +236,15 @@ set_taken (d ∷ cs) (w ∷ vs) (suc n) c v all is taken = (all.0, set_taken cs 
 
 module _ (cs : List Column) (env : Environment) (image : Image) (old : AllZip IsTaken cs (values_in image)) where
   set_one : (vs : List Value) (change : Change ℕ) (found : Option Column) → AllZip IsTaken cs vs → slice_get cs change.column ≡ found → fits_column (option_map (λ (c : Column). kind_of_column c.kind) found) (kind_of cs env.binds change.to) ≡ true
-      → AllZip IsTaken cs (set vs change.column (sound (value_in env image change.to)))
+      → AllZip IsTaken cs (set vs change.column (stored env.level (sound (value_in env image change.to))))
   set_one vs change None all is fits = absurd (let never : false ≡ true = fits in cc)
-  set_one vs change (Some c) all is fits = set_taken cs vs change.column c (sound (value_in env image change.to)) all is (expression_taken c.kind cs env.binds (values_in image) (λ n kind. of_column c.kind cs (values_in image) n old kind) env.level image.row change.to fits)
+  set_one vs change (Some c) all is fits = set_taken cs vs change.column c (stored env.level (sound (value_in env image change.to))) all is (stored_taken c.kind env.level (sound (value_in env image change.to)) (expression_taken c.kind cs env.binds (values_in image) (λ n kind. of_column c.kind cs (values_in image) n old kind) env.level image.row change.to fits))
 
-  pub assigned_taken : (changes : List (Change ℕ)) (vs : List Value) → AllZip IsTaken cs vs → list_all (is_change cs env.binds) changes ≡ true → AllZip IsTaken cs (assigned vs (targets changes) (values_for env (sources changes) image))
+  pub assigned_taken : (changes : List (Change ℕ)) (vs : List Value) → AllZip IsTaken cs vs → list_all (is_change cs env.binds) changes ≡ true → AllZip IsTaken cs (assigned vs (targets changes) (set_values env changes image))
   assigned_taken [] vs all agree = all
   assigned_taken (change ∷ changes) vs all agree =
       let parts = and_parts (is_change cs env.binds change) (list_all (is_change cs env.binds) changes) agree in
-      assigned_taken changes (set vs change.column (sound (value_in env image change.to))) (set_one vs change (slice_get cs change.column) all refl parts.0) parts.1
+      assigned_taken changes (set vs change.column (stored env.level (sound (value_in env image change.to)))) (set_one vs change (slice_get cs change.column) all refl parts.0) parts.1
 
 -- ---- an INSERT
 
@@ -269,7 +273,7 @@ module _ (cs : List Column) (env : Environment) (draws : List Value) (k : Kind) 
   input_taken (first ∷ targets) (entry ∷ entries) zero agree is =
       let parts = and_parts (fits_column first (entry_kind cs env.binds entry)) (are_inputs cs env.binds targets entries) agree in
       let same : first ≡ Some (kind_of_column k) = cc in
-      entry_taken entry (subst (λ (target : Option PartKind). fits_column target (entry_kind cs env.binds entry) ≡ true) same parts.0)
+      stored_taken k env.level (sound (input_value env draws entry)) (entry_taken entry (subst (λ (target : Option PartKind). fits_column target (entry_kind cs env.binds entry) ≡ true) same parts.0))
   input_taken (first ∷ targets) (entry ∷ entries) (suc p) agree is =
       let parts = and_parts (fits_column first (entry_kind cs env.binds entry)) (are_inputs cs env.binds targets entries) agree in
       input_taken targets entries p parts.1 is

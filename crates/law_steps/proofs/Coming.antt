@@ -11,7 +11,7 @@ use Rattle.desk_values.specs.declared.value.Image.{Image}
 use Rattle.desk_values.specs.declared.value.Value.{Value}
 use Rattle.desk_schema.specs.Schema.{columns_of}
 use Rattle.desk_schema.proofs.Members.{Contains-cases, Contains-here, Contains-none, Contains-there}
-use Rattle.sql_tree.specs.Plain.{Term, Change, Plan, select, next, insert, update, delete, commit, rollback, set_read_only}
+use Rattle.sql_tree.specs.Plain.{Term, Change, Plan, select, next, insert, update, delete, commit, rollback, set_read_only, savepoint, rollback_to}
 use Rattle.machine_model.specs.declared.causes.Causes.{Causes}
 use Rattle.machine_model.specs.declared.effect.Effect.{Effect}
 use Rattle.machine_model.specs.declared.session.HeldKey.{HeldKey}
@@ -27,9 +27,10 @@ use Rattle.machine_model.specs.State.{State, nothing, session_at}
 use Rattle.machine_model.specs.Step.{step}
 use Rattle.machine_model.specs.View.{View, view_of}
 use Rattle.machine_model.specs.Writes.{is_held_key, keys_moved, moved_keys, moves_key, updated, with_key, with_keys, with_row, with_rows}
-use Rattle.law_steps.specs.Held.{GivesKey, SeesMatch, environment, row_to_insert}
-use Rattle.law_steps.specs.Holding.{BringsRow, NoOtherKeyIsHeld, NoOtherRowIsHeld, TakesKey}
+use Rattle.law_steps.specs.Held.{SeesMatch, environment, row_to_insert}
+use Rattle.law_steps.specs.Holding.{BringsKey, BringsRow, NoOtherKeyIsHeld, NoOtherRowIsHeld}
 use Rattle.law_steps.specs.Reading.{Requests, rows_in}
+use Rattle.law_steps.proofs.Kept.{own_at_from}
 use Rattle.law_steps.proofs.Leaving.{beyond_at, left_at, view_own}
 use Rattle.law_steps.proofs.Listed.{joined_from, kept_from, mapped_from}
 
@@ -108,7 +109,7 @@ module _ (state : State) (session : ℕ) (binds : List Value) where
   Rows plan row = BringsRow state session binds plan row
 
   abbrev Keys : Plan ℕ → HeldKey → Type 0
-  Keys plan k = GivesKey state session binds plan k.table k.key ⊎ TakesKey state session binds plan k.table k.key
+  Keys plan k = BringsKey state session binds plan k.table k.key
 
   matched : (table : ℕ) (condition : Option (Term ℕ)) (image : Image) → Contains (matching env condition (seen table).rows) image → SeesMatch state session table env condition image
   matched table condition image there = let both = kept_from (matches env condition) (rows_in state session table) image there in record { seen = both.0; matches = both.1 }
@@ -164,6 +165,16 @@ module _ (state : State) (session : ℕ) (binds : List Value) where
   executed_comes commit = all_goes (Rows commit) (Keys commit) (view_of state session None).own
   executed_comes rollback = all_goes (Rows rollback) (Keys rollback) (view_of state session None).own
   executed_comes set_read_only = none_comes (Rows set_read_only) (Keys set_read_only) (view_of state session None).own
+  executed_comes (savepoint name) = none_comes (Rows (savepoint name)) (Keys (savepoint name)) (view_of state session None).own
+  executed_comes (rollback_to name) =
+      let mine = session_at state session in
+      elim (own_at_from name mine.own mine.savepoints) [
+        | inl same ↦ subst (λ (own : Transaction). Comes (Rows (rollback_to name)) (Keys (rollback_to name)) mine.own own) (sym same) (none_comes (Rows (rollback_to name)) (Keys (rollback_to name)) mine.own)
+        | inr back ↦ subst (λ (own : Transaction). Comes (Rows (rollback_to name)) (Keys (rollback_to name)) mine.own own) (sym back.3) (record {
+          rows = λ row there. inr (back.0, back.1, back.2, there);
+          keys = λ k there. inr (back.0, back.1, back.2, there);
+        })
+      ]
 
 module _ (state : State) (session : ℕ) (call : Call) where
   -- a statement of the call brings it
@@ -208,7 +219,6 @@ no_other_key_is_held state session table key call held =
     elim ((step_comes state session call).keys held.1 (held.0, held.2, held.3)) [
       | inl before ↦ inl (before.0, held.1, before.1, before.2, held.4)
       | inr new ↦ (
-          let of_table : GivesKey state session new.1 new.0 table held.1.key ⊎ TakesKey state session new.1 new.0 table held.1.key =
-          subst (λ (t : ℕ). GivesKey state session new.1 new.0 t held.1.key ⊎ TakesKey state session new.1 new.0 t held.1.key) held.4.0 new.3 in
+          let of_table : BringsKey state session new.1 new.0 table held.1.key = subst (λ (t : ℕ). BringsKey state session new.1 new.0 t held.1.key) held.4.0 new.3 in
           inr (new.0, new.1, held.1.key, new.2, held.4.1, of_table))
     ]

@@ -17,8 +17,7 @@ use Rattle.desk_schema.specs.Schema.{SchemaView, columns_of}
 use Rattle.desk_schema.specs.Sound.{IsSoundRow}
 use Rattle.desk_schema.specs.Start.{StartView}
 use Rattle.desk_schema.proofs.Files.{sound_start}
-use Rattle.sql_tree.specs.Plain.{Change, Name, Entry, Plan, select, next, insert, update, delete, commit, rollback, set_read_only}
-use Rattle.sql_reader.specs.Reading.{statement_of}
+use Rattle.sql_tree.specs.Plain.{Change, Name, Entry, Plan, select, next, insert, update, delete, commit, rollback, set_read_only, savepoint, rollback_to}
 use Rattle.sql_eval.specs.Check.{check_of, first_fault}
 use Rattle.sql_eval.specs.Faults.{unless_told}
 use Rattle.sql_eval.specs.Kinds.{are_inputs, is_change, is_where, kinds_agree, target_kinds}
@@ -28,21 +27,23 @@ use Rattle.sql_eval.specs.Totals.{values_in}
 use Rattle.sql_eval.proofs.CheckLaws.{nothing_is_overlooked}
 use Rattle.machine_model.specs.declared.causes.Causes.{Causes}
 use Rattle.machine_model.specs.declared.effect.Effect.{Effect}
+use Rattle.machine_model.specs.declared.session.Savepoint.{Savepoint}
 use Rattle.machine_model.specs.declared.session.Session.{Session}
 use Rattle.machine_model.specs.Answer.{Answer, answer, delete_causes, delete_effect, done, ended, executed, insert_causes, insert_effect, new_row, reply_of, ruled, select_causes, select_effect, unchanged, unless, update_causes, update_effect}
 use Rattle.machine_model.specs.Causes.{connect_fault, disconnect_fault, ranked, statement_fault}
 use Rattle.machine_model.specs.Draws.{draws_of}
 use Rattle.machine_model.specs.Found.{Environment, matches, matching}
-use Rattle.machine_model.specs.Request.{Request, connect, disconnect, unreadable, unsound, statement, checked, read, request_of, table_in, table_named}
+use Rattle.machine_model.specs.Request.{Request, connect, disconnect, unreadable, unsound, statement, statement_in, checked, read, request_of, table_in, table_named}
 use Rattle.machine_model.specs.Rows.{is_there, lay, lay_all, noted, of_table, one, placed, shown}
 use Rattle.machine_model.specs.State.{State, disconnected, opening, session_at}
 use Rattle.machine_model.specs.Step.{answer_in, committed_in, run, session_after, step, with_commit}
 use Rattle.machine_model.specs.View.{View, commits_seen, rows_seen, view_of}
 use Rattle.machine_model.specs.Writes.{any_column, any_value, exceeds, gone, leaves, updated, violates_not_null}
 use Rattle.machine_model.proofs.Members.{each_filtered, each_joined, each_mapped, each_repeated, each_set, each_taken, each_weaker, one_of}
+use Rattle.machine_model.proofs.Marks.{each_up_to, each_with, own_at_one}
 use Rattle.machine_model.proofs.SoundPlans.{IsSoundPlan, IsSoundRequest, sound_request}
 use Rattle.machine_model.proofs.SoundRows.{each_placed}
-use Rattle.law_steps.specs.Fits.{FillColumns, FillsItsTable, FillsTable, FitsItsTable, MayStandIn, OpeningsFit, RowsKeepRules, RunsFit, SeenRowsFill, SeenRowsHaveKinds, StepsKeepFit, TablesFill}
+use Rattle.law_steps.specs.Fits.{FillColumns, FillsItsTable, FillsTable, FitsItsTable, HasFitting, MayStandIn, OpeningsFit, RowsKeepRules, RunsFit, SeenRowsFill, SeenRowsHaveKinds, StepsKeepFit, TablesFill}
 use Rattle.law_steps.specs.Reading.{rows_in}
 use Rattle.law_steps.proofs.Columns.{IsTaken, all_tested, allowed_stands, assigned_taken, new_taken, stands_taken, taken_fit, zip_weaker}
 use Rattle.law_steps.proofs.Leaving.{runs_add}
@@ -167,17 +168,18 @@ each_false p (x ∷ xs) none = let parts = or_parts (p x) (list_any p xs) none i
 -- ---- answers
 
 record KeepsFit (ts : List Table) (a : Answer) : Type 0 where
-  own : AllByRecursion (FitsItsTable ts) a.own.changes
+  own : HasFitting ts a.own
+  kept : AllByRecursion (λ (savepoint : Savepoint). HasFitting ts savepoint.own) a.savepoints
   committed : AllByRecursion (FitsItsTable ts) (committed_in a.reply.outcome)
 
-module _ (schema : SchemaView) (view : View) (own : AllByRecursion (FitsItsTable schema.tables) view.own.changes) where
+module _ (schema : SchemaView) (view : View) (own : HasFitting schema.tables view.own) (kept : AllByRecursion (λ (savepoint : Savepoint). HasFitting schema.tables savepoint.own) view.savepoints) where
   unless_fit : (draws : List Value) (fault : Option Fault) (a : Answer) → (fault ≡ None → KeepsFit schema.tables a) → KeepsFit schema.tables (unless view draws fault a)
   unless_fit draws None a fit = fit refl
-  unless_fit draws (Some fault) a fit = record { own = own; committed = tt }
+  unless_fit draws (Some fault) a fit = record { own = own; kept = kept; committed = tt }
 
   ruled_fit : (table : ℕ) (draws : List Value) (causes : Causes) (effect : Effect) → committed_in effect.outcome ≡ [] → (Passes causes → AllByRecursion (FitsItsTable schema.tables) effect.writing.images) → KeepsFit schema.tables (ruled table view draws causes effect)
   ruled_fit table draws causes effect nothing fit = unless_fit draws (ranked causes) (done table view draws effect) (λ none.
-      record { own = each_noted (FitsItsTable schema.tables) view.own.changes effect.writing.images own (fit (passes causes none)); committed = subst (AllByRecursion (FitsItsTable schema.tables)) (sym nothing) tt })
+      record { own = each_noted (FitsItsTable schema.tables) view.own.changes effect.writing.images own (fit (passes causes none)); kept = kept; committed = subst (AllByRecursion (FitsItsTable schema.tables)) (sym nothing) tt })
 
 -- what is known of the kinds of a checked statement with numbers
 abbrev KeepsKinds : SchemaView → Plan ℕ → List Value → Type 0
@@ -240,35 +242,39 @@ abbrev SeesFitting : SchemaView → Option ℕ → View → Type 0
 SeesFitting schema None view = Unit {0}
 SeesFitting schema (Some table) view = AllByRecursion (FillsTable schema.tables table) view.rows
 
-module _ (schema : SchemaView) (view : View) (own : AllByRecursion (FitsItsTable schema.tables) view.own.changes) (next_values : List ℕ) (row : ℕ) where
+module _ (schema : SchemaView) (view : View) (own : HasFitting schema.tables view.own) (kept : AllByRecursion (λ (savepoint : Savepoint). HasFitting schema.tables savepoint.own) view.savepoints) (next_values : List ℕ) (row : ℕ) where
   executed_fit : (env : Environment) (plan : Plan ℕ) → SeesFitting schema (table_of plan) view → IsSoundPlan schema plan → KeepsKinds schema plan env.binds → KeepsFit schema.tables (executed schema view next_values row env plan)
   executed_fit env (select table asked condition keys for_update) sees sound kinds =
-      ruled_fit schema view own table [] (select_causes env view asked condition for_update) (select_effect env view asked condition keys for_update) refl (λ passed. tt)
-  executed_fit env (next sequence) sees sound kinds = record { own = own; committed = tt }
+      ruled_fit schema view own kept table [] (select_causes env view asked condition for_update) (select_effect env view asked condition keys for_update) refl (λ passed. tt)
+  executed_fit env (next sequence) sees sound kinds = record { own = own; kept = kept; committed = tt }
   executed_fit env (insert table named entries) sees within kinds =
       let draws = draws_of (insert table named entries) next_values in
       let new = new_row env (columns_of schema.tables table) draws row table named entries in
-      ruled_fit schema view own table draws (insert_causes env (columns_of schema.tables table) view draws new entries) (insert_effect new) refl
+      ruled_fit schema view own kept table draws (insert_causes env (columns_of schema.tables table) view draws new entries) (insert_effect new) refl
       (λ passed. (new_fits schema table env within draws row named entries kinds passed.null passed.too_long passed.out_of_range, tt))
   executed_fit env (update table changes condition) sees sound kinds =
       let agree = and_parts _ (is_where (columns_of schema.tables table) env.binds condition) kinds in
-      ruled_fit schema view own table [] (update_causes env (columns_of schema.tables table) view changes condition) (update_effect env view changes condition) refl
+      ruled_fit schema view own kept table [] (update_causes env (columns_of schema.tables table) view changes condition) (update_effect env view changes condition) refl
       (λ passed. each_updated schema table env changes agree.0 (matching env condition view.rows) (each_filtered (FillsTable schema.tables table) (matches env condition) view.rows sees) passed.null passed.too_long passed.out_of_range)
   executed_fit env (delete table condition) sees sound kinds =
-      ruled_fit schema view own table [] (delete_causes env view condition) (delete_effect env view condition) refl
+      ruled_fit schema view own kept table [] (delete_causes env view condition) (delete_effect env view condition) refl
       (λ passed. each_gone schema table (matching env condition view.rows) (each_filtered (FillsTable schema.tables table) (matches env condition) view.rows sees))
-  executed_fit env commit sees sound kinds = record { own = tt; committed = own }
-  executed_fit env rollback sees sound kinds = record { own = tt; committed = tt }
-  executed_fit env set_read_only sees sound kinds = record { own = own; committed = tt }
+  executed_fit env commit sees sound kinds = record { own = tt; kept = tt; committed = own }
+  executed_fit env rollback sees sound kinds = record { own = tt; kept = tt; committed = tt }
+  executed_fit env set_read_only sees sound kinds = record { own = own; kept = kept; committed = tt }
+  executed_fit env (savepoint name) sees sound kinds =
+      record { own = own; kept = each_with (λ (x : Savepoint). HasFitting schema.tables x.own) view.savepoints (record { name = name; own = view.own }) kept own; committed = tt }
+  executed_fit env (rollback_to name) sees sound kinds =
+      record { own = own_at_one (HasFitting schema.tables) name view.own view.savepoints own kept; kept = each_up_to (λ (x : Savepoint). HasFitting schema.tables x.own) name view.savepoints kept; committed = tt }
 
   answer_fit : (request : Request) → SeesFitting schema (table_in request) view → IsSoundRequest schema request → KeepsKindsIn schema request → KeepsFit schema.tables (answer schema view next_values row request)
-  answer_fit (connect service) sees sound kinds = unless_fit schema view own [] (connect_fault view service) (record (unchanged view (reply_of Connected [] None)) { rights = service }) (λ none. record { own = own; committed = tt })
-  answer_fit disconnect sees sound kinds = unless_fit schema view own [] (disconnect_fault view) (ended None Disconnected) (λ none. record { own = tt; committed = tt })
-  answer_fit unreadable sees sound kinds = record { own = own; committed = tt }
-  answer_fit (unsound table fault) sees sound kinds = record { own = own; committed = tt }
+  answer_fit (connect service) sees sound kinds = unless_fit schema view own kept [] (connect_fault view service) (record (unchanged view (reply_of Connected [] None)) { rights = service }) (λ none. record { own = own; kept = kept; committed = tt })
+  answer_fit disconnect sees sound kinds = unless_fit schema view own kept [] (disconnect_fault view) (ended None Disconnected) (λ none. record { own = tt; kept = tt; committed = tt })
+  answer_fit unreadable sees sound kinds = record { own = own; kept = kept; committed = tt }
+  answer_fit (unsound table fault) sees sound kinds = record { own = own; kept = kept; committed = tt }
   answer_fit (statement plan binds) sees sound kinds =
       let env : Environment = record { level = schema.level; binds = binds } in
-      unless_fit schema view own [] (statement_fault view plan) (executed schema view next_values row env plan) (λ none. executed_fit env plan sees sound kinds)
+      unless_fit schema view own kept [] (statement_fault view plan) (executed schema view next_values row env plan) (λ none. executed_fit env plan sees sound kinds)
 
 -- ---- a checked statement keeps the rules of kinds
 
@@ -282,6 +288,8 @@ module _ (schema : SchemaView) (binds : List Value) where
   numbered_kinds commit agree = tt
   numbered_kinds rollback agree = tt
   numbered_kinds set_read_only agree = tt
+  numbered_kinds (savepoint name) agree = tt
+  numbered_kinds (rollback_to name) agree = tt
 
   told_ok : (fault : Option Fault) (plan found : Plan ℕ) → unless_told fault (Ok plan) ≡ Ok found → plan ≡ found
   told_ok (Some fault) plan found is = absurd (cc)
@@ -303,7 +311,7 @@ module _ (schema : SchemaView) (binds : List Value) where
 request_kinds : (schema : SchemaView) (call : Call) → KeepsKindsIn schema (request_of schema call)
 request_kinds schema (Connect service) = tt
 request_kinds schema Disconnect = tt
-request_kinds schema (Sql text binds) = after_read schema binds (statement_of text)
+request_kinds schema (Sql text binds) = after_read schema binds (statement_in schema.version text)
 
 -- ---- states
 
@@ -316,13 +324,14 @@ openings_fit start is =
     record {
       start = each_weaker (IsSoundRow start.schema.tables start.next_values) (FillsItsTable start.schema.tables) (start_fills start.schema.tables start.next_values) start.rows sound.sound.sound_rows.each;
       commits = tt;
-      own = each_repeated (λ (session : Session). AllByRecursion (FitsItsTable start.schema.tables) session.own.changes) 64 disconnected tt;
+      own = each_repeated (λ (session : Session). HasFitting start.schema.tables session.own) 64 disconnected tt;
+      kept = each_repeated (λ (session : Session). AllByRecursion (λ (savepoint : Savepoint). HasFitting start.schema.tables savepoint.own) session.savepoints) 64 disconnected tt;
     }
 
 pub seen_rows_fill : SeenRowsFill
 seen_rows_fill state session table fit =
     rows_fill state.start.schema.tables state.start.rows state.commits (session_at state session) table fit.start fit.commits
-    (one_of (λ (session : Session). AllByRecursion (FitsItsTable state.start.schema.tables) session.own.changes) state.sessions session disconnected tt fit.own)
+    (one_of (λ (session : Session). HasFitting state.start.schema.tables session.own) state.sessions session disconnected tt fit.own)
 
 pub tables_fill : TablesFill
 tables_fill state n fit =
@@ -331,7 +340,14 @@ tables_fill state n fit =
 
 module _ (state : State) (session : ℕ) (fit : RowsKeepRules state) where
   own_fits : AllByRecursion (FitsItsTable state.start.schema.tables) (session_at state session).own.changes
-  own_fits = one_of (λ (session : Session). AllByRecursion (FitsItsTable state.start.schema.tables) session.own.changes) state.sessions session disconnected tt fit.own
+  own_fits = one_of (λ (session : Session). HasFitting state.start.schema.tables session.own) state.sessions session disconnected tt fit.own
+
+  kept_fits : AllByRecursion (λ (savepoint : Savepoint). HasFitting state.start.schema.tables savepoint.own) (session_at state session).savepoints
+  kept_fits = one_of (λ (session : Session). AllByRecursion (λ (savepoint : Savepoint). HasFitting state.start.schema.tables savepoint.own) session.savepoints) state.sessions session disconnected tt fit.kept
+
+  view_kept_fits : (table : Option ℕ) → AllByRecursion (λ (savepoint : Savepoint). HasFitting state.start.schema.tables savepoint.own) (view_of state session table).savepoints
+  view_kept_fits None = kept_fits
+  view_kept_fits (Some table) = kept_fits
 
   view_own_fits : (table : Option ℕ) → AllByRecursion (FitsItsTable state.start.schema.tables) (view_of state session table).own.changes
   view_own_fits None = own_fits
@@ -344,7 +360,7 @@ module _ (state : State) (session : ℕ) (fit : RowsKeepRules state) where
   answered_fit : (call : Call) → KeepsFit state.start.schema.tables (answer_in state session call)
   answered_fit call =
       let request = request_of state.start.schema call in
-      answer_fit state.start.schema (view_of state session (table_in request)) (view_own_fits (table_in request)) state.next_values state.next_row request (view_sees (table_in request)) (sound_request state.start.schema call) (request_kinds state.start.schema call)
+      answer_fit state.start.schema (view_of state session (table_in request)) (view_own_fits (table_in request)) (view_kept_fits (table_in request)) state.next_values state.next_row request (view_sees (table_in request)) (sound_request state.start.schema call) (request_kinds state.start.schema call)
 
 commits_fit : (P : Image → Type 0) (commits : List (List Image)) (images : List Image) → AllByRecursion (AllByRecursion P) commits → AllByRecursion P images → AllByRecursion (AllByRecursion P) (with_commit commits images)
 commits_fit P commits [] fit new = fit
@@ -358,7 +374,8 @@ steps_keep_fit state session call fit =
     record {
       start = fit.start;
       commits = commits_fit (FitsItsTable state.start.schema.tables) state.commits (committed_in a.reply.outcome) fit.commits keeps.committed;
-      own = each_set (λ (session : Session). AllByRecursion (FitsItsTable state.start.schema.tables) session.own.changes) state.sessions session left keeps.own fit.own;
+      own = each_set (λ (session : Session). HasFitting state.start.schema.tables session.own) state.sessions session left keeps.own fit.own;
+      kept = each_set (λ (session : Session). AllByRecursion (λ (savepoint : Savepoint). HasFitting state.start.schema.tables savepoint.own) session.savepoints) state.sessions session left keeps.kept fit.kept;
     }
 
 run_fits : (state : State) (calls : List (ℕ × Call)) → RowsKeepRules state → RowsKeepRules (run state calls)

@@ -8,19 +8,19 @@ use Rattle.std.specs.List.{Any, Contains, cons_option, filter, filter_map, flat_
 use Rattle.desk_values.specs.declared.call.Call.{Call}
 use Rattle.desk_values.specs.declared.call.Outcome.TheVariants.{Refused}
 use Rattle.desk_values.specs.declared.fault.Fault.{Fault}
-use Rattle.desk_values.specs.declared.fault.Fault.TheVariants.{DuplicateKey, Locked, NullValue, OutOfRange, TextTooLong, ZeroDivisor, Overflow, ReadOnly, NotConnected, UnderWay, TooManyRows}
+use Rattle.desk_values.specs.declared.fault.Fault.TheVariants.{DuplicateKey, Locked, NoSavepoint, NotConnected, NullValue, OutOfRange, Overflow, ReadOnly, TextTooLong, TooManyRows, UnderWay, ZeroDivisor}
 use Rattle.desk_values.specs.declared.value.Image.{Image}
 use Rattle.desk_values.specs.declared.value.Value.{Value}
 use Rattle.desk_values.specs.Comparison.{same_key}
 use Rattle.desk_values.specs.Fault.{fault_rank}
 use Rattle.desk_schema.specs.Schema.{columns_of}
-use Rattle.sql_tree.specs.Plain.{Term, Entry, Change, Plan, select, next, insert, update, delete, commit, rollback, set_read_only}
+use Rattle.sql_tree.specs.Plain.{Term, Entry, Change, Plan, select, next, insert, update, delete, commit, rollback, set_read_only, savepoint, rollback_to}
 use Rattle.machine_model.specs.declared.causes.Causes.{Causes}
 use Rattle.machine_model.specs.declared.effect.Effect.{Effect}
 use Rattle.machine_model.specs.declared.session.HeldKey.{HeldKey}
 use Rattle.machine_model.specs.declared.session.Session.{Session}
 use Rattle.machine_model.specs.Answer.{Answer, answer, delete_causes, delete_effect, done, executed, insert_causes, insert_effect, meets_lock, new_row, ruled, select_causes, select_effect, unless, update_causes, update_effect}
-use Rattle.machine_model.specs.Causes.{is_read_only, is_under_way, needs_write_access, ranked, sets_read_only, statement_fault}
+use Rattle.machine_model.specs.Causes.{is_read_only, is_under_way, lacks_savepoint, needs_write_access, ranked, sets_read_only, statement_fault}
 use Rattle.machine_model.specs.Draws.{draws_of}
 use Rattle.machine_model.specs.Found.{Environment, matches, matching}
 use Rattle.machine_model.specs.Request.{Request, statement, table_in}
@@ -55,7 +55,8 @@ unfolding statement_fault
 statement_low view plan =
     low_or (is_none view.rights) NotConnected _ (omega arith)
     (low_or (needs_write_access plan && (is_read_only view.rights || view.reads_only)) ReadOnly _ (omega arith)
-    (low_or (sets_read_only plan && is_under_way view) UnderWay None (omega arith) tt))
+    (low_or (sets_read_only plan && is_under_way view) UnderWay _ (omega arith)
+    (low_or (lacks_savepoint view plan) NoSavepoint None (omega arith) tt)))
 
 told_or : (test : Bool) (fault : Fault) (rest : Option Fault) → IsLow fault → IsSomeAnd rest IsLow → IsSomeAnd (if test then Some fault else rest) IsLow
 told_or true fault rest low others = low
@@ -188,6 +189,8 @@ module _ (state : State) (session other : ℕ) (apart : other ≢ session) where
     held_row commit image asks takes held = absurd takes
     held_row rollback image asks takes held = absurd takes
     held_row set_read_only image asks takes held = absurd takes
+    held_row (savepoint name) image asks takes held = absurd takes
+    held_row (rollback_to name) image asks takes held = absurd takes
 
     inserted : (table : ℕ) (named : Option (List ℕ)) (entries : List (Entry ℕ)) → Requests state call (insert table named entries) binds
         → HoldsKey state other table (row_key (new_row env (columns_of state.start.schema.tables table) (draws_of (insert table named entries) state.next_values) state.next_row table named entries))
@@ -235,7 +238,8 @@ unfolding statement_fault
 statement_unlocked view plan =
     neither_locked (is_none view.rights) NotConnected _ (λ is. cc)
     (neither_locked (needs_write_access plan && (is_read_only view.rights || view.reads_only)) ReadOnly _ (λ is. cc)
-    (neither_locked (sets_read_only plan && is_under_way view) UnderWay None (λ is. cc) none_is_locked))
+    (neither_locked (sets_read_only plan && is_under_way view) UnderWay _ (λ is. cc)
+    (neither_locked (lacks_savepoint view plan) NoSavepoint None (λ is. cc) none_is_locked)))
 
 locked_later : (test : Bool) (fault : Fault) (rest : Option Fault) → (Some fault ≡ Some Locked → ⊥) → (if test then Some fault else rest) ≡ Some Locked → rest ≡ Some Locked
 locked_later true fault rest never is = absurd (never is)
@@ -359,6 +363,8 @@ module _ (state : State) (session : ℕ) (binds : List Value) where
   in_the_way commit is = absurd (cc)
   in_the_way rollback is = absurd (cc)
   in_the_way set_read_only is = absurd (cc)
+  in_the_way (savepoint name) is = absurd (cc)
+  in_the_way (rollback_to name) is = absurd (cc)
 
 pub locked_means_held : LockedMeansHeld
 locked_means_held state session call plan binds asks is =

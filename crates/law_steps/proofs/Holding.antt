@@ -15,10 +15,10 @@ use Rattle.desk_values.specs.declared.value.Value.{Value}
 use Rattle.desk_values.specs.declared.value.Value.TheVariants.{Int, Text, Row, Draw, Null}
 use Rattle.desk_values.specs.Comparison.{same_key}
 use Rattle.desk_schema.specs.Schema.{SchemaView, columns_of}
-use Rattle.desk_schema.proofs.Drafting.{same_is}
+use Rattle.machine_model.proofs.Exact.{same_is}
 use Rattle.desk_schema.proofs.Members.{Contains-cases, Contains-here, Contains-none, Contains-there}
 use Rattle.sql_tree.specs.declared.tree.Key.{Key}
-use Rattle.sql_tree.specs.Plain.{Asked, Term, Change, Entry, Plan, select, next, insert, update, delete, commit, rollback, set_read_only}
+use Rattle.sql_tree.specs.Plain.{Asked, Term, Change, Entry, Plan, select, next, insert, update, delete, commit, rollback, set_read_only, savepoint, rollback_to}
 use Rattle.machine_model.specs.declared.causes.Causes.{Causes}
 use Rattle.machine_model.specs.declared.effect.Effect.{Effect}
 use Rattle.machine_model.specs.declared.session.HeldKey.{HeldKey}
@@ -180,6 +180,8 @@ module _ (state : State) (session : ℕ) (call : Call) (binds : List Value) wher
   row_taken commit image asks takes = absurd takes
   row_taken rollback image asks takes = absurd takes
   row_taken set_read_only image asks takes = absurd takes
+  row_taken (savepoint name) image asks takes = absurd takes
+  row_taken (rollback_to name) image asks takes = absurd takes
 
   -- ---- keys
 
@@ -214,6 +216,8 @@ module _ (state : State) (session : ℕ) (call : Call) (binds : List Value) wher
   key_given commit of key asks gives = absurd gives
   key_given rollback of key asks gives = absurd gives
   key_given set_read_only of key asks gives = absurd gives
+  key_given (savepoint name) of key asks gives = absurd gives
+  key_given (rollback_to name) of key asks gives = absurd gives
 
   key_taken : (plan : Plan ℕ) (table : ℕ) (key : Value) → Requests state call plan binds → TakesKey state session binds plan table key → Leaves (HasKey table key) (answer_in state session call)
   key_taken (update table changes condition) of key asks takes =
@@ -230,6 +234,8 @@ module _ (state : State) (session : ℕ) (call : Call) (binds : List Value) wher
   key_taken commit of key asks takes = absurd takes
   key_taken rollback of key asks takes = absurd takes
   key_taken set_read_only of key asks takes = absurd takes
+  key_taken (savepoint name) of key asks takes = absurd takes
+  key_taken (rollback_to name) of key asks takes = absurd takes
 
 pub taken_rows_are_held : TakenRowsAreHeld
 taken_rows_are_held state session call plan binds image within asks answered takes =
@@ -287,6 +293,8 @@ module _ (schema : SchemaView) (view : View) (next_values : List ℕ) (row : ℕ
   executed_open env commit = λ goes. absurd (cc)
   executed_open env rollback = λ goes. absurd (cc)
   executed_open env set_read_only = λ goes. all_kept view.own
+  executed_open env (savepoint name) = λ goes. all_kept view.own
+  executed_open env (rollback_to name) = λ goes. absurd (cc)
 
   answer_open : (request : Request) → KeepsOpen view (answer schema view next_values row request)
   answer_open (connect service) = unless_open view [] (connect_fault view service) (record (unchanged view (reply_of Connected [] None)) { rights = service }) (λ goes. all_kept view.own)
@@ -298,7 +306,7 @@ module _ (schema : SchemaView) (view : View) (next_values : List ℕ) (row : ℕ
       unless_open view [] (statement_fault view plan) (executed schema view next_values row env plan) (executed_open env plan)
 
   abbrev EndsAll : Answer → Type 0
-  EndsAll a = ends_transaction a.reply.outcome ≡ true → (a.own ≡ nothing) × (a.reads_only ≡ false)
+  EndsAll a = ends_transaction a.reply.outcome ≡ true → (a.own ≡ nothing) × (a.reads_only ≡ false) × (a.savepoints ≡ [])
 
   unless_ends : (draws : List Value) (fault : Option Fault) (a : Answer) → EndsAll a → EndsAll (unless view draws fault a)
   unless_ends draws None a all = all
@@ -307,27 +315,29 @@ module _ (schema : SchemaView) (view : View) (next_values : List ℕ) (row : ℕ
   ruled_ends : (table : ℕ) (draws : List Value) (causes : Causes) (effect : Effect) → ends_transaction effect.outcome ≡ false → EndsAll (ruled table view draws causes effect)
   ruled_ends table draws causes effect goes = unless_ends draws (ranked causes) (done table view draws effect) (λ ends. absurd (let no : false ≡ true = sym goes ∙ ends in cc))
 
-  executed_ends : (env : Environment) (plan : Plan ℕ) → EndsAll (executed schema view next_values row env plan)
-  executed_ends env (select table asked condition keys for_update) = ruled_ends table [] (select_causes env view asked condition for_update) (select_effect env view asked condition keys for_update) refl
-  executed_ends env (next sequence) = λ never. absurd (let no : false ≡ true = never in cc)
-  executed_ends env (insert table named entries) =
+  executed_ends : (env : Environment) (plan : Plan ℕ) → ((name : List ℕ) → ¬ (plan ≡ rollback_to name)) → EndsAll (executed schema view next_values row env plan)
+  executed_ends env (select table asked condition keys for_update) stays = ruled_ends table [] (select_causes env view asked condition for_update) (select_effect env view asked condition keys for_update) refl
+  executed_ends env (next sequence) stays = λ never. absurd (let no : false ≡ true = never in cc)
+  executed_ends env (insert table named entries) stays =
       let draws = draws_of (insert table named entries) next_values in
       let new = new_row env (columns_of schema.tables table) draws row table named entries in
       ruled_ends table draws (insert_causes env (columns_of schema.tables table) view draws new entries) (insert_effect new) refl
-  executed_ends env (update table changes condition) = ruled_ends table [] (update_causes env (columns_of schema.tables table) view changes condition) (update_effect env view changes condition) refl
-  executed_ends env (delete table condition) = ruled_ends table [] (delete_causes env view condition) (delete_effect env view condition) refl
-  executed_ends env commit = λ ends. (refl, refl)
-  executed_ends env rollback = λ ends. (refl, refl)
-  executed_ends env set_read_only = λ never. absurd (let no : false ≡ true = never in cc)
+  executed_ends env (update table changes condition) stays = ruled_ends table [] (update_causes env (columns_of schema.tables table) view changes condition) (update_effect env view changes condition) refl
+  executed_ends env (delete table condition) stays = ruled_ends table [] (delete_causes env view condition) (delete_effect env view condition) refl
+  executed_ends env commit stays = λ ends. (refl, refl, refl)
+  executed_ends env rollback stays = λ ends. (refl, refl, refl)
+  executed_ends env set_read_only stays = λ never. absurd (let no : false ≡ true = never in cc)
+  executed_ends env (savepoint name) stays = λ never. absurd (let no : false ≡ true = never in cc)
+  executed_ends env (rollback_to name) stays = absurd (stays name refl)
 
-  answer_ends : (request : Request) → EndsAll (answer schema view next_values row request)
-  answer_ends (connect service) = unless_ends [] (connect_fault view service) (record (unchanged view (reply_of Connected [] None)) { rights = service }) (λ never. absurd (let no : false ≡ true = never in cc))
-  answer_ends disconnect = unless_ends [] (disconnect_fault view) (ended None Disconnected) (λ ends. (refl, refl))
-  answer_ends unreadable = λ never. absurd (let no : false ≡ true = never in cc)
-  answer_ends (unsound table fault) = λ never. absurd (let no : false ≡ true = never in cc)
-  answer_ends (statement plan binds) =
+  answer_ends : (request : Request) → ((name : List ℕ) (binds : List Value) → ¬ (request ≡ statement (rollback_to name) binds)) → EndsAll (answer schema view next_values row request)
+  answer_ends (connect service) stays = unless_ends [] (connect_fault view service) (record (unchanged view (reply_of Connected [] None)) { rights = service }) (λ never. absurd (let no : false ≡ true = never in cc))
+  answer_ends disconnect stays = unless_ends [] (disconnect_fault view) (ended None Disconnected) (λ ends. (refl, refl, refl))
+  answer_ends unreadable stays = λ never. absurd (let no : false ≡ true = never in cc)
+  answer_ends (unsound table fault) stays = λ never. absurd (let no : false ≡ true = never in cc)
+  answer_ends (statement plan binds) stays =
       let env : Environment = record { level = schema.level; binds = binds } in
-      unless_ends [] (statement_fault view plan) (executed schema view next_values row env plan) (executed_ends env plan)
+      unless_ends [] (statement_fault view plan) (executed schema view next_values row env plan) (executed_ends env plan (λ name same. stays name binds (ap (λ (p : Plan ℕ). statement p binds) same)))
 
 module _ (state : State) (session : ℕ) where
   own_step : (call : Call) → ends_transaction (reply_in state session call).outcome ≡ false → Keeps (session_at state session).own (session_at (step state session call) session).own
@@ -371,13 +381,14 @@ reads_no_more true snapshot commits is = absurd (let no : true ≡ false = is in
 reads_no_more false snapshot commits is = refl
 
 pub ended_sessions_hold_nothing : EndedSessionsHoldNothing
-ended_sessions_hold_nothing state session call ends = elim (cases_lt session (length state.sessions)) [
+ended_sessions_hold_nothing state session call ends stays = elim (cases_lt session (length state.sessions)) [
   | inl within ↦ (
       let request = request_of state.start.schema call in
       let a = answer_in state session call in
       let before = session_at state session in
-      let all : (a.own ≡ nothing) × (a.reads_only ≡ false) = answer_ends state.start.schema (view_of state session (table_in request)) state.next_values state.next_row request ends in
+      let all : (a.own ≡ nothing) × (a.reads_only ≡ false) × (a.savepoints ≡ []) =
+      answer_ends state.start.schema (view_of state session (table_in request)) state.next_values state.next_row request (λ name binds asks. stays (name, binds, asks)) ends in
       let left = left_at state session call within in
-      (ap (λ (s : Session). s.own) left ∙ all.0, ap (λ (s : Session). s.snapshot) left ∙ reads_no_more a.reads_only before.snapshot (length state.commits) all.1))
-  | inr past ↦ (let left = beyond_at state session call past in (ap (λ (s : Session). s.own) left, ap (λ (s : Session). s.snapshot) left))
+      (ap (λ (s : Session). s.own) left ∙ all.0, ap (λ (s : Session). s.snapshot) left ∙ reads_no_more a.reads_only before.snapshot (length state.commits) all.1, ap (λ (s : Session). s.savepoints) left ∙ all.2))
+  | inr past ↦ (let left = beyond_at state session call past in (ap (λ (s : Session). s.own) left, ap (λ (s : Session). s.snapshot) left, ap (λ (s : Session). s.savepoints) left))
 ]

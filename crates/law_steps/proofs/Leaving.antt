@@ -12,7 +12,8 @@ use Rattle.desk_values.specs.declared.value.Image.{Image}
 use Rattle.desk_values.specs.declared.value.Value.{Value}
 use Rattle.desk_schema.specs.declared.schema.Rights.{Rights}
 use Rattle.desk_schema.specs.Schema.{SchemaView, columns_of}
-use Rattle.sql_tree.specs.Plain.{Plan, select, next, insert, update, delete, commit, rollback, set_read_only}
+use Rattle.sql_tree.specs.Plain.{Plan, select, next, insert, update, delete, commit, rollback, set_read_only, savepoint, rollback_to}
+use Rattle.machine_model.specs.declared.session.Savepoint.{Savepoint}
 use Rattle.machine_model.specs.declared.session.Session.{Session}
 use Rattle.machine_model.specs.declared.session.Transaction.{Transaction}
 use Rattle.machine_model.specs.declared.causes.Causes.{Causes}
@@ -35,13 +36,14 @@ pub record Keeps (view : View) (a : Answer) : Type 0 where
   pub rights : a.rights ≡ view.rights
   pub reads_only : a.reads_only ≡ view.reads_only
   pub own : a.own ≡ view.own
+  pub savepoints : a.savepoints ≡ view.savepoints
 
 abbrev KeepsIfRefused : View → Answer → Type 0
 KeepsIfRefused view a = (fault : Fault) → a.reply.outcome ≡ Refused fault → Keeps view a
 
 unless_keeps : (view : View) (draws : List Value) (fault : Option Fault) (a : Answer) → KeepsIfRefused view a → KeepsIfRefused view (unless view draws fault a)
 unless_keeps view draws None a keeps = keeps
-unless_keeps view draws (Some fault) a keeps = λ other is. record { made = refl; rights = refl; reads_only = refl; own = refl }
+unless_keeps view draws (Some fault) a keeps = λ other is. record { made = refl; rights = refl; reads_only = refl; own = refl; savepoints = refl }
 
 -- the reply of what is done is no refusal
 ruled_keeps : (table : ℕ) (view : View) (draws : List Value) (causes : Causes) (effect : Effect) → ((fault : Fault) → effect.outcome ≡ Refused fault → ⊥) → KeepsIfRefused view (ruled table view draws causes effect)
@@ -60,12 +62,14 @@ module _ (schema : SchemaView) (view : View) (next_values : List ℕ) (row : ℕ
   executed_keeps env commit = λ fault is. absurd (cc)
   executed_keeps env rollback = λ fault is. absurd (cc)
   executed_keeps env set_read_only = λ fault is. absurd (cc)
+  executed_keeps env (savepoint name) = λ fault is. absurd (cc)
+  executed_keeps env (rollback_to name) = λ fault is. absurd (cc)
 
   answer_keeps : (request : Request) → KeepsIfRefused view (answer schema view next_values row request)
   answer_keeps (connect service) = unless_keeps view [] (connect_fault view service) (record (unchanged view (reply_of Connected [] None)) { rights = service }) (λ fault is. absurd (cc))
   answer_keeps disconnect = unless_keeps view [] (disconnect_fault view) (ended None Disconnected) (λ fault is. absurd (cc))
-  answer_keeps unreadable = λ fault is. record { made = refl; rights = refl; reads_only = refl; own = refl }
-  answer_keeps (unsound table fault) = λ other is. record { made = refl; rights = refl; reads_only = refl; own = refl }
+  answer_keeps unreadable = λ fault is. record { made = refl; rights = refl; reads_only = refl; own = refl; savepoints = refl }
+  answer_keeps (unsound table fault) = λ other is. record { made = refl; rights = refl; reads_only = refl; own = refl; savepoints = refl }
   answer_keeps (statement plan binds) =
       let env : Environment = record { level = schema.level; binds = binds } in
       unless_keeps view [] (statement_fault view plan) (executed schema view next_values row env plan) (executed_keeps env plan)
@@ -84,17 +88,22 @@ pub view_own : (state : State) (session : ℕ) (table : Option ℕ) → (view_of
 view_own state session None = refl
 view_own state session (Some table) = refl
 
+pub view_savepoints : (state : State) (session : ℕ) (table : Option ℕ) → (view_of state session table).savepoints ≡ (session_at state session).savepoints
+view_savepoints state session None = refl
+view_savepoints state session (Some table) = refl
+
 -- a transaction that reads on reads at its commit, and one that does not at none
 pub snapshot_stays : (snapshot : Option ℕ) (commits : ℕ) → snapshot_after (is_some snapshot) snapshot commits ≡ snapshot
 snapshot_stays None commits = refl
 snapshot_stays (Some n) commits = refl
 
-pub same_session : (before : Session) (commits : ℕ) (a : Answer) → a.rights ≡ before.rights → a.reads_only ≡ is_some before.snapshot → a.own ≡ before.own → session_after before commits a ≡ before
-same_session before commits a rights reads own =
+pub same_session : (before : Session) (commits : ℕ) (a : Answer) → a.rights ≡ before.rights → a.reads_only ≡ is_some before.snapshot → a.own ≡ before.own → a.savepoints ≡ before.savepoints → session_after before commits a ≡ before
+same_session before commits a rights reads own savepoints =
     let snapshot : snapshot_after a.reads_only before.snapshot commits ≡ before.snapshot = ap (λ (b : Bool). snapshot_after b before.snapshot commits) reads ∙ snapshot_stays before.snapshot commits in
-    ap (λ (r : Option Rights). record { rights = r; snapshot = snapshot_after a.reads_only before.snapshot commits; own = a.own }) rights
-    ∙ ap (λ (s : Option ℕ). record { rights = before.rights; snapshot = s; own = a.own }) snapshot
-    ∙ ap (λ (own : Transaction). record { rights = before.rights; snapshot = before.snapshot; own = own }) own
+    ap (λ (r : Option Rights). record { rights = r; snapshot = snapshot_after a.reads_only before.snapshot commits; own = a.own; savepoints = a.savepoints }) rights
+    ∙ ap (λ (s : Option ℕ). record { rights = before.rights; snapshot = s; own = a.own; savepoints = a.savepoints }) snapshot
+    ∙ ap (λ (own : Transaction). record { rights = before.rights; snapshot = before.snapshot; own = own; savepoints = a.savepoints }) own
+    ∙ ap (λ (savepoints : List Savepoint). record { rights = before.rights; snapshot = before.snapshot; own = before.own; savepoints = savepoints }) savepoints
 
 -- the session that a step leaves, where it leaves it as it was
 pub sessions_stay : (state : State) (session : ℕ) (left : Session) → left ≡ session_at state session → set state.sessions session left ≡ state.sessions
@@ -113,7 +122,7 @@ module _ (state : State) (session : ℕ) (call : Call) where
   keeps_session : Keeps (view_of state session (table_in (request_of state.start.schema call))) (answer_in state session call) → session_after (session_at state session) (length state.commits) (answer_in state session call) ≡ session_at state session
   keeps_session keeps =
       let table = table_in (request_of state.start.schema call) in
-      same_session (session_at state session) (length state.commits) (answer_in state session call) (keeps.rights ∙ view_rights state session table) (keeps.reads_only ∙ view_reads state session table) (keeps.own ∙ view_own state session table)
+      same_session (session_at state session) (length state.commits) (answer_in state session call) (keeps.rights ∙ view_rights state session table) (keeps.reads_only ∙ view_reads state session table) (keeps.own ∙ view_own state session table) (keeps.savepoints ∙ view_savepoints state session table)
 
 pub refused_leaves : RefusedLeaves
 refused_leaves state session call fault is =

@@ -1,8 +1,12 @@
+pub mod Behind
 pub mod Columns
 pub mod Coming
 pub mod Fits
+pub mod Going
 pub mod Held
 pub mod Holding
+pub mod Kept
 pub mod Leaving
 pub mod Listed
+pub mod Named
 pub mod Reading

@@ -14,7 +14,9 @@ use Rattle.desk_schema.specs.Schema.{columns_of}
 use Rattle.desk_schema.specs.Start.{StartView}
 use Rattle.sql_eval.specs.Laws.{FitColumns}
 use Rattle.sql_eval.specs.Totals.{values_in}
+use Rattle.machine_model.specs.declared.session.Savepoint.{Savepoint}
 use Rattle.machine_model.specs.declared.session.Session.{Session}
+use Rattle.machine_model.specs.declared.session.Transaction.{Transaction}
 use Rattle.machine_model.specs.State.{State, opening, tables}
 use Rattle.machine_model.specs.Step.{run, step}
 use Rattle.law_steps.specs.Reading.{rows_in}
@@ -51,12 +53,18 @@ pub record FillsTable (tables : List Table) (table : ℕ) (row : Image) : Type 0
   pub of_it : row.table ≡ table
   pub values : IsSomeAnd row.left (FillColumns (columns_of tables table))
 
--- the start's rows, what was committed and what the sessions changed keep the rules of their columns
+-- changes keep the rules of their columns
+abbrev pub HasFitting : List Table → Transaction → Type 0
+HasFitting tables own = AllByRecursion (FitsItsTable tables) own.changes
+
+-- the start's rows, what was committed, what the sessions changed and what their savepoints keep of it keep the rules of their
+-- columns
 pub record RowsKeepRules (state : State) : Type 0 where
   pub start : AllByRecursion (FillsItsTable state.start.schema.tables) state.start.rows
   pub commits : AllByRecursion (AllByRecursion (FitsItsTable state.start.schema.tables)) state.commits
-  pub own : AllByRecursion
-      (λ (session : Session). AllByRecursion (FitsItsTable state.start.schema.tables) session.own.changes) state.sessions
+  pub own : AllByRecursion (λ (session : Session). HasFitting state.start.schema.tables session.own) state.sessions
+  pub kept : AllByRecursion
+      (λ (session : Session). AllByRecursion (λ (savepoint : Savepoint). HasFitting state.start.schema.tables savepoint.own) session.savepoints) state.sessions
 
 -- the server starts so, each step leaves it so, and so each run of calls from the first one on
 abbrev pub OpeningsFit : Type 0

@@ -10,6 +10,8 @@ ghost use Rattle.law_steps.specs.Held.{HeldKeysAreNotInserted, HeldKeysAreNotSet
 ghost use Rattle.law_steps.specs.Holding.{EndedSessionsHoldNothing, HoldsStay, InsertedRowsAreHeld, MovedKeysAreHeld};
 ghost use Rattle.law_steps.specs.Holding.{NoOtherKeyIsHeld, NoOtherRowIsHeld, TakenRowsAreHeld};
 ghost use Rattle.law_steps.specs.Leaving.{OthersAreLeft, OthersAreLeftByRuns, RefusedLeaves, RunsAdd, StepsAdd};
+ghost use Rattle.law_steps.specs.Marks.{GoingBackRestores, OldServersHaveNoSavepoint, OthersLeaveSavepoints, SavepointNamesDiffer};
+ghost use Rattle.law_steps.specs.Marks.{SavepointsKeep, SavepointsLeaveTheRest, SavepointsStay, StretchesAreUndone};
 ghost use Rattle.law_steps.specs.Reading.{MarkedSessionsRead, OnlyMarkedSessionsRead, ReadersAreAnsweredTheSame, ReadersAreLeft};
 ghost use Rattle.law_steps.specs.Reading.{ReadersSeeTheSame, SnapshotsAreWithin};
 
@@ -32,9 +34,9 @@ pub fn steps_only_add()
 {}
 
 /// A transaction only reads from the call on that is answered so, and no other begins to: it reads at the last commit there is.
-/// It sees the same rows of each table as long as it goes on, whatever the calls do: its session is left as it was, and each
-/// SELECT that locks no row is answered the same. In each state that the server comes to, a session that reads so is connected,
-/// and reads at a commit that there is.
+/// It sees the same rows of each table as long as it goes on, also where it goes back to a savepoint, whatever the calls do: its
+/// session is left as it was but for savepoints, and each SELECT that locks no row is answered the same. In each state that the
+/// server comes to, a session that reads so is connected, reads at a commit that there is, and has what it had at its savepoints.
 pub fn reads_stay()
     ensures begins { MarkedSessionsRead }
     ensures only { OnlyMarkedSessionsRead }
@@ -54,7 +56,8 @@ pub fn held_is_refused()
 {}
 
 /// A session holds the rows that its statements lock, change, delete or insert, and the keys that they give and take, unless a
-/// statement is refused, and no others. It holds them as long as its transaction goes on, and once that has ended it holds nothing.
+/// statement is refused, and no others, but where it goes back to a savepoint those that it held there. It holds them as long as
+/// its transaction goes on and does not go back, and once that has ended it holds nothing.
 pub fn holds_last()
     ensures taken { TakenRowsAreHeld }
     ensures inserted { InsertedRowsAreHeld }
@@ -63,6 +66,30 @@ pub fn holds_last()
     ensures keys_only { NoOtherKeyIsHeld }
     ensures stay { HoldsStay }
     ensures ended { EndedSessionsHoldNothing }
+{}
+
+/// A savepoint keeps what its session has of its own: changes, rows and keys that it holds. It stays so until it is dropped, and
+/// going back to it gives the session just that again, whatever was done since. Other statements leave the savepoints, unless
+/// they end the transaction. Of a session nothing else changes, and of the other sessions and of what is committed nothing; what
+/// was drawn and made since stays so.
+pub fn savepoints_keep()
+    ensures kept { SavepointsKeep }
+    ensures restored { GoingBackRestores }
+    ensures stay { SavepointsStay }
+    ensures left { OthersLeaveSavepoints }
+    ensures rest { SavepointsLeaveTheRest }
+{}
+
+/// From a SAVEPOINT on to the ROLLBACK TO that goes back to it: whatever was done on the way, that is not refused, and the session
+/// is again what the SAVEPOINT left.
+pub fn stretches_are_undone()
+    ensures { StretchesAreUndone }
+{}
+
+/// No session has two savepoints of one name, and at version 1 none has any.
+pub fn savepoint_names_differ()
+    ensures names { SavepointNamesDiffer }
+    ensures old { OldServersHaveNoSavepoint }
 {}
 
 /// In every state that the server comes to from a start file, each row and each change has as many values as its table has

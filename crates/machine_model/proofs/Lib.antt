@@ -1,13 +1,19 @@
 -- What the proofs of the crate share.
 pub mod Adding
 pub mod Changing
+pub mod Exact
+pub mod Handing
+pub mod Keeping
 pub mod Indexing
 pub mod Laying
 pub mod Looks
+pub mod Marks
 pub mod Members
+pub mod Once
 pub mod Ordering
 pub mod Refusing
 pub mod Repeating
+pub mod Rising
 pub mod SoundAnswers
 pub mod SoundPlans
 pub mod SoundRows
@@ -16,3 +22,4 @@ pub mod Standing
 pub mod Stocking
 pub mod Telling
 pub mod Twice
+pub mod Versions

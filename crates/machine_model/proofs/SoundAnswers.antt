@@ -11,7 +11,7 @@ use Rattle.desk_values.specs.declared.fault.Fault.{Fault}
 use Rattle.desk_values.specs.Good.{HasGoodShape, HasValues, IsDraw, IsShapedImage, IsShapedOutcome}
 use Rattle.desk_schema.specs.Schema.{IsSchema, SchemaView, columns_of}
 use Rattle.sql_tree.specs.declared.tree.Key.{Key}
-use Rattle.sql_tree.specs.Plain.{Term, Asked, columns, values, totals, Total, Plan, select, next, insert, update, delete, commit, rollback, set_read_only}
+use Rattle.sql_tree.specs.Plain.{Term, Asked, columns, values, totals, Total, Plan, select, next, insert, update, delete, commit, rollback, set_read_only, savepoint, rollback_to}
 use Rattle.sql_eval.specs.Totals.{values_in}
 use Rattle.machine_model.specs.declared.effect.Effect.{Effect}
 use Rattle.machine_model.specs.View.{View}
@@ -21,7 +21,9 @@ use Rattle.machine_model.specs.Causes.{connect_fault, disconnect_fault, statemen
 use Rattle.machine_model.specs.Found.{Environment, matches, matching, ordered, sound, values_for}
 use Rattle.machine_model.specs.Writes.{gone, updated}
 use Rattle.machine_model.specs.Answer.{Answer, answer, delete_effect, done, executed, insert_effect, new_row, select_effect, select_rows, total_in, unless, update_effect}
-use Rattle.machine_model.specs.Sound.{AreSound}
+use Rattle.machine_model.specs.Sound.{AreSound, KeepsSound}
+use Rattle.machine_model.proofs.Marks.{each_up_to, each_with, own_at_one}
+use Rattle.machine_model.specs.declared.session.Transaction.{Transaction}
 use Rattle.machine_model.proofs.Members.{each_filtered, each_mapped, each_weaker}
 use Rattle.machine_model.proofs.SoundRows.{IsStanding, each_ordered, rising_ascends, shaped_gone, shaped_updated, some_columns, some_row_values, sound_none, sound_noted}
 use Rattle.sql_reader.specs.Asking.{Asks}
@@ -30,10 +32,12 @@ use Rattle.machine_model.proofs.SoundPlans.{IsSoundPlan, IsSoundRequest}
 pub record IsSoundAnswer (a : Answer) : Type 0 where
   pub reply : HasGoodShape a.reply
   pub own : AreSound a.own.changes
+  pub kept : AllByRecursion KeepsSound a.savepoints
 
 pub record IsSoundView (view : View) : Type 0 where
   pub rows : AllByRecursion IsStanding view.rows
   pub own : AreSound view.own.changes
+  pub kept : AllByRecursion KeepsSound view.savepoints
 
 -- ---- what is drawn
 
@@ -70,12 +74,12 @@ some_selected env (totals ts) keys found asks stand = (some_mapped (λ (t : Tota
 
 -- ---- answers
 
-unless_sound : (view : View) (draws : List Value) (fault : Option Fault) (a : Answer) → AreSound view.own.changes → AllByRecursion IsDraw draws → IsSoundAnswer a → IsSoundAnswer (unless view draws fault a)
-unless_sound view draws None a own drawn is = is
-unless_sound view draws (Some fault) a own drawn is = record { reply = record { outcome = tt; draws = drawn }; own = own }
+unless_sound : (view : View) (draws : List Value) (fault : Option Fault) (a : Answer) → IsSoundView view → AllByRecursion IsDraw draws → IsSoundAnswer a → IsSoundAnswer (unless view draws fault a)
+unless_sound view draws None a v drawn is = is
+unless_sound view draws (Some fault) a v drawn is = record { reply = record { outcome = tt; draws = drawn }; own = v.own; kept = v.kept }
 
-done_sound : (table : ℕ) (view : View) (draws : List Value) (effect : Effect) → AreSound view.own.changes → AllByRecursion IsDraw draws → IsShapedOutcome effect.outcome → AllByRecursion IsShapedImage effect.writing.images → IsSoundAnswer (done table view draws effect)
-done_sound table view draws effect own drawn outcome images = record { reply = record { outcome = outcome; draws = drawn }; own = sound_noted view.own.changes effect.writing.images own images }
+done_sound : (table : ℕ) (view : View) (draws : List Value) (effect : Effect) → IsSoundView view → AllByRecursion IsDraw draws → IsShapedOutcome effect.outcome → AllByRecursion IsShapedImage effect.writing.images → IsSoundAnswer (done table view draws effect)
+done_sound table view draws effect v drawn outcome images = record { reply = record { outcome = outcome; draws = drawn }; own = sound_noted view.own.changes effect.writing.images v.own images; kept = v.kept }
 
 module _ (schema : SchemaView) (is_schema : IsSchema schema) (view : View) (v : IsSoundView view) (next_values : List ℕ) (count : length next_values ≡ length schema.sequences) (row : ℕ) where
   found_stand : (env : Environment) (condition : Option (Term ℕ)) → AllByRecursion IsStanding (matching env condition view.rows)
@@ -85,23 +89,26 @@ module _ (schema : SchemaView) (is_schema : IsSchema schema) (view : View) (v : 
   each_changed P keeps env condition = let found = matching env condition view.rows in each_mapped IsShapedImage P found (each_weaker IsStanding (λ image. IsShapedImage (P image)) keeps found (found_stand env condition))
 
   executed_sound : (env : Environment) (plan : Plan ℕ) → IsSoundPlan schema plan → IsSoundAnswer (executed schema view next_values row env plan)
-  executed_sound env (select table asked condition keys for_update) asks = unless_sound view [] _ _ v.own tt (done_sound table view [] (select_effect env view asked condition keys for_update) v.own tt (some_selected env asked keys (matching env condition view.rows) asks (found_stand env condition)) tt)
-  executed_sound env (next sequence) within = record { reply = record { outcome = (some_drawn (nat_eq sequence) 0 sequence next_values (eq-eqb sequence sequence refl) (omega arith) (omega (arith, within, count)), tt); draws = each_drawn (nat_eq sequence) 0 next_values }; own = v.own }
+  executed_sound env (select table asked condition keys for_update) asks = unless_sound view [] _ _ v tt (done_sound table view [] (select_effect env view asked condition keys for_update) v tt (some_selected env asked keys (matching env condition view.rows) asks (found_stand env condition)) tt)
+  executed_sound env (next sequence) within = record { reply = record { outcome = (some_drawn (nat_eq sequence) 0 sequence next_values (eq-eqb sequence sequence refl) (omega arith) (omega (arith, within, count)), tt); draws = each_drawn (nat_eq sequence) 0 next_values }; own = v.own; kept = v.kept }
   executed_sound env (insert table named entries) within =
       let cs = columns_of schema.tables table in
       let drawn = each_drawn (draws_from (insert table named entries)) 0 next_values in
       let new = new_row env cs (draws_of (insert table named entries) next_values) row table named entries in
       let image : IsShapedImage new = record { table = omega (arith, within, is_schema.tables); left = some_row_values named _ cs (some_columns schema.tables table is_schema.columns within) } in
-      unless_sound view _ _ _ v.own drawn (done_sound table view _ (insert_effect new) v.own drawn tt (image, tt))
-  executed_sound env (update table changes condition) is = unless_sound view [] _ _ v.own tt (done_sound table view [] (update_effect env view changes condition) v.own tt tt (each_changed (updated env changes) (shaped_updated env changes) env condition))
-  executed_sound env (delete table condition) is = unless_sound view [] _ _ v.own tt (done_sound table view [] (delete_effect env view condition) v.own tt tt (each_changed gone shaped_gone env condition))
-  executed_sound env commit is = record { reply = record { outcome = (v.own.shaped, rising_ascends view.own.changes v.own.rising); draws = tt }; own = sound_none }
-  executed_sound env rollback is = record { reply = record { outcome = tt; draws = tt }; own = sound_none }
-  executed_sound env set_read_only is = record { reply = record { outcome = tt; draws = tt }; own = v.own }
+      unless_sound view _ _ _ v drawn (done_sound table view _ (insert_effect new) v drawn tt (image, tt))
+  executed_sound env (update table changes condition) is = unless_sound view [] _ _ v tt (done_sound table view [] (update_effect env view changes condition) v tt tt (each_changed (updated env changes) (shaped_updated env changes) env condition))
+  executed_sound env (delete table condition) is = unless_sound view [] _ _ v tt (done_sound table view [] (delete_effect env view condition) v tt tt (each_changed gone shaped_gone env condition))
+  executed_sound env commit is = record { reply = record { outcome = (v.own.shaped, rising_ascends view.own.changes v.own.rising); draws = tt }; own = sound_none; kept = tt }
+  executed_sound env rollback is = record { reply = record { outcome = tt; draws = tt }; own = sound_none; kept = tt }
+  executed_sound env set_read_only is = record { reply = record { outcome = tt; draws = tt }; own = v.own; kept = v.kept }
+  executed_sound env (savepoint name) is = record { reply = record { outcome = tt; draws = tt }; own = v.own; kept = each_with KeepsSound view.savepoints (record { name = name; own = view.own }) v.kept v.own }
+  executed_sound env (rollback_to name) is =
+      record { reply = record { outcome = tt; draws = tt }; own = own_at_one (λ (own : Transaction). AreSound own.changes) name view.own view.savepoints v.own v.kept; kept = each_up_to KeepsSound name view.savepoints v.kept }
 
   pub answer_sound : (request : Request) → IsSoundRequest schema request → IsSoundAnswer (answer schema view next_values row request)
-  answer_sound (connect service) is = unless_sound view [] (connect_fault view service) _ v.own tt (record { reply = record { outcome = tt; draws = tt }; own = v.own })
-  answer_sound disconnect is = unless_sound view [] (disconnect_fault view) _ v.own tt (record { reply = record { outcome = tt; draws = tt }; own = sound_none })
-  answer_sound unreadable is = record { reply = record { outcome = tt; draws = tt }; own = v.own }
-  answer_sound (unsound table fault) is = record { reply = record { outcome = tt; draws = tt }; own = v.own }
-  answer_sound (statement plan binds) is = unless_sound view [] (statement_fault view plan) _ v.own tt (executed_sound (record { level = schema.level; binds = binds }) plan is)
+  answer_sound (connect service) is = unless_sound view [] (connect_fault view service) _ v tt (record { reply = record { outcome = tt; draws = tt }; own = v.own; kept = v.kept })
+  answer_sound disconnect is = unless_sound view [] (disconnect_fault view) _ v tt (record { reply = record { outcome = tt; draws = tt }; own = sound_none; kept = tt })
+  answer_sound unreadable is = record { reply = record { outcome = tt; draws = tt }; own = v.own; kept = v.kept }
+  answer_sound (unsound table fault) is = record { reply = record { outcome = tt; draws = tt }; own = v.own; kept = v.kept }
+  answer_sound (statement plan binds) is = unless_sound view [] (statement_fault view plan) _ v tt (executed_sound (record { level = schema.level; binds = binds }) plan is)

@@ -2,8 +2,8 @@
 use Rattle.std.proofs.Common.{◌≡◌, ℕ, ◌+◌, ◌<◌, Bool, true, false, List, [], ◌∷◌, length, refl, subst, arith}
 use Rattle.std.proofs.lemmas.Bool.{or_parts}
 use Rattle.std.proofs.lemmas.List.{length-map}
-use Rattle.std.specs.Prelude.{◌||◌, if◌then◌else◌, is_none, Option, None, Some, Result, Ok, Err}
-use Rattle.std.specs.Option.{option_map, unwrap_or}
+use Rattle.std.specs.Prelude.{◌&&◌, ◌||◌, nat_eq, if◌then◌else◌, is_none, Option, None, Some, Result, Ok, Err}
+use Rattle.std.specs.Option.{option_and_then, option_map, unwrap_or}
 use Rattle.desk_values.specs.declared.call.Call.{Call}
 use Rattle.desk_values.specs.declared.call.Call.TheVariants.{Connect, Sql, Disconnect}
 use Rattle.desk_values.specs.declared.value.Value.{Value}
@@ -20,7 +20,7 @@ use Rattle.sql_eval.specs.Check.{applies, check_of, first_fault}
 use Rattle.sql_eval.specs.Faults.{unless_told}
 use Rattle.sql_eval.specs.SchemaNames.{is_unknown, number_of, numbered}
 use Rattle.sql_eval.proofs.CheckLaws.{nothing_is_overlooked}
-use Rattle.machine_model.specs.Request.{Request, statement, checked, read, request_of, table_named}
+use Rattle.machine_model.specs.Request.{Request, statement, checked, known_in, names_savepoint, read, request_of, statement_in, table_named}
 
 -- ---- a checked statement names what there is
 
@@ -58,7 +58,7 @@ module _ (schema : SchemaView) (binds : List Value) where
   numbers_sound (insert table named entries) asks none = omega (arith, known_number (table_names schema.tables) table (none UnknownTable), length-map schema.tables (λ (t : Table). t.name))
   numbers_sound other asks none = tt
 
-  told_ok : (fault : Option Fault) (plan found : Plan ℕ) → unless_told fault (Ok plan) ≡ Ok found → plan ≡ found
+  pub told_ok : (fault : Option Fault) (plan found : Plan ℕ) → unless_told fault (Ok plan) ≡ Ok found → plan ≡ found
   told_ok (Some fault) plan found is = absurd cc
   told_ok None plan found is = cc
 
@@ -80,7 +80,16 @@ module _ (schema : SchemaView) (binds : List Value) where
   after_read None asks = tt
   after_read (Some plan) asks = after_check (table_named schema plan) (check_of schema binds plan) (λ found is. checked_sound schema binds plan found (asks plan refl) is)
 
+-- what the server knows of what was read was read
+pub known_read : (version : ℕ) (found : Option (Plan Name)) (plan : Plan Name) → option_and_then (known_in version) found ≡ Some plan → found ≡ Some plan
+known_read version None plan = λ same. same
+known_read version (Some parsed) plan =
+    elim (nat_eq version 1 && names_savepoint parsed) as (λ b. (if b then None else Some parsed) ≡ Some plan → Some parsed ≡ Some plan) [
+      | true ↦ λ never. absurd cc
+      | false ↦ λ same. same
+    ]
+
 pub sound_request : (schema : SchemaView) (call : Call) → IsSoundRequest schema (request_of schema call)
 sound_request schema (Connect service) = tt
 sound_request schema Disconnect = tt
-sound_request schema (Sql text binds) = after_read schema binds (statement_of text) (read_asks text)
+sound_request schema (Sql text binds) = after_read schema binds (statement_in schema.version text) (λ plan is. read_asks text plan (known_read schema.version (statement_of text) plan is))

@@ -25,10 +25,13 @@ use Rattle.machine_model.proofs.SoundRows.{AreShaped, IsStanding, ascending_rise
 use Rattle.machine_model.proofs.SoundPlans.{sound_request}
 use Rattle.machine_model.proofs.SoundAnswers.{IsSoundAnswer, IsSoundView, answer_sound}
 
+nobody_sound : HasSoundChanges disconnected
+nobody_sound = record { own = sound_none; kept = tt }
+
 pub opening_sound : (start : StartView) → IsStart start → IsSoundState (opening start)
 opening_sound start is =
     let first = sound_start start is in
-    record { start = first; commits = tt; next_values = first.sound.sequences.counts; count = length-replicate 64 disconnected; sessions = each_repeated HasSoundChanges 64 disconnected sound_none }
+    record { start = first; commits = tt; next_values = first.sound.sequences.counts; count = length-replicate 64 disconnected; sessions = each_repeated HasSoundChanges 64 disconnected nobody_sound }
 
 pub tables_stand : (state : State) (n : ℕ) → IsSoundState state → AreStanding (tables state n)
 tables_stand state n is =
@@ -44,15 +47,15 @@ tables_stand state n is =
 -- ---- answers
 
 module _ (state : State) (is : IsSoundState state) (session : ℕ) where
-  own_sound : AreSound (session_at state session).own.changes
-  own_sound = one_of HasSoundChanges state.sessions session disconnected sound_none is.sessions
+  own_sound : HasSoundChanges (session_at state session)
+  own_sound = one_of HasSoundChanges state.sessions session disconnected nobody_sound is.sessions
 
   view_sound : (table : Option ℕ) → IsSoundView (view_of state session table)
-  view_sound None = record { rows = tt; own = own_sound }
+  view_sound None = record { rows = tt; own = own_sound.own; kept = own_sound.kept }
   view_sound (Some table) =
       let schema = is.start.is_schema in
       let first = stand_first state.start.schema.tables state.start.next_values schema.tables schema.columns state.start.rows is.start.sound.sound_rows.each in
-      record { rows = stand_seen state.start.rows state.commits (session_at state session) table first is.commits own_sound; own = own_sound }
+      record { rows = stand_seen state.start.rows state.commits (session_at state session) table first is.commits own_sound.own; own = own_sound.own; kept = own_sound.kept }
 
   pub answered : (call : Call) → IsSoundAnswer (answer_in state session call)
   answered call =
@@ -86,7 +89,7 @@ step_sound state session call is =
       commits = commits_sound state.commits (committed_in a.reply.outcome) is.commits (committed_sound a.reply.outcome sound.reply.outcome);
       next_values = length_moved a.reply.draws 0 state.next_values ∙ is.next_values;
       count = length-set state.sessions session left ∙ is.count;
-      sessions = each_set HasSoundChanges state.sessions session left sound.own is.sessions;
+      sessions = each_set HasSoundChanges state.sessions session left (record { own = sound.own; kept = sound.kept }) is.sessions;
     }
 
 -- ---- runs

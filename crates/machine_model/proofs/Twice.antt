@@ -9,11 +9,11 @@ use Rattle.std.proofs.lemmas.Option.{same_Some}
 use Rattle.desk_values.specs.declared.value.Value.{Value}
 use Rattle.desk_values.specs.declared.value.Image.{Image}
 use Rattle.desk_values.specs.Comparison.{same_key}
-use Rattle.desk_schema.proofs.Drafting.{same_is}
 use Rattle.machine_model.specs.Rows.{IsRising, RisesFrom, is_there, lay, row_key, shown}
 use Rattle.machine_model.specs.Writes.{is_among, repeats_key}
 use Rattle.machine_model.specs.Inside.Index.{FindsRows, print_of, staying}
 use Rattle.machine_model.specs.Inside.Rows.{all_shown, row_at}
+use Rattle.machine_model.proofs.Exact.{same_is}
 use Rattle.machine_model.proofs.Indexing.{own_rows}
 use Rattle.machine_model.proofs.Laying.{lay_between, lay_below, lay_last, lay_over}
 use Rattle.machine_model.proofs.Looks.{filtered_from}

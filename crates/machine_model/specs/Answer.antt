@@ -13,7 +13,7 @@ use Rattle.desk_schema.specs.declared.schema.Rights.{Rights}
 use Rattle.desk_schema.specs.declared.schema.Column.{Column}
 use Rattle.desk_schema.specs.Schema.{SchemaView, columns_of}
 use Rattle.sql_tree.specs.declared.tree.Key.{Key}
-use Rattle.sql_tree.specs.Plain.{Term, Asked, columns, values, totals, Total, Entry, Change, Plan, select, next, insert, update, delete, commit, rollback, set_read_only}
+use Rattle.sql_tree.specs.Plain.{Term, Asked, columns, values, totals, Total, Entry, Change, Plan, select, next, insert, update, delete, commit, rollback, set_read_only, savepoint, rollback_to}
 use Rattle.sql_eval.specs.declared.faults.Faults.{Faults}
 use Rattle.sql_eval.specs.Faults.{any_fault, joined}
 use Rattle.sql_eval.specs.Totals.{total_over, values_in}
@@ -22,6 +22,8 @@ use Rattle.machine_model.specs.Limits.{row_limit}
 use Rattle.machine_model.specs.declared.effect.Effect.{Effect}
 use Rattle.machine_model.specs.declared.effect.Writing.{Writing}
 use Rattle.machine_model.specs.declared.session.Transaction.{Transaction}
+use Rattle.machine_model.specs.declared.session.Savepoint.{Savepoint}
+use Rattle.machine_model.specs.Savepoints.{own_at, up_to, with_savepoint}
 use Rattle.machine_model.specs.Rows.{row_key, row_numbers}
 use Rattle.machine_model.specs.State.{nothing}
 use Rattle.machine_model.specs.View.{View}
@@ -36,6 +38,7 @@ pub record Answer : Type 0 where
   pub rights : Option Rights
   pub reads_only : Bool
   pub own : Transaction
+  pub savepoints : List Savepoint
 
 -- ---- the causes of each statement
 
@@ -165,7 +168,7 @@ reply_of outcome draws made = record { outcome = outcome; draws = draws; made = 
 
 -- the session is as before
 abbrev pub unchanged : View → Reply → Answer
-unchanged view reply = record { reply = reply; rights = view.rights; reads_only = view.reads_only; own = view.own }
+unchanged view reply = record { reply = reply; rights = view.rights; reads_only = view.reads_only; own = view.own; savepoints = view.savepoints }
 
 -- the call is refused, with what it drew before
 abbrev pub refused : View → List Value → Fault → Answer
@@ -173,7 +176,17 @@ refused view draws fault = unchanged view (reply_of (Refused fault) draws None)
 
 -- the transaction has ended
 abbrev pub ended : Option Rights → Outcome → Answer
-ended rights outcome = record { reply = reply_of outcome [] None; rights = rights; reads_only = false; own = nothing }
+ended rights outcome = record { reply = reply_of outcome [] None; rights = rights; reads_only = false; own = nothing; savepoints = [] }
+
+-- what the session has of its own is kept under this name
+abbrev pub marked : View → List ℕ → Answer
+marked view name =
+    record (unchanged view (reply_of Marked [] None)) { savepoints = with_savepoint view.savepoints (record { name = name; own = view.own }) }
+
+-- it has again what it had at the savepoint of this name, which stays, and those after it are dropped
+abbrev pub gone_back : View → List ℕ → Answer
+gone_back view name =
+    record (unchanged view (reply_of RolledBack [] None)) { own = own_at name view.own view.savepoints; savepoints = up_to name view.savepoints }
 
 -- the statement writes and holds what it does
 abbrev pub done : ℕ → View → List Value → Effect → Answer
@@ -205,6 +218,8 @@ executed schema view next_values row env (delete table condition) = ruled table 
 executed schema view next_values row env commit = ended view.rights (Committed view.own.changes)
 executed schema view next_values row env rollback = ended view.rights RolledBack
 executed schema view next_values row env set_read_only = record (unchanged view (reply_of Marked [] None)) { reads_only = true }
+executed schema view next_values row env (savepoint name) = marked view name
+executed schema view next_values row env (rollback_to name) = gone_back view name
 
 abbrev pub answer : SchemaView → View → List ℕ → ℕ → Request → Answer
 answer schema view next_values row (connect service) = unless view [] (connect_fault view service) (record (unchanged view (reply_of Connected [] None)) { rights = service })

@@ -1,11 +1,12 @@
 -- Why a call is refused: each cause once, in the order in which they are told.
 use Rattle.std.specs.Prelude.{ℕ, Bool, true, false, ◌&&◌, ◌||◌, not, if◌then◌else◌, List, [], Option, None, Some, is_some, is_none}
 use Rattle.desk_values.specs.declared.fault.Fault.{Fault}
-use Rattle.desk_values.specs.declared.fault.Fault.TheVariants.{UnknownService, Locked, DuplicateKey, NullValue, OutOfRange, TextTooLong, ZeroDivisor, Overflow, ReadOnly, NotConnected, AlreadyConnected, UnderWay, TooManyRows}
+use Rattle.desk_values.specs.declared.fault.Fault.TheVariants.{UnknownService, Locked, DuplicateKey, NullValue, OutOfRange, TextTooLong, ZeroDivisor, Overflow, ReadOnly, NotConnected, AlreadyConnected, UnderWay, TooManyRows, NoSavepoint}
 use Rattle.desk_schema.specs.declared.schema.Rights.{Rights}
 use Rattle.desk_schema.specs.declared.schema.Rights.TheVariants as rights
-use Rattle.sql_tree.specs.Plain.{Plan, select, next, insert, update, delete, commit, rollback, set_read_only}
+use Rattle.sql_tree.specs.Plain.{Plan, select, next, insert, update, delete, commit, rollback, set_read_only, savepoint, rollback_to}
 use Rattle.machine_model.specs.declared.causes.Causes.{Causes}
+use Rattle.machine_model.specs.Savepoints.{has_savepoint}
 use Rattle.machine_model.specs.View.{View}
 
 -- ---- before anything is drawn
@@ -27,6 +28,8 @@ needs_write_access (delete table condition) = true
 needs_write_access commit = false
 needs_write_access rollback = false
 needs_write_access set_read_only = false
+needs_write_access (savepoint name) = false
+needs_write_access (rollback_to name) = false
 
 abbrev pub is_read_only : Option Rights → Bool
 is_read_only (Some rights.ReadOnly) = true
@@ -40,9 +43,14 @@ abbrev pub is_empty : {X : Type 0} → List X → Bool
 is_empty [] = true
 is_empty other = false
 
--- the session's transaction only reads, or has changes, or holds something
+-- the session's transaction only reads, or has changes or savepoints, or holds something
 abbrev pub is_under_way : View → Bool
-is_under_way view = view.reads_only || not (is_empty view.own.changes) || not (is_empty view.own.rows) || not (is_empty view.own.keys)
+is_under_way view = view.reads_only || not (is_empty view.own.changes) || not (is_empty view.own.rows) || not (is_empty view.own.keys) || not (is_empty view.savepoints)
+
+-- the statement goes back to a savepoint that the session does not have
+abbrev pub lacks_savepoint : View → Plan ℕ → Bool
+lacks_savepoint view (rollback_to name) = not (has_savepoint name view.savepoints)
+lacks_savepoint view other = false
 
 -- the fault of a checked statement for the session's rights and transaction
 unfoldable pub statement_fault : View → Plan ℕ → Option Fault
@@ -50,6 +58,7 @@ statement_fault view plan =
     if is_none view.rights then Some NotConnected
     else if needs_write_access plan && (is_read_only view.rights || view.reads_only) then Some ReadOnly
     else if sets_read_only plan && is_under_way view then Some UnderWay
+    else if lacks_savepoint view plan then Some NoSavepoint
     else None
 
 -- ---- after the draws

@@ -3,7 +3,7 @@ use Rattle.std.specs.Prelude.{ℕ, ◌+◌, Bool, false, nat_eq, if◌then◌els
 use Rattle.std.specs.List.{list_any}
 use Rattle.desk_values.specs.declared.value.Value.{Value}
 use Rattle.desk_values.specs.declared.value.Value.TheVariants.{Null, Draw}
-use Rattle.sql_tree.specs.Plain.{Entry, value, drawn, Plan, select, next, insert, update, delete, commit, rollback, set_read_only}
+use Rattle.sql_tree.specs.Plain.{Entry, value, drawn, Plan, select, next, insert, update, delete, commit, rollback, set_read_only, savepoint, rollback_to}
 
 abbrev pub is_from : ℕ → Entry ℕ → Bool
 is_from sequence (value e) = false
@@ -19,6 +19,8 @@ draws_from (delete table condition) sequence = false
 draws_from commit sequence = false
 draws_from rollback sequence = false
 draws_from set_read_only sequence = false
+draws_from (savepoint name) sequence = false
+draws_from (rollback_to name) sequence = false
 
 -- one value of each sequence that passes the test, by ascending number; these are the next values from this sequence on
 abbrev pub drawn_from : (ℕ → Bool) → ℕ → List ℕ → List Value

@@ -6,3 +6,4 @@ pub mod Index
 pub mod Machine
 pub mod Repeats
 pub mod Rows
+pub mod Views

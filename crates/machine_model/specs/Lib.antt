@@ -1,14 +1,17 @@
 pub mod Limits
 pub mod Answer
 pub mod Causes
+pub mod Clean
 pub mod Draws
 pub mod Found
 pub mod Machine
 pub mod Request
 pub mod Rows
+pub mod Savepoints
 pub mod Sound
 pub mod State
 pub mod Step
 pub mod View
+pub mod Views
 pub mod Writes
 pub mod Inside

@@ -6,6 +6,7 @@ use Rattle.desk_values.specs.declared.value.Image.{Image}
 use Rattle.desk_values.specs.Good.{IsShapedImage}
 use Rattle.desk_schema.specs.Sound.{IsSoundStart}
 use Rattle.machine_model.specs.declared.session.Session.{Session}
+use Rattle.machine_model.specs.declared.session.Savepoint.{Savepoint}
 use Rattle.machine_model.specs.Rows.{IsRising, is_there}
 use Rattle.machine_model.specs.State.{State}
 
@@ -19,8 +20,13 @@ pub record AreStanding (rows : List Image) : Type 0 where
   pub there : AllByRecursion (λ (image : Image). is_there image ≡ true) rows
   pub rising : IsRising rows
 
-abbrev pub HasSoundChanges : Session → Type 0
-HasSoundChanges session = AreSound session.own.changes
+abbrev pub KeepsSound : Savepoint → Type 0
+KeepsSound savepoint = AreSound savepoint.own.changes
+
+-- its own changes, and those that its savepoints keep
+pub record HasSoundChanges (session : Session) : Type 0 where
+  pub own : AreSound session.own.changes
+  pub kept : AllByRecursion KeepsSound session.savepoints
 
 pub record IsSoundState (state : State) : Type 0 where
   pub start : IsSoundStart state.start

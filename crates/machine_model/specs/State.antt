@@ -29,7 +29,7 @@ nothing = record { changes = []; rows = []; keys = [] }
 
 -- a session that is not connected
 abbrev pub disconnected : Session
-disconnected = record { rights = None; snapshot = None; own = nothing }
+disconnected = record { rights = None; snapshot = None; own = nothing; savepoints = [] }
 
 -- nothing is committed, nobody is connected
 abbrev pub opening : StartView → State

@@ -33,7 +33,7 @@ snapshot_after true (Some n) commits = Some n
 snapshot_after true None commits = Some commits
 
 abbrev pub session_after : Session → ℕ → Answer → Session
-session_after before commits a = record { rights = a.rights; snapshot = snapshot_after a.reads_only before.snapshot commits; own = a.own }
+session_after before commits a = record { rights = a.rights; snapshot = snapshot_after a.reads_only before.snapshot commits; own = a.own; savepoints = a.savepoints }
 
 -- the state after a session got this answer
 abbrev pub after : State → ℕ → Answer → State

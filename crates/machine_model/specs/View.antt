@@ -6,6 +6,7 @@ use Rattle.desk_values.specs.declared.value.Image.{Image}
 use Rattle.desk_schema.specs.declared.schema.Rights.{Rights}
 use Rattle.machine_model.specs.declared.session.Session.{Session}
 use Rattle.machine_model.specs.declared.session.Transaction.{Transaction}
+use Rattle.machine_model.specs.declared.session.Savepoint.{Savepoint}
 use Rattle.machine_model.specs.declared.session.HeldKey.{HeldKey}
 use Rattle.machine_model.specs.Rows.{lay, lay_all, of_table}
 use Rattle.machine_model.specs.State.{State, session_at}
@@ -17,6 +18,8 @@ pub record View : Type 0 where
   pub reads_only : Bool
   -- its own changes, and the rows and keys that it holds
   pub own : Transaction
+  -- its savepoints, the oldest first
+  pub savepoints : List Savepoint
   -- where the call is a statement on a table, that table's rows as the session sees them
   pub rows : List Image
   -- those of them that another session holds
@@ -54,7 +57,7 @@ keys_held sessions table = flat_map (λ (s : Session). filter_map (key_of_table 
 
 -- the view without a table
 abbrev pub plain_view : Session → View
-plain_view session = record { rights = session.rights; reads_only = is_some session.snapshot; own = session.own; rows = []; locked = []; locked_keys = [] }
+plain_view session = record { rights = session.rights; reads_only = is_some session.snapshot; own = session.own; savepoints = session.savepoints; rows = []; locked = []; locked_keys = [] }
 
 -- and with the rows of one
 abbrev pub with_table : View → List Session → ℕ → List Image → View

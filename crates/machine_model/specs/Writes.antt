@@ -1,5 +1,5 @@
 -- What INSERT, UPDATE and DELETE write and hold, and what may be wrong with it.
-use Rattle.std.specs.Prelude.{ℕ, ◌+◌, Bool, false, ◌&&◌, ◌||◌, not, nat_eq, nat_lt, if◌then◌else◌, List, [], ◌∷◌, ◌++◌, map, length, slice_get, slice_set, Option, None, Some, Result, Ok}
+use Rattle.std.specs.Prelude.{ℕ, ◌+◌, Bool, false, ◌&&◌, ◌||◌, not, ◌==◌, nat_eq, nat_lt, if◌then◌else◌, List, [], ◌∷◌, ◌++◌, map, length, slice_get, slice_set, Option, None, Some, Result, Ok}
 use Rattle.std.specs.Option.{unwrap_or, option_and_then}
 use Rattle.std.specs.Ordering.{is_lt, int_cmp}
 use Rattle.std.specs.List.{filter, flat_map, list_any, position}
@@ -35,9 +35,21 @@ assigned olds [] news = olds
 assigned olds columns [] = olds
 assigned olds (column ∷ columns) (new ∷ news) = assigned (slice_set olds column new) columns news
 
--- the row as an UPDATE leaves it: all new values are taken of the old ones
+abbrev pub is_empty_text : Value → Bool
+is_empty_text (Text text) = nat_eq (length text) 0
+is_empty_text other = false
+
+-- a value as a row keeps it: at level 2 a text of no bytes is Null
+abbrev pub stored : ℕ → Value → Value
+stored level new = if is_empty_text new && level == 2 then Null else new
+
+-- what an UPDATE sets in a row: all new values are taken of the old ones
+abbrev pub set_values : Environment → List (Change ℕ) → Image → List Value
+set_values env changes image = map (stored env.level) (values_for env (sources changes) image)
+
+-- the row as an UPDATE leaves it
 abbrev pub updated : Environment → List (Change ℕ) → Image → Image
-updated env changes image = record image { left = Some (assigned (values_in image) (targets changes) (values_for env (sources changes) image)) }
+updated env changes image = record image { left = Some (assigned (values_in image) (targets changes) (set_values env changes image)) }
 
 -- the row as a DELETE leaves it
 abbrev pub gone : Image → Image
@@ -48,8 +60,9 @@ abbrev pub input_value : Environment → List Value → Entry ℕ → Result Val
 input_value env draws (value e) = value_of env.level 0 [] env.binds e
 input_value env draws (drawn sequence) = Ok (drawn_value draws sequence)
 
+-- the inputs as the row keeps them
 abbrev pub inputs_for : Environment → List Value → List (Entry ℕ) → List Value
-inputs_for env draws entries = map (λ (entry : Entry ℕ). sound (input_value env draws entry)) entries
+inputs_for env draws entries = map (λ (entry : Entry ℕ). stored env.level (sound (input_value env draws entry))) entries
 
 -- the place of a column's input: where the column is listed; without a list the columns are given in their order
 abbrev pub input_place : Option (List ℕ) → ℕ → Option ℕ

@@ -1,5 +1,6 @@
 //! What statements and calls do to their session.
 
+use crate::session::{Savepoint, Transaction};
 use desk_schema::Rights;
 use desk_values::{Image, List, Outcome, Reply, Values};
 
@@ -42,6 +43,10 @@ pub enum Deed {
     ReadsOnly,
     /// It writes and holds in this table.
     Writes(u32, Writing),
+    /// It gets this savepoint.
+    Marks(Savepoint),
+    /// Its first savepoints stay, so many, and its transaction has again what it had at the last of them.
+    RollsBackTo(usize, Transaction),
 }
 
 /// What a call is answered, and what it does.

@@ -1,6 +1,6 @@
 //! What a call does to its session and to what is committed.
 
-ghost use Rattle.std.specs.Prelude.{◌≡◌, true, length, OnOk, OnErr};
+ghost use Rattle.std.specs.Prelude.{◌≡◌, [], true, length, OnOk, OnErr};
 ghost use Rattle.machine_model.specs.State.{nothing};
 ghost use Rattle.machine_model.specs.View.{plain_view};
 ghost use Rattle.machine_model.specs.Inside.Rows.{lay_tables, stocked};
@@ -11,6 +11,7 @@ ghost use Rattle.machine_model.specs.Inside.Decision.{committed_by, session_left
 use crate::effect::{Deed, Writing};
 use crate::holds::{hold_keys, hold_rows};
 use crate::rows::{Rows, TableRows};
+use crate::savepoints::Savepoints;
 use crate::session::{Session, Transaction};
 use crate::tables::lay_tables;
 use desk_values::{Copied, Memory};
@@ -83,16 +84,22 @@ pub fn enact(
         Deed::RollsBack => end(alloc, session),
         Deed::ReadsOnly => read_from(session, commits.len() as u64),
         Deed::Writes(table, writing) => write(&mut session.own, table, writing)?,
+        Deed::Marks(savepoint) => session.savepoints.set(savepoint)?,
+        Deed::RollsBackTo(count, own) => {
+            session.own = own;
+            session.savepoints.keep(count);
+        }
     }
     Ok(())
 }
 
 /// The transaction ends.
 fn end(alloc: Global, session: &mut Session)
-    ensures { session.new ≡ record { rights = session.old.rights; snapshot = None; own = nothing } }
+    ensures { session.new ≡ record { rights = session.old.rights; snapshot = None; own = nothing; savepoints = [] } }
 {
     session.snapshot = None;
     session.own = Transaction::new(alloc);
+    session.savepoints = Savepoints::new(alloc);
 }
 
 /// The transaction reads at this commit, where it does not read at one already.

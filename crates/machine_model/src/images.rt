@@ -1,11 +1,11 @@
-//! The keys of rows, and the tests of new images.
+//! The keys of rows, and what is kept of new values and tested of new images.
 
 ghost use Rattle.std.specs.Prelude.{◌≡◌, ◌||◌};
 ghost use Rattle.std.specs.Option.{option_copied, unwrap_or};
 ghost use Rattle.desk_values.specs.declared.value.Value.TheVariants.{Null};
 ghost use Rattle.desk_values.specs.Comparison.{same_key};
 ghost use Rattle.machine_model.specs.Rows.{row_key};
-ghost use Rattle.machine_model.specs.Writes.{any_column, any_value, exceeds, exceeds_length, leaves, leaves_range, violates_not_null};
+ghost use Rattle.machine_model.specs.Writes.{any_column, any_value, exceeds, exceeds_length, is_empty_text, leaves, leaves_range, stored, violates_not_null};
 
 use crate::causes::Causes;
 use crate::evaluation::Evaluation;
@@ -41,6 +41,26 @@ pub fn same_row_key(with: Evaluation<'_>, a: &Image, b: &Image) -> bool
     ensures { result ≡ same_key with.entry.level (row_key a.now) (row_key b.now) }
 {
     same_key(with.level, row_key(with, a), row_key(with, b))
+}
+
+fn is_empty_text(value: &Value) -> bool
+    ensures { result ≡ is_empty_text value.now }
+{
+    match value {
+        Value::Text(text) => text.as_str().is_empty(),
+        _ => false,
+    }
+}
+
+/// A value as a row keeps it: at level 2 a text of no bytes is Null.
+pub fn stored(level: u32, new: Value) -> Value
+    ensures { result ≡ stored level new }
+{
+    if is_empty_text(&new) && level == 2 {
+        Value::Null
+    } else {
+        new
+    }
 }
 
 /// The causes with those that new images bring, column by column.

@@ -20,7 +20,7 @@ use crate::effect::{Decision, Effect, Writing};
 use crate::evaluation::Evaluation;
 use crate::found::evaluated;
 use crate::holds::hold_key;
-use crate::images::{row_key, tested};
+use crate::images::{row_key, stored, tested};
 use desk_schema::Column;
 use desk_values::{Copied, Fault, Image, List, Memory, Outcome, Value, Values};
 use sql_eval::{Columns, Faults, ReadyInput, ReadyInputs};
@@ -94,7 +94,7 @@ fn new_row(
     Ok((new, faults))
 }
 
-/// The values of the inputs, Null where one has a fault, and their faults.
+/// The values of the inputs as the row keeps them, Null where one has a fault, and their faults.
 fn input_values(
     with: Evaluation<'_>,
     draws: &[Value],
@@ -107,7 +107,7 @@ fn input_values(
     let mut values = List::new(with.alloc);
     for input in inputs {
         let (value, all) = input_value(with, draws, input, faults)?;
-        values.push(value)?;
+        values.push(stored(with.level, value))?;
         faults = all;
     }
     Ok((values, faults))

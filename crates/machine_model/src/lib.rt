@@ -28,13 +28,17 @@ mod order;
 mod permission;
 mod repeats;
 mod rows;
+mod savepoints;
 mod seeing;
 mod seen;
 mod selecting;
 mod session;
 mod tables;
 mod updating;
+mod viewing;
 
 pub use machine::{Copies, PlainMachine};
 pub use rows::Rows;
-pub use session::{HeldKey, Session, Transaction};
+pub use savepoints::Savepoints;
+pub use session::{HeldKey, Savepoint, Session, Transaction};
+pub use viewing::{KeyId, KeyIds, Point, Points, RowIds, View};

@@ -1,15 +1,17 @@
 //! The plain machine: a server of 64 sessions on one thread.
 
 ghost use Rattle.std.specs.Prelude.{◌≡◌, ◌+◌, ◌-◌, ◌<◌, ◌^◌, All, ◌++◌, ◌∷◌, [], length, map, replicate, IfOk, OnOk, OnErr, ℕ, Option};
+ghost use Rattle.std.specs.List.{AllByRecursion};
 ghost use Rattle.sql_eval.specs.Totals.{looked_at};
 ghost use Rattle.machine_model.specs.Draws.{draws_of, moved};
 ghost use Rattle.sql_tree.specs.Plain.{asked_of, change_of, condition_of, entry_of, plan_of, select as select_plan, insert as insert_plan, update as update_plan, delete as delete_plan};
 ghost use Rattle.desk_schema.specs.Schema.{columns_of, rights_of};
-ghost use Rattle.sql_reader.specs.Reading.{statement_of};
+ghost use Rattle.machine_model.specs.Clean.{is_clean};
+ghost use Rattle.machine_model.specs.Views.{IsViewOf, KeepsRising};
 ghost use Rattle.machine_model.specs.State.{disconnected, is_connected, is_given, opening, session_at, tables};
 ghost use Rattle.machine_model.specs.View.{others, plain_view, rows_seen, view_of};
-ghost use Rattle.machine_model.specs.Request.{connect as connect_request, disconnect as disconnect_request, read, request_of, statement as statement_request, unsound};
-ghost use Rattle.machine_model.specs.Answer.{answer, reply_of};
+ghost use Rattle.machine_model.specs.Request.{connect as connect_request, disconnect as disconnect_request, read, known_in, names_savepoint, request_of, statement as statement_request, statement_in, unsound};
+ghost use Rattle.machine_model.specs.Answer.{answer, gone_back, reply_of};
 ghost use Rattle.machine_model.specs.Step.{Gives, after, after_made, answer_in, answer_to, committed_in, view_for};
 ghost use Rattle.machine_model.specs.Inside.Decision.{Decides, Executes, committed_by, done_so, view_of_basis, view_of_seen};
 ghost use Rattle.desk_values.specs.Good.{IsGoodReply};
@@ -35,9 +37,12 @@ use crate::rows::{Rows, TableRows};
 use crate::seeing::rows_seen;
 use crate::seen::Seen;
 use crate::selecting::select;
-use crate::session::Session;
+use crate::session::{Savepoint, Session};
 use crate::tables::tables_of;
 use crate::updating::update;
+use crate::viewing::{
+    View, copied, held_by_others, keys_of_others, table_of_call, view_without_table,
+};
 use desk_schema::{Column, Start};
 use desk_values::{
     Binds, Call, Copied, Fault, Image, Images, List, Memory, Outcome, Reply, SESSION_LIMIT, Txt,
@@ -163,6 +168,51 @@ impl PlainMachine {
             Some(session) => session.rights.is_some(),
             None => false,
         }
+    }
+
+    /// Whether a session's reads depend on nothing but what is committed: it is connected, its transaction reads the latest
+    /// commit, and it has changed nothing.
+    pub fn clean(&self, session: u32) -> bool
+        ensures { result ≡ is_clean self.now.state session }
+    {
+        match self.sessions.get(session as usize) {
+            Some(mine) => {
+                mine.rights.is_some() && mine.snapshot.is_none() && mine.own.changes.len() == 0
+            }
+            None => false,
+        }
+    }
+
+    /// What a call of a session can depend on.
+    pub fn view(&self, session: u32, call: &Call) -> Result<View, Memory>
+        requires { session < 64 }
+        ensures view { IfOk result
+            (λ view. IsViewOf (view_for self.now.state session (request_of self.now.state.start.schema call.now)) view) }
+        ensures changes_rise { IfOk result (λ view. IsRising view.changes) }
+        ensures rows_rise { IfOk result (λ view. IsRising view.rows) }
+        ensures points_rise { IfOk result (λ view. AllByRecursion KeepsRising view.points) }
+    {
+        self.know_sound();
+        let session = session as usize;
+        let view = view_without_table(self.alloc, self.session(session))?;
+        match table_of_call(self.alloc, self.start.schema(), call)? {
+            Some(table) => self.with_table(session, table, view),
+            None => Ok(view),
+        }
+    }
+
+    // The view with the rows of a table, and what others hold there.
+    fn with_table(&self, session: usize, table: u32, mut view: View) -> Result<View, Memory>
+        requires session { session < 64 }
+        requires view { IsViewOf (view_of self.now.state session None) view }
+        ensures { IfOk result (λ view. IsViewOf (view_of self.now.state session (Some table)) view) }
+    {
+        let rows = self.rows(session, table)?;
+        let others = self.others(session);
+        view.rows = copied(self.alloc, &rows)?;
+        view.others_rows = held_by_others(self.alloc, others, &rows)?;
+        view.others_keys = keys_of_others(self.alloc, others, table)?;
+        Ok(view)
     }
 
     /// Whether a client can know the value: it is no id, or the start or a step has given it out.
@@ -323,15 +373,34 @@ impl PlainMachine {
     fn sql(&self, session: usize, text: &Txt, binds: &Binds) -> Result<Decision, Memory>
         requires { session < 64 }
         ensures { IfOk result
-            (λ decision. Decides
-            (view_for self.now.state session (read self.now.state.start.schema binds.now (statement_of text.now)))
-            (answer_to self.now.state session (read self.now.state.start.schema binds.now (statement_of text.now))) decision) }
+            (λ decision. let request = read self.now.state.start.schema binds.now
+            (statement_in self.now.state.start.schema.version text.now) in
+            Decides (view_for self.now.state session request) (answer_to self.now.state session request) decision) }
     {
         match read_statement(self.alloc, text) {
-            Ok(statement) => self.parsed(session, &statement, binds),
+            Ok(statement) => self.known(session, &statement, binds),
             Err(SqlErr::Syntax) => Ok(refused(self.alloc, Fault::Syntax)),
             Err(SqlErr::Memory) => Err(Memory),
         }
+    }
+
+    /// What a statement is answered that this server has, or has not.
+    fn known(
+        &self,
+        session: usize,
+        statement: &Statement,
+        binds: &Binds,
+    ) -> Result<Decision, Memory>
+        requires { session < 64 }
+        ensures { IfOk result
+            (λ decision. let request = read self.now.state.start.schema binds.now
+            (known_in self.now.state.start.schema.version (plan_of statement.now)) in
+            Decides (view_for self.now.state session request) (answer_to self.now.state session request) decision) }
+    {
+        if self.start.schema().version() == 1 && names_savepoint(statement) {
+            return Ok(refused(self.alloc, Fault::Syntax));
+        }
+        self.parsed(session, statement, binds)
     }
 
     /// What a statement is answered, and what it does.
@@ -401,6 +470,43 @@ impl PlainMachine {
             Ready::Commit => self.commit(session),
             Ready::Rollback => Ok(answered(self.alloc, Outcome::RolledBack, Deed::RollsBack)),
             Ready::SetReadOnly => Ok(answered(self.alloc, Outcome::Marked, Deed::ReadsOnly)),
+            Ready::Savepoint(name) => self.savepoint(session, name),
+            Ready::RollbackTo(name) => self.rollback_to(session, name),
+        }
+    }
+
+    /// What the session's transaction has is kept under this name.
+    fn savepoint(&self, session: usize, name: &Txt) -> Result<Decision, Memory>
+        requires { session < 64 }
+        ensures { IfOk result
+            (λ decision. decision
+            ≡ record {
+              reply = reply_of Outcome.Marked [] None;
+              deed = Deed.Marks (record { name = name.now; own = (session_at self.now.state session).own });
+            }) }
+    {
+        let name = name.copy()?;
+        let own = self.session(session).own.copied(self.alloc)?;
+        let savepoint = Savepoint { name, own };
+        Ok(answered(self.alloc, Outcome::Marked, Deed::Marks(savepoint)))
+    }
+
+    /// The session's transaction has again what it had at the savepoint of this name.
+    fn rollback_to(&self, session: usize, name: &Txt) -> Result<Decision, Memory>
+        requires { session < 64 }
+        ensures { IfOk result
+            (λ decision. Decides (view_of self.now.state session None)
+            (gone_back (view_of self.now.state session None) name.now) decision) }
+    {
+        let savepoints = &self.session(session).savepoints;
+        match savepoints.place_of(name) {
+            Some(place) => {
+                let savepoint = &savepoints.as_slice()[place];
+                let own = savepoint.own.copied(self.alloc)?;
+                let deed = Deed::RollsBackTo(place + 1, own);
+                Ok(answered(self.alloc, Outcome::RolledBack, deed))
+            }
+            None => Ok(answered(self.alloc, Outcome::RolledBack, Deed::Nothing)),
         }
     }
 
@@ -641,6 +747,16 @@ fn row_after(made: Option<u64>, next_row: u64) -> u64
         Some(_) => next_row + 1,
         None => next_row,
     }
+}
+
+/// Whether the statement is one on savepoints.
+fn names_savepoint(statement: &Statement) -> bool
+    ensures { result ≡ names_savepoint (plan_of statement.now) }
+{
+    matches!(
+        statement,
+        Statement::Savepoint(_) | Statement::RollbackTo(_)
+    )
 }
 
 /// Each sequence that was drawn from moves by 1.

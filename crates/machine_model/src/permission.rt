@@ -3,7 +3,7 @@
 ghost use Rattle.std.specs.Prelude.{◌≡◌};
 ghost use Rattle.sql_tree.specs.Plain.{plan_of};
 ghost use Rattle.machine_model.specs.View.{plain_view};
-ghost use Rattle.machine_model.specs.Causes.{is_under_way, needs_write_access, sets_read_only, statement_fault};
+ghost use Rattle.machine_model.specs.Causes.{is_under_way, lacks_savepoint, needs_write_access, sets_read_only, statement_fault};
 
 use crate::session::Session;
 use desk_schema::Rights;
@@ -23,6 +23,8 @@ pub fn statement_fault(session: &Session, ready: &Ready) -> Option<Fault>
         Some(Fault::ReadOnly)
     } else if matches!(ready, Ready::SetReadOnly) && is_under_way(session) {
         Some(Fault::UnderWay)
+    } else if lacks_savepoint(session, ready) {
+        Some(Fault::NoSavepoint)
     } else {
         None
     }
@@ -36,10 +38,21 @@ fn needs_write_access(ready: &Ready) -> bool
         Ready::Select(_, _, _, _, for_update) => *for_update,
         Ready::Next(_) | Ready::Insert(..) | Ready::Update(..) | Ready::Delete(..) => true,
         Ready::Commit | Ready::Rollback | Ready::SetReadOnly => false,
+        Ready::Savepoint(_) | Ready::RollbackTo(_) => false,
     }
 }
 
-/// Whether the session's transaction only reads, or has changes, or holds something.
+/// Whether the statement goes back to a savepoint that the session does not have.
+fn lacks_savepoint(session: &Session, ready: &Ready) -> bool
+    ensures { result ≡ lacks_savepoint (plain_view session.now) (plan_of ready.now) }
+{
+    match ready {
+        Ready::RollbackTo(name) => session.savepoints.place_of(name).is_none(),
+        _ => false,
+    }
+}
+
+/// Whether the session's transaction only reads, or has changes or savepoints, or holds something.
 fn is_under_way(session: &Session) -> bool
     ensures { result ≡ is_under_way (plain_view session.now) }
 {
@@ -47,4 +60,5 @@ fn is_under_way(session: &Session) -> bool
         || session.own.changes.len() > 0
         || session.own.rows.len() > 0
         || session.own.keys.len() > 0
+        || session.savepoints.len() > 0
 }

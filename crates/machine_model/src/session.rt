@@ -1,11 +1,12 @@
 //! Sessions, and what their transactions have of their own.
 
-ghost use Rattle.std.specs.Prelude.{◌≡◌, [], OnOk, OnErr};
+ghost use Rattle.std.specs.Prelude.{◌≡◌, [], IfOk, OnOk, OnErr};
 ghost use Rattle.machine_model.specs.State.{disconnected, nothing};
 
 use crate::rows::Rows;
+use crate::savepoints::Savepoints;
 use desk_schema::Rights;
-use desk_values::{Copied, List, Memory, Value};
+use desk_values::{Copied, List, Memory, Txt, Value};
 use std::alloc::Global;
 
 /// A session of the server.
@@ -16,6 +17,17 @@ pub struct Session {
     /// The commit number that its transaction reads at, `None` where it reads the latest commit.
     pub snapshot: Option<u64>,
     /// What its transaction has of its own.
+    pub own: Transaction,
+    /// The savepoints of its transaction.
+    pub savepoints: Savepoints,
+}
+
+/// What a transaction had of its own when the savepoint was set.
+#[derive(Drop)]
+pub struct Savepoint {
+    /// The savepoint's name, in lower case.
+    pub name: Txt,
+    /// The transaction's changes, and the rows and keys that it held.
     pub own: Transaction,
 }
 
@@ -60,6 +72,20 @@ impl Transaction {
             keys: List::new(alloc),
         }
     }
+
+    /// A copy.
+    pub fn copied(&self, alloc: Global) -> Result<Self, Memory>
+        ensures { IfOk result (λ copy. copy ≡ self.now) }
+    {
+        let changes = self.changes.copied(alloc)?;
+        let rows = self.rows.copy()?;
+        let keys = self.keys.copy()?;
+        Ok(Transaction {
+            changes,
+            rows,
+            keys,
+        })
+    }
 }
 
 impl Session {
@@ -71,6 +97,7 @@ impl Session {
             rights: None,
             snapshot: None,
             own: Transaction::new(alloc),
+            savepoints: Savepoints::new(alloc),
         }
     }
 }

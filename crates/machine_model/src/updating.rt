@@ -20,7 +20,7 @@ use crate::effect::{Decision, Effect, Writing};
 use crate::evaluation::Evaluation;
 use crate::found::{evaluated, is_match, sifted, values_of};
 use crate::holds::{hold_key, hold_some_row};
-use crate::images::{row_key, same_row_key, tested};
+use crate::images::{row_key, same_row_key, stored, tested};
 use crate::repeats::repeats_key;
 use crate::seen::Seen;
 use desk_schema::Column;
@@ -174,7 +174,7 @@ fn setting_faults(
     Ok(faults)
 }
 
-/// The row with its new values, all of which are taken of the old ones.
+/// The row with its new values as it keeps them, all of which are taken of the old ones.
 fn updated(with: Evaluation<'_>, settings: &[ReadySetting], image: &Image) -> Result<Image, Memory>
     ensures { IfOk result (λ new. new ≡ updated (env_of with.entry) (map change_of settings.now) image.now) }
 {
@@ -184,7 +184,7 @@ fn updated(with: Evaluation<'_>, settings: &[ReadySetting], image: &Image) -> Re
         let (value, _) = evaluated(with, image.row, own, &setting.to, Faults::NONE)?;
         let column = setting.column as usize;
         if column < values.len() {
-            values[column] = value;
+            values[column] = stored(with.level, value);
         }
     }
     Ok(Image {

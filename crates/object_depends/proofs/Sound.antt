@@ -1,11 +1,11 @@
 -- What a call requires where the facts are sound: of the calls before it those that it awaits.
 use Rattle.std.proofs.Common.{◌≡◌, ℕ, zero, suc, ◌+◌, ◌<◌, ◌≤◌, Bool, true, false, List, length, take, refl, sym, ap, ◌∙◌, arith, inl, inr, cond}
-use Rattle.std.specs.Prelude.{nat_le}
+use Rattle.std.specs.Prelude.{nat_le, nat_lt, ◌||◌, if◌then◌else◌}
 use Rattle.std.proofs.lemmas.Bool.{cases_eq, cases_lt, cases_Bool, lt-ltb, ltb-true, le-leb, leb-true, and_parts, and_from}
 use Rattle.std.proofs.lemmas.List.{take-take, get_or_past, length_push}
 use Rattle.std.proofs.lemmas.List.Sums.{sum_by-take-le, count_by_more_yes}
 use Rattle.replay_history.specs.declared.mode.Mode.{Mode}
-use Rattle.replay_history.specs.declared.mode.Mode.TheVariants.{Off, Scn, Object, Order}
+use Rattle.replay_history.specs.declared.mode.Mode.TheVariants.{Off, Scn, Object, Order, Fence}
 use Rattle.object_depends.specs.declared.fact.Fact.{Fact}
 use Rattle.object_depends.specs.Facts.{fact_at, no_fact, is_commit, commits_below, AreSound}
 use Rattle.object_depends.specs.Required.{has_seen, is_required, required, shares_table, stamps_where}
@@ -55,6 +55,10 @@ required_before Off facts sound k j lt is = absurd cc
 required_before Scn facts sound k j lt is = seen_before facts sound k j lt is
 required_before Object facts sound k j lt is = seen_before facts sound k j lt (and_parts _ _ is).0
 required_before Order facts sound k j lt is = ltb-true _ _ is
+required_before Fence facts sound k j lt is = elim (is_commit (fact_at facts k)) as (λ b. (if b then nat_lt j k else has_seen (fact_at facts k) (fact_at facts j)) ≡ true → j < k) [
+  | true ↦ λ below. ltb-true _ _ below
+  | false ↦ λ saw. seen_before facts sound k j lt saw
+] is
 
 -- and is awaited
 pub required_awaited : (mode : Mode) (facts : List Fact) (k j : ℕ) → is_required mode facts k j ≡ true → awaits mode (fact_at facts k) (fact_at facts j) ≡ true
@@ -65,6 +69,10 @@ required_awaited Object facts k j is =
     let seen = and_parts (is_commit (fact_at facts j)) (nat_le (fact_at facts j).number (fact_at facts k).seen) parts.0 in
     and_from _ _ seen.0 parts.1
 required_awaited Order facts k j is = refl
+required_awaited Fence facts k j is = elim (is_commit (fact_at facts k)) as (λ b. (if b then nat_lt j k else has_seen (fact_at facts k) (fact_at facts j)) ≡ true → (b || is_commit (fact_at facts j)) ≡ true) [
+  | true ↦ λ below. refl
+  | false ↦ λ saw. (and_parts (is_commit (fact_at facts j)) (nat_le (fact_at facts j).number (fact_at facts k).seen) saw).0
+] is
 
 -- and the other way round
 pub awaited_required : (mode : Mode) (facts : List Fact) → AreSound facts → (k j : ℕ) → k < length facts → j < k → awaits mode (fact_at facts k) (fact_at facts j) ≡ true → is_required mode facts k j ≡ true
@@ -72,6 +80,10 @@ awaited_required Off facts sound k j lt less is = is
 awaited_required Scn facts sound k j lt less is = before_seen facts sound k j lt less is
 awaited_required Object facts sound k j lt less is = let parts = and_parts _ _ is in and_from _ _ (before_seen facts sound k j lt less parts.0) parts.1
 awaited_required Order facts sound k j lt less is = lt-ltb _ _ less
+awaited_required Fence facts sound k j lt less is = elim (is_commit (fact_at facts k)) as (λ b. (b || is_commit (fact_at facts j)) ≡ true → (if b then nat_lt j k else has_seen (fact_at facts k) (fact_at facts j)) ≡ true) [
+  | true ↦ λ any. lt-ltb _ _ less
+  | false ↦ λ commit. before_seen facts sound k j lt less commit
+] is
 
 -- tests that say the same give the same
 where_same : (test other : ℕ → Bool) (n : ℕ) → ((j : ℕ) → j < n → test j ≡ other j) → stamps_where test n ≡ stamps_where other n

@@ -1,7 +1,7 @@
 -- How tallies are found in one pass over sound facts.
-use Rattle.std.specs.Prelude.{◌≡◌, ℕ, ◌<◌, Bool, true, false, ◌&&◌, List, length, None, slice_index_or}
+use Rattle.std.specs.Prelude.{◌≡◌, ℕ, ◌<◌, Bool, true, false, ◌&&◌, ◌||◌, List, length, None, slice_index_or}
 use Rattle.replay_history.specs.declared.mode.Mode.{Mode}
-use Rattle.replay_history.specs.declared.mode.Mode.TheVariants.{Off, Scn, Object, Order}
+use Rattle.replay_history.specs.declared.mode.Mode.TheVariants.{Off, Scn, Object, Order, Fence}
 use Rattle.object_depends.specs.declared.fact.Fact.{Fact}
 use Rattle.object_depends.specs.declared.tally.Tally.{Tally}
 use Rattle.object_depends.specs.declared.tally.Group.{Group}
@@ -18,6 +18,7 @@ awaits Off call other = false
 awaits Scn call other = is_commit other
 awaits Object call other = is_commit other && shares_table other.writes call.refs
 awaits Order call other = true
+awaits Fence call other = is_commit call || is_commit other
 
 -- of the stamps below n, those that a call waits for
 abbrev pub awaited : Mode → List Fact → Fact → ℕ → List ℕ

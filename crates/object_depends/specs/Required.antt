@@ -1,7 +1,7 @@
 -- Which calls a call requires.
 use Rattle.std.specs.Prelude.{ℕ, zero, suc, ◌-◌, Bool, false, ◌&&◌, ◌||◌, nat_lt, nat_le, if◌then◌else◌, List, [], ◌∷◌, ◌++◌, length, Option, slice_get}
 use Rattle.replay_history.specs.declared.mode.Mode.{Mode}
-use Rattle.replay_history.specs.declared.mode.Mode.TheVariants.{Off, Scn, Object, Order}
+use Rattle.replay_history.specs.declared.mode.Mode.TheVariants.{Off, Scn, Object, Order, Fence}
 use Rattle.object_depends.specs.declared.fact.Fact.{Fact}
 use Rattle.object_depends.specs.Facts.{fact_at, has_table, is_commit}
 use Rattle.desk_values.specs.Limits.{table_limit}
@@ -20,12 +20,13 @@ abbrev pub has_seen : Fact → Fact → Bool
 has_seen call other = is_commit other && nat_le other.number call.seen
 
 -- Whether call k requires call j: no call; the commits that it saw; those of them that wrote a table which it references;
--- every call before it.
+-- every call before it; where it is a numbered commit every call before it, else the commits that it saw.
 abbrev pub is_required : Mode → List Fact → ℕ → ℕ → Bool
 is_required Off facts k j = false
 is_required Scn facts k j = has_seen (fact_at facts k) (fact_at facts j)
 is_required Object facts k j = has_seen (fact_at facts k) (fact_at facts j) && shares_table (fact_at facts j).writes (fact_at facts k).refs
 is_required Order facts k j = nat_lt j k
+is_required Fence facts k j = if is_commit (fact_at facts k) then nat_lt j k else has_seen (fact_at facts k) (fact_at facts j)
 
 -- the stamps below n that pass a test, ascending
 abbrev pub stamps_where : (ℕ → Bool) → ℕ → List ℕ

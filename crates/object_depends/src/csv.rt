@@ -11,7 +11,8 @@ use desk_values::{Bytes, List, Memory, Word};
 use replay_history::Mode;
 use std::alloc::Global;
 
-/// The text of `requires.csv`: a line of each call and each mode, with how many calls it requires and the greatest of them.
+/// The text of `requires.csv`: a line of each call and each mode but `Fence`, with how many calls it requires and the greatest
+/// of them. In `Fence` a numbered commit requires what it does in `Order`, any other call what it does in `Scn`.
 pub fn requires_csv(alloc: Global, facts: &FactList) -> Result<Bytes, Memory>
     requires { length facts.now ≤ 100000 }
     ensures { IfOk result (λ text. text ≡ requires_text facts.now) }

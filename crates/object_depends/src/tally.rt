@@ -1,8 +1,9 @@
 //! How many calls each call requires, and the last of them.
 //!
-//! Over sound facts one pass is enough. It keeps one tally for each group of calls that wait for the same: in all modes but
-//! `Object` there is one group, there one for each set of tables that a call references. So the time grows with the calls
-//! times the distinct sets. Where the facts are not sound each call is compared with every other.
+//! Over sound facts one pass is enough. It keeps one tally for each group of calls that wait for the same: in `Object` there is
+//! one group for each set of tables that a call references, in `Fence` one for the numbered commits and one for the others, in
+//! the other modes one alone. So the time grows with the calls times the groups. Where the facts are not sound each call is
+//! compared with every other.
 
 ghost use Rattle.std.specs.Prelude.{◌≡◌, ◌+◌, ◌++◌, ◌∷◌, [], ◌<◌, ◌≤◌, ℕ, List, length, vec_len, IfOk, IfSome, IsTrue, OnOk, Some};
 ghost use Rattle.object_depends.specs.Facts.{fact_at, AreSound};
@@ -91,6 +92,8 @@ pub fn is_required(mode: Mode, facts: &[Fact], k: usize, j: usize) -> bool
         Mode::Scn => has_seen,
         Mode::Object => has_seen && shares_table(facts[j].writes, facts[k].refs),
         Mode::Order => j < k,
+        Mode::Fence if is_commit(&facts[k]) => j < k,
+        Mode::Fence => has_seen,
     }
 }
 
@@ -165,6 +168,7 @@ fn wait_alike(mode: Mode, left: &Fact, right: &Fact) -> bool
     match mode {
         Mode::Off | Mode::Scn | Mode::Order => true,
         Mode::Object => left.refs == right.refs,
+        Mode::Fence => is_commit(left) == is_commit(right),
     }
 }
 
@@ -177,6 +181,7 @@ fn awaits(mode: Mode, call: &Fact, other: &Fact) -> bool
         Mode::Scn => is_commit(other),
         Mode::Object => is_commit(other) && shares_table(other.writes, call.refs),
         Mode::Order => true,
+        Mode::Fence => is_commit(call) || is_commit(other),
     }
 }
 

@@ -114,6 +114,7 @@ fn refs_of_statement(schema: &Schema, statement: &Statement) -> u32
         Statement::Update(table, _, _) => table_named(schema, table),
         Statement::Delete(table, _) => table_named(schema, table),
         Statement::Next(_) | Statement::Commit | Statement::Rollback => 0,
+        Statement::Savepoint(_) | Statement::RollbackTo(_) => 0,
     }
 }
 

@@ -2,66 +2,17 @@
 use Rattle.std.proofs.Common.{◌≡◌, ◌∙◌, ℕ, ◌<◌, ◌≤◌, ◌+◌, zero, suc, Bool, true, false, List, [], ◌∷◌, ◌++◌, length, Option, None, Some, Result, Ok, Err, refl, sym, ap, arith}
 use Rattle.std.specs.Prelude.{if◌then◌else◌, IsErr, IsErrAnd}
 use Rattle.std.proofs.lemmas.Option.{same_Some}
-use Rattle.csv.specs.Machine.{Read, next_record, step, is_end, ends_at_end, fields_after, field_after}
+use Rattle.csv.specs.Machine.{Read, next_record}
 use Rattle.csv.proofs.ReadFacts.{rows-more}
 use Rattle.csv.specs.Reading.{ReadRecord, Reached, default_config, records_from, source_of, strip_bom}
 use Rattle.csv.specs.declared.reader.Reader.{Reader}
 use Rattle.csv.specs.declared.parser.State.{State}
 use Rattle.csv.specs.declared.parser.State.TheVariants as st
 use Rattle.desk_values.specs.Answers.{IsTold}
+use Rattle.desk_schema.proofs.Records.{IsBetween, read_takes}
 use Rattle.remap_ids.specs.declared.remap.RemapErr.{RemapErr}
 use Rattle.remap_ids.specs.declared.remap.RemapErr.TheVariants.{BadRow, TwiceFrom, Memory}
 use Rattle.remap_ids.specs.Services.{ServicePair, Tells, goes_on, service_pair, services_of, told, with_pair, with_records}
-
--- between records
-abbrev pub IsBetween : State → Type 0
-IsBetween s = ends_at_end s ≡ false
-
-pub end_is_between : (s : State) (byte : ℕ) → is_end (step default_config s byte).1 ≡ true → IsBetween (step default_config s byte).0
-end_is_between st.StartRecord byte ends = grind arith
-end_is_between st.StartField byte ends = grind arith
-end_is_between st.InField byte ends = grind arith
-end_is_between st.InQuoted byte ends = grind arith
-end_is_between st.AfterQuote byte ends = grind arith
-end_is_between st.InEscape byte ends = grind arith
-end_is_between st.InComment byte ends = grind arith
-end_is_between st.AfterCr byte ends = grind arith
-
-fewer : (ends : Bool) (s : State) (byte : ℕ) (fields : List (List ℕ)) (bytes : List ℕ) (other : Option Read) (read : Read)
-    → is_end (step default_config s byte).1 ≡ ends
-    → (if ends then Some (fields, (step default_config s byte).0, bytes) else other) ≡ Some read
-    → (other ≡ Some read → IsBetween read.1 × (length read.2 ≤ length bytes))
-    → IsBetween read.1 × (length read.2 ≤ length bytes)
-fewer true s byte fields bytes other read ends is more =
-    let same = same_Some _ _ is in
-    let state : (step default_config s byte).0 ≡ read.1 = ap (λ (r : Read). r.1) same in
-    let rest : bytes ≡ read.2 = ap (λ (r : Read). r.2) same in
-    (sym (ap ends_at_end state) ∙ end_is_between s byte ends, omega (arith, ap length rest))
-fewer false s byte fields bytes other read ends is more = more is
-
--- a record that was read leaves no more bytes than there were, and the machine between records
-read_on : (s : State) (fields : List (List ℕ)) (field bytes : List ℕ) (read : Read) → next_record default_config s fields field bytes ≡ Some read → IsBetween read.1 × (length read.2 ≤ length bytes)
-unfolding next_record
-read_on s fields field [] read is = by (ends_at_end s) is
-  where
-    by : (ends : Bool) → (if ends then Some (fields ++ (field ∷ []), st.StartRecord, []) else None) ≡ Some read → IsBetween read.1 × (length read.2 ≤ 0)
-    by true is = let same = same_Some _ _ is in (sym (ap ends_at_end (ap (λ (r : Read). r.1) same)) ∙ refl, omega (arith, ap length (ap (λ (r : Read). r.2) same)))
-    by false is = absurd (cc)
-read_on s fields field (byte ∷ bytes) read is =
-    let kept = fewer (is_end (step default_config s byte).1) s byte _ bytes _ read refl is (read_on (step default_config s byte).0 (fields_after (step default_config s byte).1 fields field) (field_after (step default_config s byte).1 byte field) bytes read) in
-    (kept.0, omega (arith, kept.1))
-
--- it takes a byte at least, from between records
-pub read_takes : (s : State) (bytes : List ℕ) (read : Read) → IsBetween s → next_record default_config s [] [] bytes ≡ Some read → IsBetween read.1 × (length read.2 < length bytes)
-unfolding next_record
-read_takes s [] read between is = by (ends_at_end s) between is
-  where
-    by : (ends : Bool) → ends ≡ false → (if ends then Some ([] ++ ([] ∷ []), st.StartRecord, []) else None) ≡ Some read → IsBetween read.1 × (length read.2 < 0)
-    by true e is = absurd (cc)
-    by false e is = absurd (cc)
-read_takes s (byte ∷ bytes) read between is =
-    let kept = fewer (is_end (step default_config s byte).1) s byte _ bytes _ read refl is (read_on (step default_config s byte).0 (fields_after (step default_config s byte).1 [] []) (field_after (step default_config s byte).1 byte []) bytes read) in
-    (kept.0, omega (arith, kept.1))
 
 -- an error that tells of one record tells of the whole file
 pub told_of_all : (error : RemapErr) (one whole : Result (List ServicePair) RemapErr) → ((other : RemapErr) → one ≡ Err other → whole ≡ Err other) → IsTold (told error) one → IsTold (told error) whole

@@ -14,25 +14,31 @@ use Rattle.captured_calls.specs.Verdict.{Preparation, fault_of, or_else, verdict
 use Rattle.remap_ids.specs.Services.{ServicePair, goes_on, sent_for, service_pair, services_of, with_pair, with_records}
 use Rattle.remap_ids.specs.declared.remap.RemapErr.{RemapErr}
 use Rattle.remap_ids.specs.declared.remap.RemapErr.TheVariants.{BadRow, TwiceFrom}
-use Rattle.replay_cli.specs.declared.failure.Refusal.TheVariants.{BadLine, BadRemap, NotLegal}
+use Rattle.replay_cli.specs.declared.failure.Refusal.TheVariants.{BadChange, BadLine, BadRemap, NotLegal}
 use Rattle.desk_words.specs.declared.words.Command.{Command}
 use Rattle.desk_words.specs.declared.words.Command.TheVariants.{Run, Prepare, Serve, Generate, Trial}
-use Rattle.replay_cli.specs.Decision.{IsBadOfSome, MayBeRefused, MayRefuseRemap, record_of, remap_of}
+use Rattle.desk_schema.specs.Change.{IsFirstBad, records_in}
+use Rattle.replay_cli.specs.Decision.{IsBadOfSome, MayBeRefused, MayRefuseChange, MayRefuseRemap, record_of, remap_of}
 use Rattle.replay_cli.specs.Lines.{cause_text}
 
 -- ---- lines
 
 bad_line : (line : ℕ) → IsBadOfSome line → 1 ≤ line
 bad_line line (bytes, inl bad) = let number = bad.number in omega (arith, number)
-bad_line line (bytes, inr bad) = let number = bad.1.number in omega (arith, number)
+bad_line line (bytes, inr bad) = let number = bad.3.number in omega (arith, number)
 
 no_remap_line : (named : Option (List ℕ)) (name : List ℕ) (line : ℕ) → MayRefuseRemap named (BadLine name line) → 1 ≤ line
 no_remap_line None name line h = absurd h
 no_remap_line (Some other) name line h = absurd h
 
+no_change_line : (named : Option (List ℕ)) (name : List ℕ) (line : ℕ) → MayRefuseChange named (BadLine name line) → 1 ≤ line
+no_change_line None name line h = absurd h
+no_change_line (Some other) name line h = absurd h
+
 pub lines_from_one : (command : Command) (name : List ℕ) (line : ℕ) → MayBeRefused command (BadLine name line) → 1 ≤ line
 lines_from_one (Run capture out ways) name line (inl h) = bad_line line h.1
-lines_from_one (Run capture out ways) name line (inr h) = no_remap_line ways.remap name line h
+lines_from_one (Run capture out ways) name line (inr (inl h)) = no_remap_line ways.remap name line h
+lines_from_one (Run capture out ways) name line (inr (inr h)) = no_change_line ways.change name line h
 lines_from_one (Prepare capture out) name line h = bad_line line h.1
 lines_from_one (Serve capture start connections port) name line h = let number = h.1.1.number in omega (arith, number)
 lines_from_one (Generate n out) name line h = absurd h
@@ -70,13 +76,40 @@ named_row : (named : Option (List ℕ)) (row : ℕ) → MayRefuseRemap named (Ba
 named_row None row h = absurd h
 named_row (Some name) row (bytes, is) = remap_row (services_of bytes) row (services_row bytes) is
 
+no_change_row : (named : Option (List ℕ)) (row : ℕ) → MayRefuseChange named (BadRemap row) → 1 ≤ row
+no_change_row None row h = absurd h
+no_change_row (Some name) row h = absurd h
+
 pub rows_from_one : (command : Command) (row : ℕ) → MayBeRefused command (BadRemap row) → 1 ≤ row
 rows_from_one (Run capture out ways) row (inl h) = absurd h
-rows_from_one (Run capture out ways) row (inr h) = named_row ways.remap row h
+rows_from_one (Run capture out ways) row (inr (inl h)) = named_row ways.remap row h
+rows_from_one (Run capture out ways) row (inr (inr h)) = no_change_row ways.change row h
 rows_from_one (Prepare capture out) row h = absurd h
 rows_from_one (Serve capture start connections port) row h = absurd h
 rows_from_one (Generate n out) row h = absurd h
 rows_from_one (Trial n) row h = absurd h
+
+first_bad_row : (start : StartView) (records : List (List (List ℕ))) (n : ℕ) → IsFirstBad start records n → 1 ≤ n
+first_bad_row start [] n h = absurd h
+first_bad_row start (fields ∷ others) n (inl (same, never)) = omega (arith, same)
+first_bad_row start (fields ∷ others) n (inr (next, m, same, may, bad)) = omega (arith, same)
+
+no_remap_change : (named : Option (List ℕ)) (row : ℕ) → MayRefuseRemap named (BadChange row) → 1 ≤ row
+no_remap_change None row h = absurd h
+no_remap_change (Some name) row h = absurd h
+
+named_change : (named : Option (List ℕ)) (row : ℕ) → MayRefuseChange named (BadChange row) → 1 ≤ row
+named_change None row h = absurd h
+named_change (Some name) row (start, bytes, bad) = first_bad_row start (records_in bytes) row bad
+
+pub changes_from_one : (command : Command) (row : ℕ) → MayBeRefused command (BadChange row) → 1 ≤ row
+changes_from_one (Run capture out ways) row (inl h) = absurd h
+changes_from_one (Run capture out ways) row (inr (inl h)) = no_remap_change ways.remap row h
+changes_from_one (Run capture out ways) row (inr (inr h)) = named_change ways.change row h
+changes_from_one (Prepare capture out) row h = absurd h
+changes_from_one (Serve capture start connections port) row h = absurd h
+changes_from_one (Generate n out) row h = absurd h
+changes_from_one (Trial n) row h = absurd h
 
 -- ---- causes
 
@@ -141,9 +174,14 @@ no_remap_cause : (named : Option (List ℕ)) (cause : Illegal) → MayRefuseRema
 no_remap_cause None cause h = absurd h
 no_remap_cause (Some other) cause h = absurd h
 
+no_change_cause : (named : Option (List ℕ)) (cause : Illegal) → MayRefuseChange named (NotLegal cause) → cause_text cause ≢ []
+no_change_cause None cause h = absurd h
+no_change_cause (Some other) cause h = absurd h
+
 pub causes_have_text : (command : Command) (cause : Illegal) → MayBeRefused command (NotLegal cause) → cause_text cause ≢ []
 causes_have_text (Run capture out ways) cause (inl h) = cause_told h.0 h.1 cause h.2
-causes_have_text (Run capture out ways) cause (inr h) = no_remap_cause ways.remap cause h
+causes_have_text (Run capture out ways) cause (inr (inl h)) = no_remap_cause ways.remap cause h
+causes_have_text (Run capture out ways) cause (inr (inr h)) = no_change_cause ways.change cause h
 causes_have_text (Prepare capture out) cause h = cause_told h.0 h.1 cause h.2
 causes_have_text (Serve capture start connections port) cause h = absurd h
 causes_have_text (Generate n out) cause h = absurd h

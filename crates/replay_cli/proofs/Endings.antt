@@ -9,7 +9,7 @@ use Rattle.desk_files.specs.Answers.{write_ending}
 use Rattle.desk_files.specs.Outside.{Appends, Counts, FileMap, Told, HasRisen}
 use Rattle.desk_files.specs.Writes.{LeavesOfWrites, with_all}
 use Rattle.replay_cli.specs.declared.failure.Refusal.{Refusal}
-use Rattle.replay_cli.specs.declared.failure.Refusal.TheVariants.{Missing, TooLong, BadLine, BadRemap, NotLegal}
+use Rattle.replay_cli.specs.declared.failure.Refusal.TheVariants.{Missing, TooLong, BadLine, BadRemap, BadChange, NotLegal}
 use Rattle.replay_cli.specs.declared.failure.Failure.{Failure}
 use Rattle.replay_cli.specs.declared.failure.Failure.TheVariants.{BadCommand, Refused, Differs, DeviceFault, OutOfMemory}
 use Rattle.replay_cli.specs.declared.plan.Plan.{Plan}
@@ -69,14 +69,14 @@ module _ (h : Hosting) where
       subst (λ (c : Option FileMap). IsSomeAnd c (λ after. RunSays (Verdict words files) files after f0 f1 h (Err failure))) (sym step.content) (stopped words files command f0 f1 failure unasked is step.says)
 
   -- or where its task fails
-  failed : (wanted : Result Task Failure → Type 0) (files : FileMap) (task : Task) (f0 f1 : ℕ) (failure : Failure) → wanted (Ok task) → PlanFails task failure → RunSays wanted files files f0 f1 h (Err failure)
+  failed : (wanted : Result Task Failure → Type 0) (files : FileMap) (task : Task) (f0 f1 : ℕ) (failure : Failure) → wanted (Ok task) → PlanFails task h failure → RunSays wanted files files f0 f1 h (Err failure)
   failed wanted files task f0 f1 BadCommand is fails = absurd fails
   failed wanted files task f0 f1 (Refused refusal) is fails = absurd fails
   failed wanted files task f0 f1 (Differs finding) is fails = (task, is, fails, refl)
   failed wanted files task f0 f1 DeviceFault is fails = inr (task, is, inl refl)
   failed wanted files task f0 f1 OutOfMemory is fails = inr (task, is, inl refl)
 
-  pub run_failed : (c0 c1 : Option FileMap) (f0 f1 : ℕ) (words : List (List ℕ)) (command : Command) (task : Task) (failure : Failure) → command_of words ≡ Some command → Step (λ files. Decides command files) c0 c1 f0 f1 (Ok task) → PlanFails task failure
+  pub run_failed : (c0 c1 : Option FileMap) (f0 f1 : ℕ) (words : List (List ℕ)) (command : Command) (task : Task) (failure : Failure) → command_of words ≡ Some command → Step (λ files. Decides command files) c0 c1 f0 f1 (Ok task) → PlanFails task h failure
       → Told c0 (λ files. IsSomeAnd c1 (λ after. RunSays (Verdict words files) files after f0 f1 h (Err failure)))
   run_failed None c1 f0 f1 words command task failure is step fails = tt
   run_failed (Some files) c1 f0 f1 words command task failure is step fails =
@@ -149,6 +149,7 @@ refused_own (Missing name) = record { no_command = λ e. omega (arith, e); no_fa
 refused_own (TooLong name) = record { no_command = λ e. omega (arith, e); no_fault = λ e. omega (arith, e) }
 refused_own (BadLine name line) = record { no_command = λ e. omega (arith, e); no_fault = λ e. omega (arith, e) }
 refused_own (BadRemap n) = record { no_command = λ e. omega (arith, e); no_fault = λ e. omega (arith, e) }
+refused_own (BadChange n) = record { no_command = λ e. omega (arith, e); no_fault = λ e. omega (arith, e) }
 refused_own (NotLegal cause) = record { no_command = λ e. omega (arith, e); no_fault = λ e. omega (arith, e) }
 
 done_own : (differs : Bool) → IsOwn (done_status differs)

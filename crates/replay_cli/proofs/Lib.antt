@@ -10,3 +10,4 @@ pub mod Sound
 pub mod Causes
 pub mod TheWords
 pub mod Telling
+pub mod Targets

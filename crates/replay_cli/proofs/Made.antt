@@ -1,9 +1,11 @@
 -- The generated capture, by its names.
 use Rattle.std.proofs.Common.{◌≡◌, ◌∙◌, ◌≤◌, ℕ, List, [], ◌∷◌, ◌++◌, length, Some, Result, Ok, Err, sym, ap, subst, arith}
 use Rattle.std.specs.Prelude.{IfOk, slice_get}
+use Rattle.std.specs.List.{AllByRecursion}
 use Rattle.desk_values.specs.Room.{Room}
 use Rattle.desk_values.specs.declared.capture.Captured.{Captured}
 use Rattle.desk_schema.specs.Start.{StartView}
+use Rattle.capture_format.specs.SessionFile.{MayTellAll}
 use Rattle.capture_format.specs.StartFile.{start_text}
 use Rattle.capture_recorder.specs.Limits.{generated_sessions}
 use Rattle.capture_recorder.specs.Generated.{generated}
@@ -60,6 +62,11 @@ pub files_made : {E : Type 0} (result : Result (List (Room Captured)) E) (record
 files_made (Ok lists) recording items are is same = are recording is same
 files_made (Err error) recording items are is same = are
 
+pub told_made : {E : Type 0} (result : Result (List (Room Captured)) E) (recording : Recording) (items : List Captured) → IfOk result (λ lists. (r : Recording) → IsRecording r → r.calls ≡ items → AllByRecursion (MayTellAll r.start.schema.version) (lists_of lists)) → IsRecording recording → recording.calls ≡ items
+    → IfOk result (λ lists. AllByRecursion (MayTellAll recording.start.schema.version) (lists_of lists))
+told_made (Ok lists) recording items told is same = told recording is same
+told_made (Err error) recording items told is same = told
+
 pub four_lists : {E : Type 0} (result : Result (List (Room Captured)) E) (items : List Captured) → IfOk result (λ lists. lists_of lists ≡ session_lists generated_sessions items) → IfOk result (λ lists. length lists ≤ 64)
 four_lists (Ok lists) items e = let count = count_lists lists in let four : length (lists_of lists) ≡ 4 = ap (λ (ls : List (List Captured)). length ls) e in omega (arith, count, four)
 four_lists (Err error) items e = e
@@ -67,9 +74,9 @@ four_lists (Err error) items e = e
 -- ---- plans
 
 pub plan_made : {E : Type 0} (result : Result Plan E) (n : ℕ) (out : List ℕ) (start : StartView) (lists : List (List Captured)) → start ≡ made_start n → lists ≡ made_lists n → IfOk result (λ plan. plan.line ≡ generated_line n) → IfOk result IsQuiet
-    → IfOk result (λ plan. plan.writes ≡ session_files out 0 lists ++ record { name = start_name out; bytes = start_text start generated_sessions } ∷ []) → IfOk result (λ plan. IsDoneAlone (ToMake n out) plan)
+    → IfOk result (λ plan. plan.writes ≡ session_files out start.schema.version 0 lists ++ record { name = start_name out; bytes = start_text start generated_sessions } ∷ []) → IfOk result (λ plan. IsDoneAlone (ToMake n out) plan)
 plan_made (Ok plan) n out start lists start_is lists_is line quiet writes =
-    (line, quiet, writes ∙ ap (λ (ls : List (List Captured)). session_files out 0 ls ++ record { name = start_name out; bytes = start_text start generated_sessions } ∷ []) lists_is ∙ ap (λ (s : StartView). session_files out 0 (made_lists n) ++ record { name = start_name out; bytes = start_text s generated_sessions } ∷ []) start_is)
+    (line, quiet, writes ∙ ap (λ (ls : List (List Captured)). session_files out start.schema.version 0 ls ++ record { name = start_name out; bytes = start_text start generated_sessions } ∷ []) lists_is ∙ ap (λ (s : StartView). session_files out s.schema.version 0 (made_lists n) ++ record { name = start_name out; bytes = start_text s generated_sessions } ∷ []) start_is)
 plan_made (Err error) n out start lists start_is lists_is line quiet writes = line
 
 pub legal_made : (recording : Recording) (start : StartView) (calls : List Captured) → IsRecording recording → start ≡ recording.start → calls ≡ recording.calls → IsLegal start calls

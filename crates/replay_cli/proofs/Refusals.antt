@@ -5,11 +5,12 @@ use Rattle.std.proofs.Math.ListN.{get_or-append}
 use Rattle.std.proofs.Math.Seq.{get_or-append_seam}
 use Rattle.desk_values.specs.declared.capture.Captured.{Captured}
 use Rattle.desk_values.specs.Limits.{session_limit}
+use Rattle.desk_schema.specs.Schema.{IsVersion}
 use Rattle.desk_schema.specs.Start.{StartView}
 use Rattle.captured_calls.specs.declared.refusal.Refusal.{Refusal as Illegal}
 use Rattle.captured_calls.specs.Verdict.{Preparation as Planned, verdict}
 use Rattle.replay_cli.specs.declared.failure.Refusal.{Refusal}
-use Rattle.replay_cli.specs.declared.failure.Refusal.TheVariants.{Missing, TooLong, BadLine, BadRemap, NotLegal}
+use Rattle.replay_cli.specs.declared.failure.Refusal.TheVariants.{Missing, TooLong, BadLine, BadRemap, BadChange, NotLegal}
 use Rattle.replay_cli.specs.declared.failure.Failure.{Failure}
 use Rattle.replay_cli.specs.declared.failure.Failure.TheVariants.{BadCommand, Refused, Differs, DeviceFault, OutOfMemory}
 use Rattle.replay_cli.specs.declared.plan.Plan.{Plan}
@@ -35,6 +36,7 @@ untaken_in folder name is (Missing other) e = subst (IsFileIn folder) (sym e) is
 untaken_in folder name is (TooLong other) e = subst (IsFileIn folder) (sym e) is
 untaken_in folder name is (BadLine other line) e = absurd e
 untaken_in folder name is (BadRemap row) e = absurd e
+untaken_in folder name is (BadChange row) e = absurd e
 untaken_in folder name is (NotLegal cause) e = absurd e
 
 pub bad_start : (folder name bytes : List ℕ) → name ≡ start_name folder → (failure : Failure) → Stops (StartOf name bytes) failure → MayFail (MayRefuseCapture folder) failure
@@ -49,14 +51,15 @@ untaken_among names place name within is (Missing other) e = subst (IsAmong name
 untaken_among names place name within is (TooLong other) e = subst (IsAmong names) (sym e) (place, within, is)
 untaken_among names place name within is (BadLine other line) e = absurd e
 untaken_among names place name within is (BadRemap row) e = absurd e
+untaken_among names place name within is (BadChange row) e = absurd e
 untaken_among names place name within is (NotLegal cause) e = absurd e
 
-pub bad_among : (names : List (List ℕ)) (place session : ℕ) (name bytes : List ℕ) → place < length names → name ≡ get_or names place name → (failure : Failure) → Stops (SessionOf session name bytes) failure → MayFail (RefusesOne names) failure
-bad_among names place session name bytes within is BadCommand h = absurd h
-bad_among names place session name bytes within is (Refused refusal) h = subst (RefusesOne names) (sym h.2) ((place, within, is), (bytes, inr (session, h.1.0)))
-bad_among names place session name bytes within is (Differs finding) h = absurd h
-bad_among names place session name bytes within is DeviceFault h = tt
-bad_among names place session name bytes within is OutOfMemory h = tt
+pub bad_among : (version : ℕ) → IsVersion version → (names : List (List ℕ)) (place session : ℕ) (name bytes : List ℕ) → place < length names → name ≡ get_or names place name → (failure : Failure) → Stops (SessionOf version session name bytes) failure → MayFail (RefusesOne names) failure
+bad_among version known names place session name bytes within is BadCommand h = absurd h
+bad_among version known names place session name bytes within is (Refused refusal) h = subst (RefusesOne names) (sym h.2) ((place, within, is), (bytes, inr (session, version, known, h.1.0)))
+bad_among version known names place session name bytes within is (Differs finding) h = absurd h
+bad_among version known names place session name bytes within is DeviceFault h = tt
+bad_among version known names place session name bytes within is OutOfMemory h = tt
 
 below_or_last : (i n : ℕ) → i < suc n → (i < n) ⊎ (i ≡ n)
 below_or_last i zero below = inr (omega (arith, below))
@@ -84,6 +87,7 @@ one_in folder n few (Missing name) among = among_in folder n name few among
 one_in folder n few (TooLong name) among = among_in folder n name few among
 one_in folder n few (BadLine name line) bad = (among_in folder n name few bad.0, bad.1)
 one_in folder n few (BadRemap row) none = absurd none
+one_in folder n few (BadChange row) none = absurd none
 one_in folder n few (NotLegal cause) none = absurd none
 
 legal_refused : (start : StartView) (answer : Result Planned Illegal) (refusal : Refusal) → legal_from start answer ≡ Err refusal → (cause : Illegal) × (answer ≡ Err cause) × (refusal ≡ NotLegal cause)
@@ -104,6 +108,7 @@ untaken_start name (Missing other) e = e
 untaken_start name (TooLong other) e = e
 untaken_start name (BadLine other line) e = absurd e
 untaken_start name (BadRemap row) e = absurd e
+untaken_start name (BadChange row) e = absurd e
 untaken_start name (NotLegal cause) e = absurd e
 
 pub bad_file : (name bytes : List ℕ) (failure : Failure) → Stops (StartOf name bytes) failure → MayFail (MayRefuseStart name) failure

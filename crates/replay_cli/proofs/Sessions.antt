@@ -1,6 +1,7 @@
 -- The files of sessions, as they are read.
 use Rattle.std.proofs.Common.{◌≡◌, ℕ, zero, suc, ◌+◌, ◌<◌, ◌≤◌, ◌/◌, ◌%◌, ◌^◌, lit<, length-append, append_assoc, append-nil, drop, get_or, List, [], ◌∷◌, ◌++◌, length, Result, Ok, Err, refl, sym, ap, subst, ◌∙◌, arith}
 use Rattle.std.specs.Prelude.{IfOk, codes}
+use Rattle.std.specs.List.{AllByRecursion}
 use Rattle.std.specs.Fmt.{decimal}
 use Rattle.std.proofs.lemmas.Fmt.{length-decimal-le}
 use Rattle.std.proofs.lemmas.List.{drop_all, length-map}
@@ -11,7 +12,7 @@ use Rattle.desk_values.specs.Room.{Room}
 use Rattle.desk_values.specs.declared.capture.Captured.{Captured}
 use Rattle.file_lines.specs.File.{ReadsFile}
 use Rattle.file_lines.specs.declared.reader.FormErr.TheVariants.{Bad}
-use Rattle.capture_format.specs.SessionFile.{AreCallsOf, IsBadSession, IsSessionFile, session_text}
+use Rattle.capture_format.specs.SessionFile.{AreCallsOf, IsBadSession, IsSessionFile, MayTellAll, session_text}
 use Rattle.captured_calls.specs.Sessions.{AreSessionsFrom}
 use Rattle.prepare_plan.specs.Lists.{lists_of}
 use Rattle.replay_cli.specs.declared.failure.Refusal.TheVariants.{BadLine}
@@ -23,8 +24,8 @@ use Rattle.replay_cli.specs.Inside.Steps.{FaultFree}
 use Rattle.replay_cli.specs.FileNames.{in_three_digits, session_name, session_names}
 
 -- the first bad line of a session's file
-pub bad_session : (session : ℕ) (name copy bytes : List ℕ) (line : ℕ) → ReadsFile {X = Room Captured} (Err (Bad line)) (λ calls. IsSessionFile session bytes calls.items) (IsBadSession session bytes) → copy ≡ name → SessionOf session name bytes (Err (BadLine copy line))
-bad_session session name copy bytes line reads same = (line, (reads.0, λ calls. reads.1 (record { items = calls; spare = 0 })), ap (λ (n : List ℕ). BadLine n line) same)
+pub bad_session : (version session : ℕ) (name copy bytes : List ℕ) (line : ℕ) → ReadsFile {X = Room Captured} (Err (Bad line)) (λ calls. IsSessionFile session version bytes calls.items) (IsBadSession session version bytes) → copy ≡ name → SessionOf version session name bytes (Err (BadLine copy line))
+bad_session version session name copy bytes line reads same = (line, (reads.0, λ calls. reads.1 (record { items = calls; spare = 0 })), ap (λ (n : List ℕ). BadLine n line) same)
 
 pub free_error : (X Y : Type 0) (failure : Failure) → FaultFree {X = X} (Err failure) → FaultFree {X = Y} (Err failure)
 free_error X Y BadCommand free = absurd free
@@ -81,14 +82,17 @@ session_here lists i calls within is =
 pub next_session : (lists : List (Room Captured)) (i : ℕ) (calls : Room Captured) → i < length lists → calls ≡ get_or lists i calls → AreSessionsFrom i (lists_of (drop i lists)) → AreCallsOf i calls.items × AreSessionsFrom (i + 1) (lists_of (drop (i + 1) lists))
 next_session lists i calls within is are = subst (AreSessionsFrom i) (session_here lists i calls within is) are
 
-pub one_more_file : (out : List ℕ) (lists : List (Room Captured)) (writes whole : List Write) (i session : ℕ) (calls : Room Captured) (write : Write) → i < length lists → calls ≡ get_or lists i calls → session ≡ i
-    → write ≡ record { name = session_name out session; bytes = session_text session calls.items } → writes ++ session_files out i (lists_of (drop i lists)) ≡ whole
-    → (writes ++ write ∷ []) ++ session_files out (i + 1) (lists_of (drop (i + 1) lists)) ≡ whole
-one_more_file out lists writes whole i session calls write within is same write_is so_far =
-    let rest = session_files out (i + 1) (lists_of (drop (i + 1) lists)) in
-    append_assoc writes (write ∷ []) rest ∙ ap (λ (w : Write). writes ++ w ∷ rest) (write_is ∙ ap (λ (n : ℕ). record { name = session_name out n; bytes = session_text n calls.items }) same)
-    ∙ ap (λ (ls : List (List Captured)). writes ++ session_files out i ls) (sym (session_here lists i calls within is)) ∙ so_far
+pub next_told : (version : ℕ) (lists : List (Room Captured)) (i : ℕ) (calls : Room Captured) → i < length lists → calls ≡ get_or lists i calls → AllByRecursion (MayTellAll version) (lists_of (drop i lists)) → MayTellAll version calls.items × AllByRecursion (MayTellAll version) (lists_of (drop (i + 1) lists))
+next_told version lists i calls within is told = subst (AllByRecursion (MayTellAll version)) (session_here lists i calls within is) told
 
-pub all_files : (out : List ℕ) (lists : List (Room Captured)) (writes whole : List Write) (i : ℕ) → length lists ≤ i → writes ++ session_files out i (lists_of (drop i lists)) ≡ whole → writes ≡ whole
-all_files out lists writes whole i all so_far =
-    sym (append-nil writes) ∙ ap (λ (rest : List (Room Captured)). writes ++ session_files out i (lists_of rest)) (sym (drop_all i lists all)) ∙ so_far
+pub one_more_file : (out : List ℕ) (version : ℕ) (lists : List (Room Captured)) (writes whole : List Write) (i session : ℕ) (calls : Room Captured) (write : Write) → i < length lists → calls ≡ get_or lists i calls → session ≡ i
+    → write ≡ record { name = session_name out session; bytes = session_text session version calls.items } → writes ++ session_files out version i (lists_of (drop i lists)) ≡ whole
+    → (writes ++ write ∷ []) ++ session_files out version (i + 1) (lists_of (drop (i + 1) lists)) ≡ whole
+one_more_file out version lists writes whole i session calls write within is same write_is so_far =
+    let rest = session_files out version (i + 1) (lists_of (drop (i + 1) lists)) in
+    append_assoc writes (write ∷ []) rest ∙ ap (λ (w : Write). writes ++ w ∷ rest) (write_is ∙ ap (λ (n : ℕ). record { name = session_name out n; bytes = session_text n version calls.items }) same)
+    ∙ ap (λ (ls : List (List Captured)). writes ++ session_files out version i ls) (sym (session_here lists i calls within is)) ∙ so_far
+
+pub all_files : (out : List ℕ) (version : ℕ) (lists : List (Room Captured)) (writes whole : List Write) (i : ℕ) → length lists ≤ i → writes ++ session_files out version i (lists_of (drop i lists)) ≡ whole → writes ≡ whole
+all_files out version lists writes whole i all so_far =
+    sym (append-nil writes) ∙ ap (λ (rest : List (Room Captured)). writes ++ session_files out version i (lists_of rest)) (sym (drop_all i lists all)) ∙ so_far

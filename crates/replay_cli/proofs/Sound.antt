@@ -4,6 +4,7 @@ use Rattle.std.specs.Prelude.{IfSome}
 use Rattle.desk_values.specs.declared.capture.Captured.{Captured}
 use Rattle.desk_values.specs.declared.capture.Event.{Event}
 use Rattle.desk_files.specs.Outside.{FileMap}
+use Rattle.desk_schema.specs.File.{IsStart}
 use Rattle.desk_schema.specs.Sound.{IsSoundStart}
 use Rattle.desk_schema.specs.Start.{StartView}
 use Rattle.desk_schema.proofs.Files.{sound_start}
@@ -11,7 +12,7 @@ use Rattle.capture_format.specs.declared.start.StartFile.{StartFile}
 use Rattle.captured_calls.specs.Sessions.{AreSessionsFrom}
 use Rattle.captured_calls.specs.declared.refusal.Refusal.{Refusal as Illegal}
 use Rattle.captured_calls.specs.Verdict.{Preparation as Planned, verdict}
-use Rattle.replay_job.specs.Job.{IsTarget, JobView}
+use Rattle.replay_job.specs.Job.{JobView}
 use Rattle.replay_job.specs.Replays.{IsReplay, IsSoundJob}
 use Rattle.replay_job.specs.Runs.{Stage}
 use Rattle.replay_job.proofs.Jobs.{plan_sound_job}
@@ -28,15 +29,16 @@ use Rattle.replay_cli.specs.Decision.{Legal, Read, ReadIn, RunIn, SessionOf, Tas
 use Rattle.replay_cli.specs.Done.{IsReplayOf}
 use Rattle.replay_cli.specs.Steps.{Reading}
 use Rattle.replay_cli.proofs.Sessions.{count_names}
+use Rattle.replay_cli.proofs.Targets.{start_of, target_in, target_of}
 
 -- ---- the files
 
-are_read : (files : FileMap) (room session : ℕ) (names : List (List ℕ)) (lists : List (List Captured)) → Reading SessionOf files room session names (Ok lists) → AreSessionsFrom session lists × (length lists ≡ length names)
-are_read files room session [] lists read = let none : lists ≡ [] = cc read in subst (λ (ls : List (List Captured)). AreSessionsFrom session ls × (length ls ≡ 0)) (sym none) (tt, refl)
-are_read files room session (name ∷ names) lists read =
+are_read : (version : ℕ) (files : FileMap) (room session : ℕ) (names : List (List ℕ)) (lists : List (List Captured)) → Reading (SessionOf version) files room session names (Ok lists) → AreSessionsFrom session lists × (length lists ≡ length names)
+are_read version files room session [] lists read = let none : lists ≡ [] = cc read in subst (λ (ls : List (List Captured)). AreSessionsFrom session ls × (length ls ≡ 0)) (sym none) (tt, refl)
+are_read version files room session (name ∷ names) lists read =
     let item = read.2.0 in
     let others = read.2.2.0 in
-    let rest = are_read files (room - length read.0) (session + 1) names others read.2.2.1 in
+    let rest = are_read version files (room - length read.0) (session + 1) names others read.2.2.1 in
     let all : lists ≡ item ∷ others = cc (read.2.2.2) in
     subst (λ (ls : List (List Captured)). AreSessionsFrom session ls × (length ls ≡ length (name ∷ names))) (sym all) ((read.2.1.calls_are, rest.0), (let same = rest.1 in omega (arith, same)))
 
@@ -50,6 +52,7 @@ read_in read (Err refusal) = read
 
 -- what was read of a capture
 record IsWellRead (read : Read) : Type 0 where
+  is_start : IsStart read.start
   start : IsSoundStart read.start
   lists : AreSessionsFrom 0 read.sessions
   few : length read.sessions ≤ 64
@@ -63,11 +66,12 @@ well_read files capture read is =
     let start_file = is.1.2.1 in
     let sessions = is.2.0 in
     let names = session_names capture opened.file.sessions in
-    let all = are_read files opened.left 0 names sessions is.2.1 in
+    let all = are_read opened.file.start.schema.version files opened.left 0 names sessions is.2.1 in
     let count = count_names capture opened.file.sessions in
     let limit : file.sessions ≤ 64 = start_file.sessions in
     let same_count : file.sessions ≡ opened.file.sessions = ap (λ (f : StartFile). f.sessions) file_is in
     subst IsWellRead (ap (read_in read) is.2.2) (record {
+      is_start = subst (λ (f : StartFile). IsStart f.start) file_is start_file.is_start;
       start = subst (λ (f : StartFile). IsSoundStart f.start) file_is (sound_start file.start start_file.is_start);
       lists = all.0;
       few = (let len = all.1 in omega (arith, len, count, limit, same_count));
@@ -79,9 +83,6 @@ legal_planned : (start : StartView) (answer : Result Planned Illegal) (legal : L
 legal_planned start (Ok planned) legal e = (planned, refl, cc (e))
 legal_planned start (Err cause) legal e = absurd (cc e)
 
-same_target : (start : StartView) → IsTarget start start
-same_target start = record { rows = refl; next_row = refl; sequences = refl; next_values = λ q below. omega arith }
-
 job_in : JobView → Result Task Refusal → JobView
 job_in job (Ok (ToReplay out other)) = other
 job_in job other = job
@@ -92,10 +93,13 @@ run_sound files capture folder out ways job limits is =
     let read = is.0 in
     let well = well_read files capture read is.1 in
     let remap = is.2.0 in
-    let legal = is.2.2.0 in
-    let planned = legal_planned read.start (verdict read.start read.sessions) legal is.2.2.1 in
-    let sound = plan_sound_job read.start read.start read.sessions planned.0 remap ways.mode ways.think ways.connect well.lists well.few planned.1 well.start well.start (same_target read.start) limits.think limits.connect in
-    subst IsSoundJob (ap (λ (l : Legal). run_job l remap ways) planned.2 ∙ ap (job_in job) is.2.2.2) sound
+    let target = is.2.2.0 in
+    let may = target_in files ways.change read.start target is.2.2.1 in
+    let target_start = start_of ways.change read.start target well.is_start may in
+    let legal = is.2.2.2.0 in
+    let planned = legal_planned read.start (verdict read.start read.sessions) legal is.2.2.2.1 in
+    let sound = plan_sound_job read.start target read.sessions planned.0 remap ways.mode ways.think ways.connect well.lists well.few planned.1 well.start (sound_start target target_start) (target_of ways.change read.start target may) limits.think limits.connect in
+    subst IsSoundJob (ap (λ (l : Legal). run_job l target remap ways) planned.2 ∙ ap (job_in job) is.2.2.2.2) sound
 
 decided_sound : (files : FileMap) (command : Option Command) (out : List ℕ) (job : JobView) → IfSome command IsWithinLimits → VerdictOf command files (Ok (ToReplay out job)) → IsSoundJob job
 decided_sound files None out job within is = absurd (cc is)

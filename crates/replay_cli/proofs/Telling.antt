@@ -1,8 +1,9 @@
 -- What words may come to, from how deciding and doing their task may fail.
-use Rattle.std.proofs.Common.{◌≡◌, Option, Some, None, Result, Ok, Err, inr, refl, sym, subst}
+use Rattle.std.proofs.Common.{◌≡◌, ℕ, Option, Some, None, Result, Ok, Err, inr, refl, sym, subst}
 use Rattle.desk_words.specs.declared.words.Command.{Command}
 use Rattle.desk_words.specs.declared.words.Command.TheVariants.{Run, Prepare, Serve, Generate, Trial}
 use Rattle.capture_serve.specs.declared.failing.Finding.{Finding}
+use Rattle.capture_serve.specs.Service.{HasGivenBackAll}
 use Rattle.replay_cli.specs.declared.failure.Failure.{Failure}
 use Rattle.replay_cli.specs.declared.failure.Failure.TheVariants.{BadCommand, Refused, Differs, DeviceFault, OutOfMemory}
 use Rattle.replay_cli.specs.declared.plan.Plan.{Plan}
@@ -23,28 +24,28 @@ refused_told command h (Differs finding) unasked may = absurd may
 refused_told command h DeviceFault unasked may = tt
 refused_told command h OutOfMemory unasked may = tt
 
-differs_told : (command : Command) (task : Task) (finding : Finding) → IsTaskOf command task → IsFoundOf task finding → MayDiffer command finding
-differs_told command (ToReplay out job) finding is found = absurd found
-differs_told command (ToTell out facts) finding is found = absurd found
-differs_told command (ToMake n out) finding is found = absurd found
-differs_told command (ToTry n) finding is found = absurd found
-differs_told (Run capture out ways) (ToServe folder start most port) finding is found = absurd is
-differs_told (Prepare capture out) (ToServe folder start most port) finding is found = absurd is
-differs_told (Serve capture name connections door) (ToServe folder start most port) finding is found = (start, found)
-differs_told (Generate n out) (ToServe folder start most port) finding is found = absurd is
-differs_told (Trial n) (ToServe folder start most port) finding is found = absurd is
+differs_told : (command : Command) (task : Task) (finding : Finding) (h : Hosting) → IsTaskOf command task → IsFoundOf task finding h → MayDiffer command finding h
+differs_told command (ToReplay out job) finding h is found = absurd found
+differs_told command (ToTell out facts) finding h is found = absurd found
+differs_told command (ToMake n out) finding h is found = absurd found
+differs_told command (ToTry n) finding h is found = absurd found
+differs_told (Run capture out ways) (ToServe folder start most port) finding h is found = absurd is
+differs_told (Prepare capture out) (ToServe folder start most port) finding h is found = absurd is
+differs_told (Serve capture name connections door) (ToServe folder start most port) finding h is found = ((start, found.0), subst (λ (n : ℕ). HasGivenBackAll n h.before h.after) is.1 found.1)
+differs_told (Generate n out) (ToServe folder start most port) finding h is found = absurd is
+differs_told (Trial n) (ToServe folder start most port) finding h is found = absurd is
 
-failed_told : (command : Command) (task : Task) (h : Hosting) (failure : Failure) → IsTaskOf command task → PlanFails task failure → MayComeTo (Some command) h (Err failure)
+failed_told : (command : Command) (task : Task) (h : Hosting) (failure : Failure) → IsTaskOf command task → PlanFails task h failure → MayComeTo (Some command) h (Err failure)
 failed_told command task h BadCommand is fails = absurd fails
 failed_told command task h (Refused refusal) is fails = absurd fails
-failed_told command task h (Differs finding) is fails = differs_told command task finding is fails
+failed_told command task h (Differs finding) is fails = differs_told command task finding h is fails
 failed_told command task h DeviceFault is fails = tt
 failed_told command task h OutOfMemory is fails = tt
 
 pub told_refused : (found : Option Command) (command : Command) (h : Hosting) (failure : Failure) → found ≡ Some command → IsUnasked h → MayFail (MayBeRefused command) failure → MayComeTo found h (Err failure)
 told_refused found command h failure is unasked may = told_of found command h (Err failure) is (refused_told command h failure unasked may)
 
-pub told_failed : (found : Option Command) (command : Command) (task : Task) (h : Hosting) (failure : Failure) → found ≡ Some command → IsTaskOf command task → PlanFails task failure → MayComeTo found h (Err failure)
+pub told_failed : (found : Option Command) (command : Command) (task : Task) (h : Hosting) (failure : Failure) → found ≡ Some command → IsTaskOf command task → PlanFails task h failure → MayComeTo found h (Err failure)
 told_failed found command task h failure is of fails = told_of found command h (Err failure) is (failed_told command task h failure of fails)
 
 pub told_done : (found : Option Command) (command : Command) (task : Task) (h : Hosting) (plan : Plan) → found ≡ Some command → IsTaskOf command task → IsDone task plan h.before h.after → MayComeTo found h (Ok plan)

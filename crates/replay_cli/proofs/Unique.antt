@@ -3,6 +3,8 @@ use Rattle.std.proofs.Common.{◌≡◌, ℕ, ◌+◌, ◌-◌, List, [], ◌∷
 use Rattle.desk_values.specs.declared.capture.Captured.{Captured}
 use Rattle.desk_files.specs.Outside.{FileMap}
 use Rattle.desk_schema.specs.Start.{StartView}
+use Rattle.desk_schema.specs.Change.{records_in}
+use Rattle.desk_schema.proofs.Changing.{never_both, one_bad, one_last}
 use Rattle.capture_format.specs.declared.start.StartFile.{StartFile}
 use Rattle.capture_format.specs.StartFile.{IsBadStart, IsStartFile}
 use Rattle.capture_format.specs.SessionFile.{IsBadSession, IsSessionFile}
@@ -12,7 +14,7 @@ use Rattle.captured_calls.specs.Verdict.{verdict}
 use Rattle.replay_cli.specs.declared.capture.Opened.{Opened}
 use Rattle.replay_cli.specs.Limits.{capture_limit}
 use Rattle.replay_cli.specs.declared.failure.Refusal.{Refusal}
-use Rattle.replay_cli.specs.declared.failure.Refusal.TheVariants.{BadLine}
+use Rattle.replay_cli.specs.declared.failure.Refusal.TheVariants.{BadChange, BadLine}
 use Rattle.replay_cli.specs.declared.failure.Failure.{Failure}
 use Rattle.replay_cli.specs.declared.failure.Failure.TheVariants.{BadCommand, Refused, Differs, DeviceFault, OutOfMemory}
 use Rattle.desk_words.specs.declared.words.Command.{Command}
@@ -22,7 +24,7 @@ use Rattle.replay_cli.specs.FileNames.{session_names, start_name}
 use Rattle.desk_files.specs.Limits.{file_limit}
 use Rattle.remap_ids.specs.Services.{ServicePair, services_of}
 use Rattle.desk_words.specs.declared.ways.Ways.{Ways}
-use Rattle.replay_cli.specs.Decision.{Decides, Failing, Legal, OpenedIn, PrepareIn, Read, ReadIn, Reads, RemapIn, RunIn, ServeIn, SessionOf, StartIn, StartOf, Task, ToMake, ToReplay, ToServe, ToTell, ToTry, Verdict, VerdictOf, legal_from, remap_of, run_job}
+use Rattle.replay_cli.specs.Decision.{Decides, Failing, Legal, OpenedIn, PrepareIn, Read, ReadIn, Reads, RemapIn, RunIn, ServeIn, SessionOf, StartIn, StartOf, TargetIn, TargetOf, Task, ToMake, ToReplay, ToServe, ToTell, ToTry, Verdict, VerdictOf, legal_from, remap_of, run_job}
 use Rattle.replay_cli.specs.Steps.{Is, Reading, Then, file_in}
 
 abbrev pub IsOne : {X : Type 0} → (Result X Refusal → Type 0) → Type 0
@@ -68,14 +70,14 @@ reads_one name IsFileOf IsFirstBad one_file one_bad (Err r) (Err s) h k = ap (λ
 start_one : (name bytes : List ℕ) → IsOne (StartOf name bytes)
 start_one name bytes = reads_one name (IsStartFile bytes) (IsBadStart bytes) (start.one_file bytes) (start.one_bad bytes)
 
-session_one : (place : ℕ) (name bytes : List ℕ) → IsOne (SessionOf place name bytes)
-session_one place name bytes = reads_one name (IsSessionFile place bytes) (IsBadSession place bytes) (session.one_file place bytes) (session.one_bad place bytes)
+session_one : (version place : ℕ) (name bytes : List ℕ) → IsOne (SessionOf version place name bytes)
+session_one version place name bytes = reads_one name (IsSessionFile place version bytes) (IsBadSession place version bytes) (session.one_file place version bytes) (session.one_bad place version bytes)
 
-reading_one : (files : FileMap) (room place : ℕ) (names : List (List ℕ)) → IsOne (Reading SessionOf files room place names)
-reading_one files room place [] = is_one (Ok [])
-reading_one files room place (name ∷ names) =
-    then_one (Is (file_in files room name)) (λ bytes. Then (SessionOf place name bytes) (λ item. Then (Reading SessionOf files (room - length bytes) (place + 1) names) (λ items. Is (Ok (item ∷ items))))) (is_one (file_in files room name)) (λ bytes held. then_one (SessionOf place name bytes) (λ item. Then (Reading SessionOf files (room - length bytes) (place + 1) names) (λ items. Is (Ok (item ∷ items)))) (session_one place name bytes) (λ item read.
-    then_one (Reading SessionOf files (room - length bytes) (place + 1) names) (λ items. Is (Ok (item ∷ items))) (reading_one files (room - length bytes) (place + 1) names) (λ items all. is_one (Ok (item ∷ items)))))
+reading_one : (version : ℕ) (files : FileMap) (room place : ℕ) (names : List (List ℕ)) → IsOne (Reading (SessionOf version) files room place names)
+reading_one version files room place [] = is_one (Ok [])
+reading_one version files room place (name ∷ names) =
+    then_one (Is (file_in files room name)) (λ bytes. Then (SessionOf version place name bytes) (λ item. Then (Reading (SessionOf version) files (room - length bytes) (place + 1) names) (λ items. Is (Ok (item ∷ items))))) (is_one (file_in files room name)) (λ bytes held. then_one (SessionOf version place name bytes) (λ item. Then (Reading (SessionOf version) files (room - length bytes) (place + 1) names) (λ items. Is (Ok (item ∷ items)))) (session_one version place name bytes) (λ item read.
+    then_one (Reading (SessionOf version) files (room - length bytes) (place + 1) names) (λ items. Is (Ok (item ∷ items))) (reading_one version files (room - length bytes) (place + 1) names) (λ items all. is_one (Ok (item ∷ items)))))
 
 -- ---- a capture
 
@@ -97,26 +99,40 @@ abbrev all_read : Opened → List (List Captured) → Result Read Refusal → Ty
 all_read opened sessions = Is (Ok (record { start = opened.file.start; sessions = sessions }))
 
 abbrev sessions_in : FileMap → List ℕ → Opened → Result Read Refusal → Type 0
-sessions_in files capture opened = Then (Reading SessionOf files opened.left 0 (session_names capture opened.file.sessions)) (all_read opened)
+sessions_in files capture opened = Then (Reading (SessionOf opened.file.start.schema.version) files opened.left 0 (session_names capture opened.file.sessions)) (all_read opened)
 
-read_one : (files : FileMap) (capture : List ℕ) → IsOne (ReadIn files capture)
+pub read_one : (files : FileMap) (capture : List ℕ) → IsOne (ReadIn files capture)
 read_one files capture = then_one (OpenedIn files capture) (sessions_in files capture) (opened_one files capture) (λ opened is.
-    then_one (Reading SessionOf files opened.left 0 (session_names capture opened.file.sessions)) (all_read opened) (reading_one files opened.left 0 (session_names capture opened.file.sessions)) (λ sessions read. is_one (Ok (record { start = opened.file.start; sessions = sessions }))))
+    then_one (Reading (SessionOf opened.file.start.schema.version) files opened.left 0 (session_names capture opened.file.sessions)) (all_read opened) (reading_one opened.file.start.schema.version files opened.left 0 (session_names capture opened.file.sessions)) (λ sessions read. is_one (Ok (record { start = opened.file.start; sessions = sessions }))))
 
 remap_one : (files : FileMap) (name : Option (List ℕ)) → IsOne (RemapIn files name)
 remap_one files None = is_one (Ok [])
 remap_one files (Some name) =
     then_one (Is (file_in files file_limit name)) (λ bytes. Is (remap_of (services_of bytes))) (is_one (file_in files file_limit name)) (λ bytes held. is_one (remap_of (services_of bytes)))
 
+changed_one : (start : StartView) (bytes : List ℕ) → IsOne (TargetOf start bytes)
+changed_one start bytes (Ok a) (Ok b) h k = ap (λ target. Ok target) (one_last start (records_in bytes) a b h k)
+changed_one start bytes (Ok a) (Err s) h k = absurd (never_both start (records_in bytes) a k.0 h k.1)
+changed_one start bytes (Err r) (Ok b) h k = absurd (never_both start (records_in bytes) b h.0 k h.1)
+changed_one start bytes (Err r) (Err s) h k = ap (λ e. Err e) (h.2 ∙ ap BadChange (one_bad start (records_in bytes) h.0 k.0 h.1 k.1) ∙ sym k.2)
+
+target_one : (files : FileMap) (start : StartView) (name : Option (List ℕ)) → IsOne (TargetIn files start name)
+target_one files start None = is_one (Ok start)
+target_one files start (Some name) =
+    then_one (Is (file_in files file_limit name)) (λ bytes. TargetOf start bytes) (is_one (file_in files file_limit name)) (λ bytes held. changed_one start bytes)
+
 -- ---- a command
 
 module _ (files : FileMap) (capture out : List ℕ) where
   module _ (ways : Ways) where
-    abbrev replayed_of : List ServicePair → Legal → Result Task Refusal → Type 0
-    replayed_of remap legal = Is (Ok (ToReplay out (run_job legal remap ways)))
+    abbrev replayed_of : List ServicePair → StartView → Legal → Result Task Refusal → Type 0
+    replayed_of remap target legal = Is (Ok (ToReplay out (run_job legal target remap ways)))
+
+    abbrev changed_of : Read → List ServicePair → StartView → Result Task Refusal → Type 0
+    changed_of read remap target = Then (Is (legal_from read.start (verdict read.start read.sessions))) (replayed_of remap target)
 
     abbrev remapped_of : Read → List ServicePair → Result Task Refusal → Type 0
-    remapped_of read remap = Then (Is (legal_from read.start (verdict read.start read.sessions))) (replayed_of remap)
+    remapped_of read remap = Then (TargetIn files read.start ways.change) (changed_of read remap)
 
     abbrev run_of : Read → Result Task Refusal → Type 0
     run_of read = Then (RemapIn files ways.remap) (remapped_of read)
@@ -124,7 +140,8 @@ module _ (files : FileMap) (capture out : List ℕ) where
     run_one : IsOne (RunIn files capture out ways)
     run_one = then_one (ReadIn files capture) run_of (read_one files capture) (λ read is.
         then_one (RemapIn files ways.remap) (remapped_of read) (remap_one files ways.remap) (λ remap named.
-        then_one (Is (legal_from read.start (verdict read.start read.sessions))) (replayed_of remap) (legal_one read.start read.sessions) (λ legal tested. is_one (Ok (ToReplay out (run_job legal remap ways))))))
+        then_one (TargetIn files read.start ways.change) (changed_of read remap) (target_one files read.start ways.change) (λ target changes.
+        then_one (Is (legal_from read.start (verdict read.start read.sessions))) (replayed_of remap target) (legal_one read.start read.sessions) (λ legal tested. is_one (Ok (ToReplay out (run_job legal target remap ways)))))))
 
   abbrev told_of : Legal → Result Task Refusal → Type 0
   told_of legal = Is (Ok (ToTell out legal.facts))

@@ -4,6 +4,7 @@ use Rattle.desk_values.specs.declared.capture.Captured.{Captured}
 use Rattle.desk_values.specs.Limits.{session_limit}
 use Rattle.desk_files.specs.Outside.{FileMap}
 use Rattle.desk_files.specs.Limits.{file_limit}
+use Rattle.desk_schema.specs.Schema.{IsVersion}
 use Rattle.desk_schema.specs.Start.{StartView}
 use Rattle.file_lines.specs.File.{ReadsFile}
 use Rattle.file_lines.specs.declared.reader.FormErr.TheVariants.{Bad}
@@ -16,7 +17,7 @@ use Rattle.captured_calls.specs.Verdict.{Preparation, verdict}
 use Rattle.replay_cli.specs.declared.capture.Opened.{Opened}
 use Rattle.replay_cli.specs.Limits.{capture_limit}
 use Rattle.replay_cli.specs.declared.failure.Refusal.{Refusal}
-use Rattle.replay_cli.specs.declared.failure.Refusal.TheVariants.{Missing, TooLong, BadLine, BadRemap, NotLegal}
+use Rattle.replay_cli.specs.declared.failure.Refusal.TheVariants.{Missing, TooLong, BadLine, BadRemap, BadChange, NotLegal}
 use Rattle.replay_cli.specs.declared.failure.Failure.{Failure}
 use Rattle.replay_cli.specs.declared.failure.Failure.TheVariants.{BadCommand, Refused, Differs, DeviceFault, OutOfMemory}
 use Rattle.desk_words.specs.declared.words.Command.{Command}
@@ -24,6 +25,7 @@ use Rattle.desk_words.specs.declared.words.Command.TheVariants.{Run, Prepare, Se
 use Rattle.remap_ids.specs.Services.{ServicePair, services_of}
 use Rattle.remap_ids.specs.declared.remap.RemapErr.{RemapErr}
 use Rattle.remap_ids.specs.declared.remap.RemapErr.TheVariants.{BadRow, TwiceFrom, Memory}
+use Rattle.desk_schema.specs.Change.{ChangesTo, IsFirstBad, records_in}
 use Rattle.replay_job.specs.Job.{JobView}
 use Rattle.replay_job.specs.Jobs.{job_of}
 use Rattle.desk_words.specs.declared.ways.Ways.{Ways}
@@ -41,8 +43,8 @@ Reads {X} name IsFileOf IsFirstBad (Err refusal) = (line : ℕ) × ReadsFile {X 
 abbrev pub StartOf : List ℕ → List ℕ → Result StartFile Refusal → Type 0
 StartOf name bytes = Reads name (IsStartFile bytes) (IsBadStart bytes)
 
-abbrev pub SessionOf : ℕ → List ℕ → List ℕ → Result (List Captured) Refusal → Type 0
-SessionOf session name bytes = Reads name (IsSessionFile session bytes) (IsBadSession session bytes)
+abbrev pub SessionOf : ℕ → ℕ → List ℕ → List ℕ → Result (List Captured) Refusal → Type 0
+SessionOf version session name bytes = Reads name (IsSessionFile session version bytes) (IsBadSession session version bytes)
 
 -- the start of a capture, and how many bytes its other files may have
 abbrev pub OpenedIn : FileMap → List ℕ → Result Opened Refusal → Type 0
@@ -67,11 +69,11 @@ pub record Read : Type 0 where
   pub start : StartView
   pub sessions : List (List Captured)
 
--- the files of the capture in a folder: its start file, and as many session files as that says
+-- the files of the capture in a folder: its start file, and as many session files as that says, of its version
 abbrev pub ReadIn : FileMap → List ℕ → Result Read Refusal → Type 0
 ReadIn files capture =
     Then (OpenedIn files capture) (λ opened.
-    Then (Reading SessionOf files opened.left 0 (session_names capture opened.file.sessions)) (λ sessions.
+    Then (Reading (SessionOf opened.file.start.schema.version) files opened.left 0 (session_names capture opened.file.sessions)) (λ sessions.
     Is (Ok (record { start = opened.file.start; sessions = sessions }))))
 
 -- ---- the services that are sent in the place of others
@@ -91,6 +93,23 @@ abbrev pub RemapIn : FileMap → Option (List ℕ) → Result (List ServicePair)
 RemapIn files None = Is (Ok [])
 RemapIn files (Some name) = Then (Is (file_in files file_limit name)) (λ bytes. Is (remap_of (services_of bytes)))
 
+-- ---- the target
+
+-- what the bytes of a change file make of the captured start
+abbrev pub TargetOf : StartView → List ℕ → Result StartView Refusal → Type 0
+TargetOf start bytes (Ok target) = ChangesTo start (records_in bytes) target
+TargetOf start bytes (Err refusal) = (n : ℕ) × IsFirstBad start (records_in bytes) n × (refusal ≡ BadChange n)
+
+-- what the file of this name makes of it; the captured start itself, where none is named
+abbrev pub TargetIn : FileMap → StartView → Option (List ℕ) → Result StartView Refusal → Type 0
+TargetIn files start None = Is (Ok start)
+TargetIn files start (Some name) = Then (Is (file_in files file_limit name)) (λ bytes. TargetOf start bytes)
+
+-- what a replay may run on: the captured start, or what some change file of the name makes of it
+abbrev pub MayRunOn : Option (List ℕ) → StartView → StartView → Type 0
+MayRunOn None start target = target ≡ start
+MayRunOn (Some name) start target = (bytes : List ℕ) × ChangesTo start (records_in bytes) target
+
 -- ---- a command
 
 -- what is to be done, and what it takes
@@ -102,17 +121,18 @@ pub data Task : Type 0 where
   ToMake : ℕ → List ℕ → Task
   ToTry : ℕ → Task
 
--- a legal capture that is replayed so, on its own start
-abbrev pub run_job : Legal → List ServicePair → Ways → JobView
-run_job legal remap ways = job_of legal.start legal.start (record { calls = legal.calls; facts = legal.facts }) remap ways.mode ways.think ways.connect
+-- a legal capture that is replayed so, on this target
+abbrev pub run_job : Legal → StartView → List ServicePair → Ways → JobView
+run_job legal target remap ways = job_of legal.start target (record { calls = legal.calls; facts = legal.facts }) remap ways.mode ways.think ways.connect
 
--- the steps of a run: the files of the capture, the remap file, the test of the capture
+-- the steps of a run: the files of the capture, the remap file, the change file, the test of the capture
 abbrev pub RunIn : FileMap → List ℕ → List ℕ → Ways → Result Task Refusal → Type 0
 RunIn files capture out ways =
     Then (ReadIn files capture) (λ read.
     Then (RemapIn files ways.remap) (λ remap.
+    Then (TargetIn files read.start ways.change) (λ target.
     Then (Is (legal_from read.start (verdict read.start read.sessions))) (λ legal.
-    Is (Ok (ToReplay out (run_job legal remap ways))))))
+    Is (Ok (ToReplay out (run_job legal target remap ways)))))))
 
 abbrev pub PrepareIn : FileMap → List ℕ → List ℕ → Result Task Refusal → Type 0
 PrepareIn files capture out =
@@ -144,7 +164,7 @@ IsFileIn folder name = (name ≡ start_name folder) ⊎ ((session : ℕ) × (ses
 
 -- the line of this number is the first bad one of some file of a capture
 abbrev pub IsBadOfSome : ℕ → Type 0
-IsBadOfSome line = (bytes : List ℕ) × (IsBadStart bytes line ⊎ ((session : ℕ) × IsBadSession session bytes line))
+IsBadOfSome line = (bytes : List ℕ) × (IsBadStart bytes line ⊎ ((session : ℕ) × (version : ℕ) × IsVersion version × IsBadSession session version bytes line))
 
 -- how the capture in a folder may be refused, whatever its files are: by one that is not there or too long, by a first bad line, or
 -- by the cause that the tests give for some calls
@@ -153,6 +173,7 @@ MayRefuseCapture folder (Missing name) = IsFileIn folder name
 MayRefuseCapture folder (TooLong name) = IsFileIn folder name
 MayRefuseCapture folder (BadLine name line) = IsFileIn folder name × IsBadOfSome line
 MayRefuseCapture folder (BadRemap row) = ⊥
+MayRefuseCapture folder (BadChange row) = ⊥
 MayRefuseCapture folder (NotLegal cause) = (start : StartView) × (lists : List (List Captured)) × (verdict start lists ≡ Err cause)
 
 -- how the remap file may be, if one is named
@@ -161,6 +182,13 @@ MayRefuseRemap (Some name) (Missing other) = other ≡ name
 MayRefuseRemap (Some name) (TooLong other) = other ≡ name
 MayRefuseRemap (Some name) (BadRemap row) = (bytes : List ℕ) × (remap_of (services_of bytes) ≡ Err (BadRemap row))
 MayRefuseRemap named other = ⊥
+
+-- how the change file may be, if one is named
+abbrev pub MayRefuseChange : Option (List ℕ) → Refusal → Type 0
+MayRefuseChange (Some name) (Missing other) = other ≡ name
+MayRefuseChange (Some name) (TooLong other) = other ≡ name
+MayRefuseChange (Some name) (BadChange row) = (start : StartView) × (bytes : List ℕ) × IsFirstBad start (records_in bytes) row
+MayRefuseChange named other = ⊥
 
 -- how the file of a start may be
 abbrev pub MayRefuseStart : List ℕ → Refusal → Type 0
@@ -171,15 +199,15 @@ MayRefuseStart name refusal = ⊥
 
 -- how a command may be
 abbrev pub MayBeRefused : Command → Refusal → Type 0
-MayBeRefused (Run capture out ways) refusal = MayRefuseCapture capture refusal ⊎ MayRefuseRemap ways.remap refusal
+MayBeRefused (Run capture out ways) refusal = MayRefuseCapture capture refusal ⊎ (MayRefuseRemap ways.remap refusal ⊎ MayRefuseChange ways.change refusal)
 MayBeRefused (Prepare capture out) refusal = MayRefuseCapture capture refusal
 MayBeRefused (Serve capture start connections port) refusal = MayRefuseStart start refusal
 MayBeRefused (Generate n out) refusal = ⊥
 MayBeRefused (Trial n) refusal = ⊥
 
--- the task is one of this command: a replay of some capture in these ways, into this folder, and so on
+-- the task is one of this command: a replay of some capture in these ways on what it may run on, into this folder, and so on
 abbrev pub IsTaskOf : Command → Task → Type 0
-IsTaskOf (Run capture out ways) (ToReplay folder job) = (folder ≡ out) × ((legal : Legal) × (remap : List ServicePair) × (job ≡ run_job legal remap ways))
+IsTaskOf (Run capture out ways) (ToReplay folder job) = (folder ≡ out) × ((legal : Legal) × (target : StartView) × (remap : List ServicePair) × MayRunOn ways.change legal.start target × (job ≡ run_job legal target remap ways))
 IsTaskOf (Prepare capture out) (ToTell folder facts) = folder ≡ out
 IsTaskOf (Serve capture start connections port) (ToServe folder begins most door) = (folder ≡ capture) × (most ≡ connections) × (door ≡ port)
 IsTaskOf (Generate n out) (ToMake calls folder) = (calls ≡ n) × (folder ≡ out)

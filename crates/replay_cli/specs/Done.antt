@@ -5,7 +5,7 @@ use Rattle.desk_values.specs.declared.capture.Captured.{Captured}
 use Rattle.desk_values.specs.declared.capture.Event.{Event}
 use Rattle.desk_files.specs.declared.writes.Write.{Write}
 use Rattle.desk_schema.specs.Start.{StartView}
-use Rattle.capture_format.specs.StartFile.{start_text}
+use Rattle.capture_format.specs.StartFile.{IsStartFile, start_text}
 use Rattle.capture_format.specs.SessionFile.{session_text}
 use Rattle.captured_calls.specs.Facts.{facts_of}
 use Rattle.captured_calls.specs.Verdict.{IsLegal}
@@ -25,7 +25,7 @@ use Rattle.captured_calls.specs.Sessions.{session_lists}
 use Rattle.replay_cli.specs.declared.plan.Plan.{Plan}
 use Rattle.replay_cli.specs.Decision.{Task, ToReplay, ToTell, ToServe, ToMake, ToTry}
 use Rattle.desk_files.specs.Hosts.{Connections}
-use Rattle.capture_serve.specs.Service.{CaptureView, IsService}
+use Rattle.capture_serve.specs.Service.{AreReadFrom, CaptureView, IsService}
 use Rattle.replay_cli.specs.Lines.{generated_line, prepared_line, replayed_line, served_line, trial_line}
 use Rattle.replay_job.specs.Jobs.{job_of}
 use Rattle.replay_cli.specs.FileNames.{journal_name, maps_name, report_name, requires_name, session_name, start_name, table_of_report_name, tables_name}
@@ -40,10 +40,10 @@ replayed_files out job history last =
     ∷ record { name = tables_name out; bytes = tables_text (end_tables last.state) }
     ∷ record { name = maps_name out; bytes = maps_text (learnt_in job.calls history) } ∷ []
 
--- the files of sessions from this number on
-abbrev pub session_files : List ℕ → ℕ → List (List Captured) → List Write
-session_files out session [] = []
-session_files out session (calls ∷ lists) = record { name = session_name out session; bytes = session_text session calls } ∷ session_files out (session + 1) lists
+-- the files of sessions from this number on, of this version
+abbrev pub session_files : List ℕ → ℕ → ℕ → List (List Captured) → List Write
+session_files out version session [] = []
+session_files out version session (calls ∷ lists) = record { name = session_name out session; bytes = session_text session version calls } ∷ session_files out version (session + 1) lists
 
 -- the generated capture of n calls: its start, its calls by stamp, and those of each of its sessions
 unfoldable pub made_start : ℕ → StartView
@@ -57,7 +57,7 @@ made_lists n = session_lists generated_sessions (made_calls n)
 
 -- the files of a capture: those of its sessions, and then its start
 abbrev pub capture_files : List ℕ → StartView → List (List Captured) → ℕ → List Write
-capture_files out start lists sessions = session_files out 0 lists ++ record { name = start_name out; bytes = start_text start sessions } ∷ []
+capture_files out start lists sessions = session_files out start.schema.version 0 lists ++ record { name = start_name out; bytes = start_text start sessions } ∷ []
 
 abbrev pub made_files : List ℕ → ℕ → List Write
 made_files out n = capture_files out (made_start n) (made_lists n) generated_sessions
@@ -90,13 +90,15 @@ IsTried start calls = IsLegal start calls × HasMoments calls × ((history : Lis
 abbrev pub IsQuiet : Plan → Type 0
 IsQuiet plan = plan.differs ≡ false
 
--- connections were served, and the line and the files are those of what was captured
+-- connections were served, the line and the files are those of what was captured, and each file is read as what it was written of
 pub record IsServed (out : List ℕ) (start : StartView) (most : ℕ) (plan : Plan) (before after : Option Connections) : Type 0 where
   pub capture : CaptureView
   pub service : IsService start most capture before after
   pub line : plan.line ≡ served_line capture.connections capture.calls capture.short
   pub quiet : IsQuiet plan
   pub writes : plan.writes ≡ capture_files out start capture.sessions capture.connections
+  pub start_read : IsStartFile (start_text start capture.connections) (record { start = start; sessions = capture.connections })
+  pub sessions_read : AreReadFrom start.schema.version 0 capture.sessions
 
 -- the files and the line that a task may end with which asks no host
 abbrev pub IsDoneAlone : Task → Plan → Type 0

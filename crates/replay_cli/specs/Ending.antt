@@ -9,6 +9,7 @@ use Rattle.desk_words.specs.declared.words.Command.TheVariants.{Serve}
 use Rattle.desk_words.specs.Command.{command_of}
 use Rattle.capture_serve.specs.declared.failing.Finding.{Finding}
 use Rattle.capture_serve.specs.Failing.{IsFinding}
+use Rattle.capture_serve.specs.Service.{HasGivenBackAll}
 use Rattle.replay_cli.specs.declared.failure.Failure.{Failure}
 use Rattle.replay_cli.specs.declared.failure.Failure.TheVariants.{BadCommand, Refused, Differs, DeviceFault, OutOfMemory}
 use Rattle.replay_cli.specs.declared.plan.Plan.{Plan}
@@ -55,15 +56,15 @@ LeftOf task before after faults_before faults_after h =
 
 -- ---- what was served and differs
 
--- this was found to differ of what was served for this task
-abbrev pub IsFoundOf : Task → Finding → Type 0
-IsFoundOf (ToServe out start most port) finding = IsFinding start finding
-IsFoundOf other finding = ⊥
+-- this was found to differ of what was served for this task, and all connections were given back
+abbrev pub IsFoundOf : Task → Finding → Hosting → Type 0
+IsFoundOf (ToServe out start most port) finding h = IsFinding start finding × HasGivenBackAll most h.before h.after
+IsFoundOf other finding h = ⊥
 
--- this command is one that serves, and this may be found in what is served from some start
-abbrev pub MayDiffer : Command → Finding → Type 0
-MayDiffer (Serve capture start connections port) finding = (begins : StartView) × IsFinding begins finding
-MayDiffer other finding = ⊥
+-- this command is one that serves, this may be found in what is served from some start, and all connections were given back
+abbrev pub MayDiffer : Command → Finding → Hosting → Type 0
+MayDiffer (Serve capture start connections port) finding h = ((begins : StartView) × IsFinding begins finding) × HasGivenBackAll connections h.before h.after
+MayDiffer other finding h = ⊥
 
 -- ---- the line and the status
 
@@ -99,9 +100,9 @@ EndsDone task files files_after h result before after =
     (plan : Plan) × IsDone task plan h.before h.after × (files_after ≡ with_all plan.writes files) × (result ≡ done_status plan.differs) × Appends plan.line before after
 
 -- one of which something was found to differ has status 9 and its line, and changes no file
-abbrev pub EndsFound : Task → FileMap → FileMap → ℕ → Option (List ℕ) → Option (List ℕ) → Type 0
-EndsFound task files files_after result before after =
-    (finding : Finding) × IsFoundOf task finding × (files_after ≡ files) × (result ≡ 9) × Appends (finding_line finding) before after
+abbrev pub EndsFound : Task → FileMap → FileMap → Hosting → ℕ → Option (List ℕ) → Option (List ℕ) → Type 0
+EndsFound task files files_after h result before after =
+    (finding : Finding) × IsFoundOf task finding h × (files_after ≡ files) × (result ≡ 9) × Appends (finding_line finding) before after
 
 -- The end that a verdict has: a failure has its status and its line, changes no file and asks no host; a task that is done has those of what it
 -- came to. Or else a device failed or memory was short, and the task is done in part.
@@ -110,7 +111,7 @@ Ends (Err failure) files files_after fb fa h result before after =
     (files_after ≡ files) × IsUnasked h × (((result ≡ failure_status failure) × Appends (failure_line failure) before after) ⊎ IsOutside result)
 Ends (Ok task) files files_after fb fa h result before after =
     EndsDone task files files_after h result before after
-    ⊎ (EndsFound task files files_after result before after
+    ⊎ (EndsFound task files files_after h result before after
     ⊎ (IsOutside result × LeftOf task files files_after fb fa h))
 
 -- the end that some verdict has; or a device failed or memory was short before there was one
@@ -126,7 +127,7 @@ MayComeTo None h done = (IsErrOf done BadCommand ⊎ IsErrOf done OutOfMemory) �
 MayComeTo (Some command) h (Ok plan) = (task : Task) × IsTaskOf command task × IsDone task plan h.before h.after
 MayComeTo (Some command) h (Err BadCommand) = ⊥
 MayComeTo (Some command) h (Err (Refused refusal)) = MayBeRefused command refusal × IsUnasked h
-MayComeTo (Some command) h (Err (Differs finding)) = MayDiffer command finding
+MayComeTo (Some command) h (Err (Differs finding)) = MayDiffer command finding h
 MayComeTo (Some command) h (Err DeviceFault) = Unit {0}
 MayComeTo (Some command) h (Err OutOfMemory) = Unit {0}
 

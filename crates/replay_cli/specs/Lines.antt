@@ -6,7 +6,7 @@ use Rattle.capture_format.specs.SessionFile.{number_text}
 use Rattle.captured_calls.specs.declared.refusal.Refusal.{Refusal as Illegal}
 use Rattle.captured_calls.specs.declared.refusal.Refusal.TheVariants.{TooMany, Stamp, Number, Seen, Times, Stranger, Reply, Memory}
 use Rattle.replay_cli.specs.declared.failure.Refusal.{Refusal}
-use Rattle.replay_cli.specs.declared.failure.Refusal.TheVariants.{Missing, TooLong, BadLine, BadRemap, NotLegal}
+use Rattle.replay_cli.specs.declared.failure.Refusal.TheVariants.{Missing, TooLong, BadLine, BadRemap, BadChange, NotLegal}
 use Rattle.capture_recorder.specs.declared.door.Said.{Said}
 use Rattle.capture_serve.specs.declared.failing.Finding.{Finding}
 use Rattle.capture_serve.specs.declared.failing.Finding.TheVariants as found
@@ -18,6 +18,7 @@ refusal_status (Missing name) = 4
 refusal_status (TooLong name) = 8
 refusal_status (BadLine name line) = 3
 refusal_status (BadRemap n) = 7
+refusal_status (BadChange n) = 7
 refusal_status (NotLegal cause) = 3
 
 abbrev pub failure_status : Failure → ℕ
@@ -44,6 +45,7 @@ refusal_line (Missing name) = codes "missing: " ++ (name ++ 10 ∷ [])
 refusal_line (TooLong name) = codes "too long: " ++ (name ++ 10 ∷ [])
 refusal_line (BadLine name line) = codes "bad capture: " ++ (name ++ (codes " line " ++ (decimal line ++ 10 ∷ [])))
 refusal_line (BadRemap n) = codes "bad remap: row " ++ (decimal n ++ 10 ∷ [])
+refusal_line (BadChange n) = codes "bad change: row " ++ (decimal n ++ 10 ∷ [])
 refusal_line (NotLegal cause) = codes "bad capture: " ++ (cause_text cause ++ 10 ∷ [])
 
 -- the reply of a call, and a dash where there is no call

@@ -54,7 +54,7 @@ pub struct Read {
     pub sessions: SessionLists,
 }
 
-/// Reads the capture in a folder: its start file, then the files of as many sessions as that says.
+/// Reads the capture in a folder: its start file, then the files of as many sessions as that says, of its version.
 pub fn read_capture<F: Files>(alloc: Global, capture: &Txt, files: &mut F) -> Result<Read, Failure>
     requires { length capture.now ≤ 900 }
     ensures step { Step (λ map. ReadIn map capture.now)
@@ -99,7 +99,9 @@ fn load_sessions<F: Files>(
 ) -> Result<SessionLists, Failure>
     requires capture { length capture.now ≤ 900 }
     requires sessions { opened.now.file.sessions ≤ session_limit }
-    ensures step { Step (λ map. Reading SessionOf map opened.now.left 0 (session_names capture.now opened.now.file.sessions))
+    ensures step { Step
+        (λ map. Reading (SessionOf opened.now.file.start.schema.version) map opened.now.left 0
+        (session_names capture.now opened.now.file.sessions))
         (F.content files.old) (F.content files.new)
         (F.faults files.old) (F.faults files.new) (seen_as lists_of result) }
     ensures count { IfOk result (λ sessions. length sessions ≤ 64) }
@@ -107,7 +109,8 @@ fn load_sessions<F: Files>(
     ensures kind { IfErr result (MayFail (MayRefuseCapture capture.now)) }
 {
     let names = session_names(alloc, capture, opened.file.sessions)?;
-    read_sessions(alloc, names.as_slice(), opened.left, files)
+    let version = opened.file.start.schema().version();
+    read_sessions(alloc, version, names.as_slice(), opened.left, files)
 }
 
 /// Tests whether the start and the calls of the sessions are a legal capture.

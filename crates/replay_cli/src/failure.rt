@@ -28,6 +28,8 @@ pub enum Refusal {
     BadLine(Txt, u64),
     /// The remap file's record of this number, from 1, is refused.
     BadRemap(u64),
+    /// The change file's record of this number, from 1, is refused.
+    BadChange(u64),
     /// The capture is not legal.
     NotLegal(Illegal),
 }
@@ -64,7 +66,7 @@ impl Refusal {
             Refusal::Missing(_) => 4,
             Refusal::TooLong(_) => 8,
             Refusal::BadLine(_, _) => 3,
-            Refusal::BadRemap(_) => 7,
+            Refusal::BadRemap(_) | Refusal::BadChange(_) => 7,
             Refusal::NotLegal(_) => 3,
         }
     }
@@ -77,7 +79,8 @@ impl Refusal {
             Refusal::Missing(name) => line_of(alloc, "missing: ", name.as_str()),
             Refusal::TooLong(name) => line_of(alloc, "too long: ", name.as_str()),
             Refusal::BadLine(name, line) => bad_line(alloc, name, *line),
-            Refusal::BadRemap(row) => bad_row(alloc, *row),
+            Refusal::BadRemap(row) => bad_row(alloc, "bad remap: row ", *row),
+            Refusal::BadChange(row) => bad_row(alloc, "bad change: row ", *row),
             Refusal::NotLegal(cause) => illegal_line(alloc, cause),
         }
     }
@@ -134,11 +137,12 @@ fn bad_line(alloc: Global, name: &Txt, number: u64) -> Result<Bytes, Memory>
     Ok(line)
 }
 
-fn bad_row(alloc: Global, row: u64) -> Result<Bytes, Memory>
-    ensures { IfOk result (λ line. line ≡ refusal_line (Refusal.BadRemap row)) }
+/// Words, a number and a line feed.
+fn bad_row(alloc: Global, words: &str, row: u64) -> Result<Bytes, Memory>
+    ensures { IfOk result (λ line. line ≡ words.now ++ (decimal row ++ 10 ∷ [])) }
 {
     let mut line = List::new(alloc);
-    line.append(b"bad remap: row ")?;
+    line.append(words.as_bytes())?;
     append_u64(row, &mut line)?;
     line.append(b"\n")?;
     Ok(line)

@@ -29,8 +29,8 @@ use std::time::Clock;
 /// | `generate N OUT` | write a capture of N calls into OUT | `generated N calls` |
 /// | `trial N` | make that capture and replay it without pauses | `trial N: N calls, 0 divergent, K commits` |
 ///
-/// Anywhere behind `run` there may stand `--mode off`, `scn`, `object` or `order`, `--think P`, `--connect P`, `--remap FILE` and
-/// `--lanes N`, and behind `serve` `--port P`, each at most once. Which words are a command, `desk_words` says.
+/// Anywhere behind `run` there may stand `--mode off`, `scn`, `object`, `order` or `fence`, `--think P`, `--connect P`, `--remap FILE`,
+/// `--change FILE` and `--lanes N`, and behind `serve` `--port P`, each at most once. Which words are a command, `desk_words` says.
 ///
 /// | status | where | line |
 /// |---|---|---|
@@ -43,6 +43,7 @@ use std::time::Clock;
 /// | 5 | `files`, `host` or `out` failed | `device fault` |
 /// | 6 | want of memory, where nothing failed | `out of memory` |
 /// | 7 | the remap file's record N is bad, or repeats a service | `bad remap: row N` |
+/// | 7 | the change file's record N is bad, or the start that it leads to breaks a rule | `bad change: row N` |
 /// | 8 | a file is too long, or all of the capture are together | `too long: NAME` |
 /// | 9 | `serve` compared what was recorded with what the connections were answered, and something differs | `mismatch: ` and what differs |
 ///

@@ -3,6 +3,9 @@
 ghost use Rattle.std.specs.Prelude.{◌≡◌, ◌++◌, ◌∷◌, [], ◌≤◌, List as Sequence, length, IfErr, IfOk, OnOk};
 ghost use Rattle.desk_values.specs.declared.value.Image.{Image};
 ghost use Rattle.desk_values.specs.declared.capture.Event.{Event};
+ghost use Rattle.std.specs.List.{AllByRecursion};
+ghost use Rattle.desk_schema.specs.Schema.{IsVersion};
+ghost use Rattle.capture_format.specs.SessionFile.{MayTellAll};
 ghost use Rattle.captured_calls.specs.Sessions.{AreSessionsFrom};
 ghost use Rattle.prepare_plan.specs.Lists.{lists_of};
 ghost use Rattle.desk_words.specs.Within.{IsCallCount, IsLaneCount};
@@ -71,7 +74,7 @@ pub fn plan_of<R: Clock + Wait + Threads + Sync, H: Host, D: Door>(
 ) -> Result<Plan, Failure>
     requires { IsWork work }
     ensures done { IfOk result (λ plan. IsDone (task_of work) plan (H.content host.old) (H.content host.new)) }
-    ensures fails { IfErr result (PlanFails (task_of work)) }
+    ensures fails { IfErr result (PlanFails (task_of work) (hosting (H.content host.old) (H.content host.new) (H.faults host.old) (H.faults host.new))) }
     ensures faults { HostFaults result (H.faults host.old) (H.faults host.new) }
     ensures host { AsksFor (task_of work) (hosting (H.content host.old) (H.content host.new) (H.faults host.old) (H.faults host.new)) }
 {
@@ -211,6 +214,7 @@ fn written(
     requires out { length out.now ≤ 900 }
     requires count { length lists.now ≤ 64 }
     requires lists { AreSessionsFrom 0 (lists_of lists.now) }
+    requires told { AllByRecursion (MayTellAll start.now.schema.version) (lists_of lists.now) }
     ensures line { IfOk result (λ plan. plan.line ≡ generated_line n) }
     ensures quiet { IfOk result IsQuiet }
     ensures writes { IfOk result (λ plan. plan.writes ≡ capture_files out.now start.now (lists_of lists.now) generated_sessions) }
@@ -235,9 +239,10 @@ pub(crate) fn capture_writes(
     requires count { length lists.now ≤ 64 }
     requires sessions { sessions ≤ 64 }
     requires lists { AreSessionsFrom 0 (lists_of lists.now) }
+    requires told { AllByRecursion (MayTellAll start.now.schema.version) (lists_of lists.now) }
     ensures { IfOk result (λ writes. writes ≡ capture_files out.now start.now (lists_of lists.now) sessions) }
 {
-    let mut writes = session_writes(alloc, out, lists)?;
+    let mut writes = session_writes(alloc, out, start.schema().version(), lists)?;
     let start = write_start(alloc, start, sessions)?;
     writes.push(write_in(alloc, out, "/start.cap", start)?)?;
     Ok(writes)
@@ -257,22 +262,30 @@ fn lists_of(alloc: Global, calls: u32, recorder: &Recorder) -> Result<SessionLis
     requires { recorder.now.calls ≡ made_calls calls }
     ensures lists { IfOk result (λ lists. lists_of lists ≡ made_lists calls) }
     ensures files { IfOk result (λ lists. AreSessionsFrom 0 (lists_of lists)) }
+    ensures told { IfOk result (λ lists. AllByRecursion (MayTellAll recorder.now.start.schema.version) (lists_of lists)) }
     ensures count { IfOk result (λ lists. length lists ≤ 64) }
 {
     sessions_of(alloc, recorder.calls(), GENERATED_SESSIONS)
 }
 
-/// What is written of the files of sessions.
-fn session_writes(alloc: Global, out: &Txt, lists: &[CallList]) -> Result<List<Write>, Memory>
+/// What is written of the files of sessions, of this version.
+fn session_writes(
+    alloc: Global,
+    out: &Txt,
+    version: u32,
+    lists: &[CallList],
+) -> Result<List<Write>, Memory>
     requires out { length out.now ≤ 900 }
     requires count { length lists.now ≤ 64 }
     requires lists { AreSessionsFrom 0 (lists_of lists.now) }
-    ensures { IfOk result (λ writes. writes ≡ session_files out.now 0 (lists_of lists.now)) }
+    requires version { IsVersion version }
+    requires told { AllByRecursion (MayTellAll version) (lists_of lists.now) }
+    ensures { IfOk result (λ writes. writes ≡ session_files out.now version 0 (lists_of lists.now)) }
 {
     let mut writes = List::new(alloc);
     let mut session: u32 = 0;
     for calls in lists {
-        let bytes = write_session(alloc, calls, session)?;
+        let bytes = write_session(alloc, calls, session, version)?;
         let name = session_name(alloc, out, session)?;
         writes.push(Write { name, bytes })?;
         session += 1;

@@ -2,16 +2,18 @@
 
 ghost use Rattle.std.specs.Prelude.{◌≡◌, ◌≤◌, length, IfErr, IfOk};
 ghost use Rattle.desk_files.specs.Outside.{Told};
+ghost use Rattle.desk_schema.specs.Schema.{IsVersion};
 ghost use Rattle.captured_calls.specs.Sessions.{AreSessionsFrom};
 ghost use Rattle.prepare_plan.specs.Lists.{lists_of};
 ghost use Rattle.remap_ids.specs.Services.{services_of};
-ghost use Rattle.replay_cli.specs.Decision.{MayRefuseRemap, MayRefuseStart, RemapIn, SessionOf, StartIn, StartOf, remap_of};
+ghost use Rattle.replay_cli.specs.Decision.{MayRefuseChange, MayRefuseRemap, MayRefuseStart, MayRunOn, RemapIn, SessionOf, StartIn, StartOf, TargetIn, TargetOf, remap_of};
 ghost use Rattle.replay_cli.specs.Inside.Steps.{Answered, FaultFree, IsUntaken, MayFail, RefusesOne, Step, seen_as};
 ghost use Rattle.replay_cli.specs.Steps.{Is, Reading, file_in};
 
 use crate::failure::{Failure, Refusal};
 use capture_format::{FormErr, StartFile, read_session, read_start};
 use desk_files::{FILE_LIMIT, FileErr, Files};
+use desk_schema::{ChangeErr, Start};
 use desk_values::{Bytes, CallList, Copied, List, SessionLists, Txt};
 use remap_ids::{Remap, RemapErr};
 use std::alloc::Global;
@@ -61,17 +63,19 @@ pub fn read_start_file<F: Files>(
     parse_start(alloc, name, &bytes)
 }
 
-/// What the bytes of the file of this name say of a session.
+/// What the bytes of the file of this name and version say of a session.
 pub fn parse_session(
     alloc: Global,
+    version: u32,
     session: u32,
     name: &Txt,
     bytes: &Bytes,
 ) -> Result<CallList, Failure>
-    ensures says { Answered (SessionOf session name.now bytes.now) (seen_as (λ calls. calls.items) result) }
+    requires { IsVersion version }
+    ensures says { Answered (SessionOf version session name.now bytes.now) (seen_as (λ calls. calls.items) result) }
     ensures free { FaultFree result }
 {
-    match read_session(alloc, bytes.as_slice(), session) {
+    match read_session(alloc, bytes.as_slice(), session, version) {
         Ok(calls) => Ok(calls),
         Err(FormErr::Bad { line }) => Err(Failure::Refused(Refusal::BadLine(name.copy()?, line))),
         Err(FormErr::Memory) => Err(Failure::OutOfMemory),
@@ -110,16 +114,51 @@ fn parse_remap(alloc: Global, bytes: &Bytes) -> Result<Remap, Failure>
     }
 }
 
-/// Reads the files of the sessions from 0 on, in this order, and stops at the first that is refused. Together they have at
+/// The target of a replay: what the file of this name makes of the captured start, or that itself where none is named.
+pub fn read_target<F: Files>(
+    start: &Start,
+    name: &Option<Txt>,
+    files: &mut F,
+) -> Result<Start, Failure>
+    ensures step { Step (λ map. TargetIn map start.now name.now)
+        (F.content files.old) (F.content files.new)
+        (F.faults files.old) (F.faults files.new) result }
+    ensures may { IfOk result (MayRunOn name.now start.now) }
+    ensures kind { IfErr result (MayFail (MayRefuseChange name.now)) }
+{
+    match name {
+        Some(name) => {
+            let bytes = read_file(name, FILE_LIMIT, files)?;
+            changed(start, &bytes)
+        }
+        None => Ok(start.copy()?),
+    }
+}
+
+/// What the bytes of a change file make of the captured start.
+fn changed(start: &Start, bytes: &Bytes) -> Result<Start, Failure>
+    ensures says { Answered (TargetOf start.now bytes.now) result }
+    ensures free { FaultFree result }
+{
+    match start.change(bytes.as_slice()) {
+        Ok(target) => Ok(target),
+        Err(ChangeErr::BadRow { n }) => Err(Failure::Refused(Refusal::BadChange(n))),
+        Err(ChangeErr::Memory) => Err(Failure::OutOfMemory),
+    }
+}
+
+/// Reads the files of the sessions from 0 on, of this version, in this order, and stops at the first that is refused. Together they have at
 /// most `room` bytes.
 pub fn read_sessions<F: Files>(
     alloc: Global,
+    version: u32,
     names: &[Txt],
     room: usize,
     files: &mut F,
 ) -> Result<SessionLists, Failure>
-    requires { length names.now ≤ 64 }
-    ensures step { Step (λ map. Reading SessionOf map room 0 names.now)
+    requires names { length names.now ≤ 64 }
+    requires version { IsVersion version }
+    ensures step { Step (λ map. Reading (SessionOf version) map room 0 names.now)
         (F.content files.old) (F.content files.new)
         (F.faults files.old) (F.faults files.new) (seen_as lists_of result) }
     ensures count { IfOk result (λ sessions. length sessions ≡ length names.now) }
@@ -132,7 +171,7 @@ pub fn read_sessions<F: Files>(
     for name in names {
         let bytes = read_file(name, left, files)?;
         left -= bytes.len();
-        sessions.push(parse_session(alloc, session, name, &bytes)?)?;
+        sessions.push(parse_session(alloc, version, session, name, &bytes)?)?;
         session += 1;
     }
     Ok(sessions)

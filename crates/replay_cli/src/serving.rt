@@ -1,10 +1,13 @@
 //! What is served, and its capture.
 
 ghost use Rattle.std.specs.Prelude.{◌≡◌, ◌++◌, ◌≤◌, length, IfErr, IfOk, OnOk};
+ghost use Rattle.std.specs.List.{AllByRecursion};
+ghost use Rattle.capture_format.specs.SessionFile.{MayTellAll};
 ghost use Rattle.captured_calls.specs.Sessions.{AreSessionsFrom};
 ghost use Rattle.prepare_plan.specs.Lists.{lists_of};
 ghost use Rattle.replay_cli.specs.Decision.{ToServe};
 ghost use Rattle.replay_cli.specs.Done.{IsDone, IsQuiet, capture_files};
+ghost use Rattle.replay_cli.specs.Ending.{hosting};
 ghost use Rattle.replay_cli.specs.Inside.Serving.{HostFaults, PlanFails};
 ghost use Rattle.replay_cli.specs.Lines.{served_line, short_text};
 
@@ -33,12 +36,13 @@ pub(crate) fn serving<R: Clock + Wait + Threads + Sync, H: Host, D: Door>(
     requires out { length out.now ≤ 900 }
     requires most { most ≤ 64 }
     ensures done { IfOk result (λ plan. IsDone (ToServe out.now start.now most port) plan (H.content host.old) (H.content host.new)) }
-    ensures fails { IfErr result (PlanFails (ToServe out.now start.now most port)) }
+    ensures fails { IfErr result (PlanFails (ToServe out.now start.now most port) (hosting (H.content host.old) (H.content host.new) (H.faults host.old) (H.faults host.new))) }
     ensures faults { HostFaults result (H.faults host.old) (H.faults host.new) }
 {
+    start.know_rules();
     match serve(rt, alloc, start, host, door, port, most) {
         Ok(capture) => Ok(captured(alloc, out, start, &capture)?),
-        Err(ServeErr::Failed) => Err(Failure::DeviceFault),
+        Err(ServeErr::Failed { .. }) => Err(Failure::DeviceFault),
         Err(ServeErr::Differs(finding)) => Err(Failure::Differs(finding)),
         Err(ServeErr::Memory) => Err(Failure::OutOfMemory),
     }
@@ -50,6 +54,7 @@ fn captured(alloc: Global, out: &Txt, start: &Start, capture: &Capture) -> Resul
     requires few { capture.now.connections ≤ 64 }
     requires count { length capture.now.sessions ≡ capture.now.connections }
     requires lists { AreSessionsFrom 0 (lists_of capture.now.sessions) }
+    requires told { AllByRecursion (MayTellAll start.now.schema.version) (lists_of capture.now.sessions) }
     ensures line { IfOk result (λ plan. plan.line ≡ served_line capture.now.connections capture.now.calls capture.now.short) }
     ensures quiet { IfOk result IsQuiet }
     ensures writes { IfOk result (λ plan. plan.writes ≡ capture_files out.now start.now (lists_of capture.now.sessions) capture.now.connections) }

@@ -8,17 +8,17 @@ ghost use Rattle.replay_job.specs.Replays.{IsSoundJob};
 ghost use Rattle.desk_words.specs.declared.words.Command.TheVariants.{Run as TheRun, Prepare as ThePrepare, Serve as TheServe};
 ghost use Rattle.desk_words.specs.Limits.{lane_limit};
 ghost use Rattle.desk_words.specs.Within.{HasWays, IsLaneCount, IsWithinLimits};
-ghost use Rattle.replay_cli.specs.Decision.{Decides, IsTaskOf, MayBeRefused, PrepareIn, RunIn, ServeIn, run_job};
+ghost use Rattle.replay_cli.specs.Decision.{Decides, IsTaskOf, MayBeRefused, MayRunOn, PrepareIn, RunIn, ServeIn, run_job};
 ghost use Rattle.replay_cli.specs.Inside.Work.{IsWork, legal_of, task_of};
 ghost use Rattle.captured_calls.specs.Verdict.{IsLegal};
 ghost use Rattle.replay_cli.specs.Inside.Steps.{MayFail, Step, seen_as};
 
 use crate::capture::{Legal, read_capture, test};
 use crate::failure::Failure;
-use crate::reading::{read_remap, read_start_file};
+use crate::reading::{read_remap, read_start_file, read_target};
 use desk_files::Files;
 use desk_schema::Start;
-use desk_values::{Copied, Memory, Txt};
+use desk_values::Txt;
 use desk_words::{Command, LANE_LIMIT, Ways};
 use object_depends::FactList;
 use remap_ids::Remap;
@@ -81,8 +81,9 @@ fn decide_run<F: Files>(
     let read = read_capture(alloc, capture, files)?;
     let lanes = lanes_of(&ways, read.sessions.len());
     let remap = read_remap(alloc, &ways.remap, files)?;
+    let target = read_target(&read.start, &ways.change, files)?;
     let legal = test(alloc, read)?;
-    let job = job_of(legal, remap, &ways)?;
+    let job = job_of(legal, target, remap, &ways);
     Ok(Work::Replaying(out, job, lanes))
 }
 
@@ -98,18 +99,19 @@ fn lanes_of(ways: &Ways, sessions: usize) -> u32
     }
 }
 
-/// The job of a legal capture that is replayed so, on its own start.
-fn job_of(legal: Legal, remap: Remap, ways: &Ways) -> Result<Job, Memory>
+/// The job of a legal capture that is replayed so, on this target.
+fn job_of(legal: Legal, target: Start, remap: Remap, ways: &Ways) -> Job
     requires legal { IsLegal legal.start legal.calls.items }
     requires known { AreKnownOf legal.calls.items legal.facts }
     requires moments { HasMoments legal.calls.items }
     requires ways { HasWays ways.now }
-    ensures job { IfOk result (λ job. seen job ≡ run_job (legal_of legal) remap ways.now) }
-    ensures sound { IfOk result (λ job. IsSoundJob (seen job)) }
+    requires target { MayRunOn ways.now.change legal.start target }
+    ensures job { seen result ≡ run_job (legal_of legal) target remap ways.now }
+    ensures sound { IsSoundJob (seen result) }
 {
     legal.start.know_rules();
-    let target = legal.start.copy()?;
-    Ok(Job {
+    target.know_rules();
+    Job {
         start: legal.start,
         target,
         calls: legal.calls,
@@ -118,7 +120,7 @@ fn job_of(legal: Legal, remap: Remap, ways: &Ways) -> Result<Job, Memory>
         mode: ways.mode,
         think: ways.think,
         connect: ways.connect,
-    })
+    }
 }
 
 fn decide_prepare<F: Files>(

@@ -13,11 +13,14 @@ pub enum Mode {
     Object,
     /// Every call before it in the captured order, one after the other.
     Order,
+    /// As with `Scn`, but a numbered commit waits for every call before it in the captured order: so a call is answered where
+    /// just the numbered commits are that it saw.
+    Fence,
 }
 
 impl Mode {
     /// The modes, in their order.
-    pub const ALL: [Mode; 4] = [Mode::Off, Mode::Scn, Mode::Object, Mode::Order];
+    pub const ALL: [Mode; 5] = [Mode::Off, Mode::Scn, Mode::Object, Mode::Order, Mode::Fence];
 }
 
 impl Word for Mode {
@@ -40,6 +43,7 @@ impl Word for Mode {
             Mode::Scn => "scn",
             Mode::Object => "object",
             Mode::Order => "order",
+            Mode::Fence => "fence",
         }
     }
 }

@@ -27,10 +27,12 @@ use Rattle.captured_calls.proofs.Legality.{all_stamped, plan_legal, plan_sound, 
 use Rattle.desk_schema.specs.File.{IsStart}
 use Rattle.desk_schema.specs.Sound.{IsSoundStart}
 use Rattle.desk_schema.proofs.Files.{sound_start}
+use Rattle.desk_schema.proofs.Targets.{target_itself}
+use Rattle.desk_schema.specs.Target.{IsTarget}
 use Rattle.remap_ids.specs.Services.{ServicePair}
 use Rattle.replay_history.specs.declared.mode.Mode.{Mode}
 use Rattle.replay_history.specs.declared.mode.Mode.TheVariants.{Order}
-use Rattle.replay_job.specs.Job.{AreKnownOf, HasMoments, IsKnownOf, IsTarget, JobView}
+use Rattle.replay_job.specs.Job.{AreKnownOf, HasMoments, IsKnownOf, JobView}
 use Rattle.replay_job.specs.Replays.{IsSoundJob}
 use Rattle.replay_job.specs.Jobs.{IsTrial, job_of, plain_fact}
 use Rattle.capture_format.proofs.Cuts.{all_append}
@@ -134,9 +136,6 @@ module _ (start : StartView) (lists : List (List Captured)) (plan : Preparation)
 
 -- ---- jobs
 
-same_target : (start : StartView) → IsTarget start start
-same_target start = record { rows = refl; next_row = refl; sequences = refl; next_values = λ q below. omega arith }
-
 -- a job on a start that it may be replayed on
 pub sound_on : (start target : StartView) (calls : List Captured) (facts : List Fact) (remap : List ServicePair) (mode : Mode) (think connect : ℕ)
     → IsSoundStart start → IsSoundStart target → IsTarget start target → IsLegal start calls → AreKnownOf calls facts → HasMoments calls → think ≤ 1000 → connect ≤ 1000
@@ -158,7 +157,7 @@ pub sound_job : (start target : StartView) (calls : List Captured) (facts : List
     → IsSoundJob (record { start = start; target = target; calls = calls; facts = facts; remap = remap; mode = mode; think = think; connect = connect })
 sound_job start target calls facts remap mode think connect is same legal known moments few_think few_connect =
     let sound = sound_start start is in
-    sound_on start target calls facts remap mode think connect sound (subst IsSoundStart (sym same) sound) (subst (IsTarget start) (sym same) (same_target start)) legal known moments few_think few_connect
+    sound_on start target calls facts remap mode think connect sound (subst IsSoundStart (sym same) sound) (subst (IsTarget start) (sym same) (target_itself start)) legal known moments few_think few_connect
 
 plain_known : (call : Captured) → IsKnownOf call (plain_fact call)
 plain_known call = record { session = refl; seen = refl; number = refl }
@@ -180,7 +179,7 @@ trial_sound_job captured recorded job sound legal moments is facts_are = record 
     legal = rw (is.start, is.calls) legal;
     known = rw (is.calls, facts_are) (known_plainly captured recorded legal);
     moments = rw is.calls moments;
-    target = rw (is.start, is.target) (same_target captured);
+    target = rw (is.start, is.target) (target_itself captured);
     think = omega (arith, is.think);
     connect = omega (arith, is.connect);
   };

@@ -1,9 +1,10 @@
 -- A job as contracts see it, and which jobs can be replayed.
-use Rattle.std.specs.Prelude.{◌≡◌, ℕ, ◌<◌, ◌≤◌, List, length, slice_index}
+use Rattle.std.specs.Prelude.{◌≡◌, ℕ, ◌≤◌, List, length}
 use Rattle.desk_values.specs.declared.capture.Captured.{Captured}
 use Rattle.desk_values.specs.Limits.{last_moment}
 use Rattle.desk_schema.specs.Sound.{IsSoundStart}
 use Rattle.desk_schema.specs.Start.{StartView}
+use Rattle.desk_schema.specs.Target.{IsTarget}
 use Rattle.machine_model.specs.State.{opening}
 use Rattle.machine_model.specs.Step.{Gives}
 use Rattle.replay_history.specs.declared.mode.Mode.{Mode}
@@ -32,14 +33,6 @@ pub record JobView : Type 0 where
 -- all of a job but its room to spare
 abbrev pub seen : Job → JobView
 seen job = record { start = job.start; target = job.target; calls = job.calls.items; facts = job.facts; remap = job.remap; mode = job.mode; think = job.think; connect = job.connect }
-
--- a replay may begin with the second start in the place of the first: its rows and the number of its next row are the same, and no
--- sequence is behind
-pub record IsTarget (start target : StartView) : Type 0 where
-  pub rows : target.rows ≡ start.rows
-  pub next_row : target.next_row ≡ start.next_row
-  pub sequences : length target.next_values ≡ length start.next_values
-  pub next_values : (q : ℕ) → q < length start.next_values → slice_index start.next_values q ≤ slice_index target.next_values q
 
 -- what is known of a call agrees with it
 pub record IsKnownOf (call : Captured) (fact : Fact) : Type 0 where

@@ -4,11 +4,12 @@ ghost use Rattle.std.specs.Prelude.{◌≡◌, ◌≤◌, ℕ, List, Ok, length,
 ghost use Rattle.desk_values.specs.declared.capture.Captured.{Captured};
 ghost use Rattle.desk_schema.specs.Sound.{IsSoundStart};
 ghost use Rattle.desk_schema.specs.Start.{StartView};
+ghost use Rattle.desk_schema.specs.Target.{IsTarget};
 ghost use Rattle.replay_history.specs.declared.mode.Mode.{Mode};
 ghost use Rattle.remap_ids.specs.Services.{ServicePair};
 ghost use Rattle.captured_calls.specs.Sessions.{AreSessionsFrom};
 ghost use Rattle.captured_calls.specs.Verdict.{IsLegal, Preparation, verdict};
-ghost use Rattle.replay_job.specs.Job.{HasMoments, IsTarget, JobView};
+ghost use Rattle.replay_job.specs.Job.{HasMoments, JobView};
 ghost use Rattle.replay_job.specs.Replays.{IsSoundJob};
 ghost use Rattle.replay_job.specs.Jobs.{IsTrial, job_of, plain_fact};
 

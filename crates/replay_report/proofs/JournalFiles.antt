@@ -16,7 +16,7 @@ use Rattle.file_lines.proofs.Forms.{AreLines, IsSound, state_after, file_has_lin
 use Rattle.capture_format.proofs.Alphabet.{text_decimal, text_reply, text_then, text_word}
 use Rattle.capture_format.proofs.SessionTexts.{visible_all}
 use Rattle.replay_history.specs.declared.mode.Mode.{Mode}
-use Rattle.replay_history.specs.declared.mode.Mode.TheVariants.{Off, Scn, Object, Order}
+use Rattle.replay_history.specs.declared.mode.Mode.TheVariants.{Off, Scn, Object, Order, Fence}
 use Rattle.replay_history.specs.Texts.{event_text, journal_text, line}
 use Rattle.replay_job.specs.Events.{IsEvent}
 use Rattle.replay_report.specs.declared.journal.Journal.{Journal}
@@ -35,6 +35,7 @@ lacks (Head Off) fits = visible_all (codes "journal 1 off") (text_word (codes "j
 lacks (Head Scn) fits = visible_all (codes "journal 1 scn") (text_word (codes "journal 1 scn") refl)
 lacks (Head Object) fits = visible_all (codes "journal 1 object") (text_word (codes "journal 1 object") refl)
 lacks (Head Order) fits = visible_all (codes "journal 1 order") (text_word (codes "journal 1 order") refl)
+lacks (Head Fence) fits = visible_all (codes "journal 1 fence") (text_word (codes "journal 1 fence") refl)
 lacks (Event (Start k pause)) fits = visible_all (codes "s " ++ (decimal k ++ 32 ∷ decimal pause)) (text_then (codes "s ") (decimal k ++ 32 ∷ decimal pause) (text_word (codes "s ") refl) (text_then (decimal k) (32 ∷ decimal pause) (text_decimal k (omega (arith, fits.0))) (refl, text_decimal pause fits.1)))
 lacks (Event (Answer k reply)) fits = visible_all (codes "a " ++ (decimal k ++ 32 ∷ reply_text reply)) (text_then (codes "a ") (decimal k ++ 32 ∷ reply_text reply) (text_word (codes "a ") refl) (text_then (decimal k) (32 ∷ reply_text reply) (text_decimal k (omega (arith, fits.0))) (refl, text_reply reply fits.1)))
 lacks End fits = visible_all (codes "end") (text_word (codes "end") refl)

@@ -1,4 +1,5 @@
 pub mod Range
+pub mod Quotients
 pub mod Condition
 pub mod Mapped
 pub mod Inputs

@@ -48,3 +48,5 @@ given_twice by (tree.delete table condition) = refl
 given_twice by tree.commit = refl
 given_twice by tree.rollback = refl
 given_twice by tree.set_read_only = refl
+given_twice by (tree.savepoint name) = refl
+given_twice by (tree.rollback_to name) = refl

@@ -20,11 +20,10 @@ pub computed_is_number : (r : Option ℤ) (z : ℤ) → SomeIff r (FitsSigned w6
 computed_is_number None z h = rw (out_of_range z h)
 computed_is_number (Some n) z h = rw (in_range z h.0) (ap (λ m. Ok (Int m)) h.1)
 
-not_zero : (b : ℤ) → FitsSigned w64 b → is_zero b ≡ false → IsNonZero w64 b
+pub not_zero : (b : ℤ) → FitsSigned w64 b → is_zero b ≡ false → IsNonZero w64 b
 not_zero (pos zero) f h = absurd (cc h)
 not_zero (pos (suc n)) f h = omega arith
 not_zero (negsuc n) f h = let bound : n < 2 ^ 63 = f.sfits in omega (arith, bound)
 
-pub quotient_is_number : (r : Option ℤ) (a b : ℤ) → FitsSigned w64 b → is_zero b ≡ false → SomeIff r (CanDivide w64 a b) (int_div a b) → computed_of r ≡ number (int_div a b)
-quotient_is_number None a b f n h = rw (out_of_range (int_div a b) (λ q. h (not_zero b f n, q)))
-quotient_is_number (Some q) a b f n h = rw (in_range (int_div a b) h.0.1) (ap (λ m. Ok (Int m)) h.1)
+pub number_past : (z : ℤ) → (FitsSigned w64 z → ⊥) → computed_of None ≡ number z
+number_past z h = rw (out_of_range z h)

@@ -194,3 +194,5 @@ kinds_agree columns binds (plain.delete table condition) = is_where columns bind
 kinds_agree columns binds plain.commit = true
 kinds_agree columns binds plain.rollback = true
 kinds_agree columns binds plain.set_read_only = true
+kinds_agree columns binds (plain.savepoint name) = true
+kinds_agree columns binds (plain.rollback_to name) = true

@@ -1,5 +1,5 @@
 -- Laws of the values and truths of expressions.
-use Rattle.std.specs.Prelude.{ℕ, ◌≡◌, true, ◌||◌, List, Some, Ok, slice_get}
+use Rattle.std.specs.Prelude.{ℕ, ◌≡◌, ◌<◌, ℤ, pos, negsuc, ◌-ℤ◌, ◌*ℤ◌, ◌≤ℤ◌, ◌<ℤ◌, unsigned_abs, true, false, ◌||◌, List, Some, Ok, slice_get}
 use Rattle.std.specs.Option.{unwrap_or}
 use Rattle.std.specs.Result.{result_err}
 use Rattle.desk_values.specs.declared.value.Value.{Value}
@@ -15,7 +15,7 @@ use Rattle.sql_eval.specs.Kinds.{is_taken, kind_at, kind_of, kind_of_value}
 use Rattle.sql_eval.specs.Logic.{negation, conjunction, disjunction}
 use Rattle.sql_tree.specs.Plain.{Term}
 use Rattle.sql_tree.specs.Plain as term
-use Rattle.sql_eval.specs.Value.{is_null_value, truth_value, value_of}
+use Rattle.sql_eval.specs.Value.{is_null_value, is_zero, quotient, truth_value, value_of}
 use Rattle.sql_eval.specs.Faults.{condition_parts, fault_among, parts}
 
 -- a row of a truth table: what a connective makes of a truth and of True, False and Unknown
@@ -109,3 +109,23 @@ UnknownMeansNull = (level row : ℕ) (columns : List Column) (values binds : Lis
     → kind_of columns binds (term.bin op a b) ≡ Some Condition → value_of level row values binds a ≡ Ok v
     → value_of level row values binds b ≡ Ok w
     → truth_value level row values binds (term.bin op a b) ≡ Ok Unknown → (is_null_value v || is_null_value w) ≡ true
+
+-- ---- division
+
+-- what is left over of a dividend is less than the divisor, and on the dividend's side of 0
+abbrev pub IsRestOf : ℤ → ℤ → ℤ → Type 0
+IsRestOf (pos a) b rest = (pos 0 ≤ℤ rest) × (unsigned_abs rest < unsigned_abs b)
+IsRestOf (negsuc a) b rest = (rest ≤ℤ pos 0) × (unsigned_abs rest < unsigned_abs b)
+
+-- level 1 divides toward 0
+abbrev pub RoundsTowardZero : Type 0
+RoundsTowardZero = (a b : ℤ) → is_zero b ≡ false → IsRestOf a b (a -ℤ quotient 1 a b *ℤ b)
+
+-- what is left over is less than the divisor, and on the divisor's side of 0
+abbrev pub IsRestBelow : ℤ → ℤ → Type 0
+IsRestBelow (pos b) rest = (pos 0 ≤ℤ rest) × (rest <ℤ pos b)
+IsRestBelow (negsuc b) rest = (negsuc b <ℤ rest) × (rest ≤ℤ pos 0)
+
+-- level 2 divides toward minus infinity
+abbrev pub RoundsDown : Type 0
+RoundsDown = (a b : ℤ) → is_zero b ≡ false → IsRestBelow b (a -ℤ quotient 2 a b *ℤ b)

@@ -29,6 +29,8 @@ table_of (source.delete table condition) = Some table
 table_of source.commit = None
 table_of source.rollback = None
 table_of source.set_read_only = None
+table_of (source.savepoint name) = None
+table_of (source.rollback_to name) = None
 
 -- the statement's table is one that there is not
 abbrev pub is_unknown_table : List Table → Option (List ℕ) → Bool

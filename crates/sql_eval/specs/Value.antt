@@ -1,5 +1,5 @@
--- The value of an expression for one row, and the truth of a condition. Division is told at level 1 alone so far.
-use Rattle.std.specs.Prelude.{ℕ, ◌-◌, ◌^◌, ℤ, pos, negsuc, ◌+ℤ◌, ◌-ℤ◌, ◌*ℤ◌, neg_ℤ, int_div, Bool, true, false, not, nat_eq, nat_lt, if◌then◌else◌, List, Option, None, Some, Result, Ok, Err, slice_get}
+-- The value of an expression for one row, and the truth of a condition.
+use Rattle.std.specs.Prelude.{ℕ, suc, ◌-◌, ◌^◌, ℤ, pos, negsuc, ◌+ℤ◌, ◌-ℤ◌, ◌*ℤ◌, neg_ℤ, int_div, int_rem, Bool, true, false, ◌&&◌, not, ◌==◌, nat_eq, nat_lt, if◌then◌else◌, List, Option, None, Some, Result, Ok, Err, slice_get}
 use Rattle.std.specs.Option.{option_map, unwrap_or}
 use Rattle.std.specs.Ordering.{is_lt, is_le, is_gt, is_ge}
 use Rattle.desk_values.specs.declared.value.Value.{Value}
@@ -50,9 +50,15 @@ abbrev pub is_zero : ℤ → Bool
 is_zero (pos n) = nat_eq n 0
 is_zero (negsuc n) = false
 
--- level 1 drops what is behind the point
+-- what is left over is on the other side of 0 than the divisor
+abbrev pub is_across : ℤ → ℤ → Bool
+is_across (pos b) (negsuc r) = true
+is_across (negsuc b) (pos (suc r)) = true
+is_across b r = false
+
+-- level 1 rounds toward 0, level 2 toward minus infinity
 abbrev pub quotient : ℕ → ℤ → ℤ → ℤ
-quotient level a b = int_div a b
+quotient level a b = if level == 2 && is_across b (int_rem a b) then int_div a b -ℤ pos 1 else int_div a b
 
 -- arithmetic with two numbers; a divisor 0 is told before the range
 abbrev pub of_numbers : ℕ → Op → ℤ → ℤ → Result Value Fault

@@ -3,7 +3,7 @@
 
 ghost use Rattle.sql_tree.specs.declared.tree.Op.TheVariants.{And, Or};
 ghost use Rattle.sql_eval.specs.CheckLaws.{LowestRankIsTold, NothingIsOverlooked};
-ghost use Rattle.sql_eval.specs.Laws.{AreStandardTables, GoesByTable, NotGoesByTable, NullIsNull, NullIsUnknown, TruthFaultIsAmongParts, UnknownMeansNull, ValueFaultIsAmongParts, ValueHasItsKind};
+ghost use Rattle.sql_eval.specs.Laws.{AreStandardTables, GoesByTable, NotGoesByTable, NullIsNull, NullIsUnknown, RoundsDown, RoundsTowardZero, TruthFaultIsAmongParts, UnknownMeansNull, ValueFaultIsAmongParts, ValueHasItsKind};
 ghost use Rattle.sql_eval.specs.Logic.{conjunction, disjunction};
 ghost use Rattle.sql_eval.specs.TotalLaws.{MaxIsGreatest, MinIsLeast, TotalIgnoresOrder};
 
@@ -40,6 +40,13 @@ pub fn faults_of_parts()
 pub fn values_have_their_kind()
     ensures value { ValueHasItsKind }
     ensures unknown { UnknownMeansNull }
+{}
+
+/// A quotient by a number that is not 0 is the one next to the exact value: at level 1 on the side of 0, at level 2 on
+/// that of minus infinity.
+pub fn quotients_round()
+    ensures toward_zero { RoundsTowardZero }
+    ensures down { RoundsDown }
 {}
 
 /// Totals are what they say, in whatever order the rows stand: MIN and MAX are a value of their part that is at most, or

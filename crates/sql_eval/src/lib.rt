@@ -25,8 +25,8 @@ pub use checks::check;
 pub use error::{CheckErr, EvalErr};
 pub use faults::Faults;
 pub use laws::{
-    faults_by_rank, faults_of_parts, null_operands, three_valued_logic, totals_of_rows,
-    values_have_their_kind,
+    faults_by_rank, faults_of_parts, null_operands, quotients_round, three_valued_logic,
+    totals_of_rows, values_have_their_kind,
 };
 pub use logic::Truth;
 pub use ready::{

@@ -221,5 +221,7 @@ pub(crate) fn keeps_kinds(scope: Scope<'_>, binds: &Binds, ready: &Ready) -> boo
         Ready::Commit => true,
         Ready::Rollback => true,
         Ready::SetReadOnly => true,
+        Ready::Savepoint(_) => true,
+        Ready::RollbackTo(_) => true,
     }
 }

@@ -27,6 +27,8 @@ fn table_name(statement: &Statement) -> Option<&Txt>
         Statement::Commit => None,
         Statement::Rollback => None,
         Statement::SetReadOnly => None,
+        Statement::Savepoint(_) => None,
+        Statement::RollbackTo(_) => None,
     }
 }
 

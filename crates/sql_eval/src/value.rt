@@ -18,7 +18,7 @@ use std::alloc::Global;
 /// The value of an expression for one row: Null, or of the kind that the checks gave the expression.
 ///
 /// `level` is the level of the rules of values. Texts compare by [`text_order`](desk_values::text_order) of that level.
-/// Division truncates toward zero, at whatever level: so far only level 1 is told of it.
+/// Division rounds toward minus infinity at level 2, else toward zero.
 ///
 /// `row` is the id of the row. `values` are those of the columns that `e` was checked for, and `binds` are those that it
 /// was checked with; one that is not there is Null. A condition has no value but a truth, which [`truth_of`] gives; here

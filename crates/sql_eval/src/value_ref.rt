@@ -1,7 +1,7 @@
 //! Operators on values that are looked at and not copied.
 
-ghost use Rattle.std.specs.Prelude.{◌≡◌};
-ghost use Rattle.sql_eval.specs.Value.{both, worse, of_numbers, arithmetic, minus, comparison, is_null_value};
+ghost use Rattle.std.specs.Prelude.{◌≡◌, false};
+ghost use Rattle.sql_eval.specs.Value.{both, worse, number, is_zero, is_across, quotient, of_numbers, arithmetic, minus, comparison, is_null_value};
 ghost use Rattle.desk_values.specs.Comparison.{value_equal, value_order};
 ghost use Rattle.sql_eval.specs.Inside.ValueRef.{ref_value, ref_outcome, ref_pair, computed_of};
 
@@ -66,18 +66,38 @@ fn computed<'a>(number: Option<i64>) -> Result<ValueRef<'a>, Fault>
     Ok(ValueRef::Int(number))
 }
 
+/// What is left over is on the other side of 0 than the divisor.
+#[tactic(auto, using(crate::proofs::Quotients::across_below, crate::proofs::Quotients::across_above))]
+fn is_across(divisor: i64, rest: i64) -> bool
+    ensures { result ≡ is_across divisor rest }
+{
+    if divisor < 0 { rest > 0 } else { rest < 0 }
+}
+
+/// The quotient by a number that is not 0, where it is within 64 bits.
+fn quotient_of(level: u32, left: i64, right: i64) -> Option<i64>
+    ensures { is_zero right ≡ false → computed_of result ≡ number (quotient level left right) }
+{
+    let quotient = left.checked_div(right)?;
+    let rest = left.checked_rem(right)?;
+    if level == 2 && is_across(right, rest) {
+        quotient.checked_sub(1)
+    } else {
+        Some(quotient)
+    }
+}
+
 /// `+ - * /` of two numbers.
-#[tactic(auto, using(crate::proofs::Range::computed_is_number, crate::proofs::Range::quotient_is_number))]
+#[tactic(auto, using(crate::proofs::Range::computed_is_number))]
 fn number_arithmetic<'a>(level: u32, op: Op, left: i64, right: i64) -> Result<ValueRef<'a>, Fault>
     ensures { ref_outcome result ≡ of_numbers level op left right }
 {
-    let _ = level;
     match op {
         Op::Add => computed(left.checked_add(right)),
         Op::Sub => computed(left.checked_sub(right)),
         Op::Mul => computed(left.checked_mul(right)),
         Op::Div if right == 0 => Err(Fault::ZeroDivisor),
-        Op::Div => computed(left.checked_div(right)),
+        Op::Div => computed(quotient_of(level, left, right)),
         _ => Ok(ValueRef::Null),
     }
 }

@@ -27,6 +27,9 @@ body_asks (g.delete_ condition) = tt
 body_asks g.commit_ = tt
 body_asks g.rollback_ = tt
 body_asks g.set_read_only_ = tt
+body_asks g.savepoint_ = tt
+body_asks g.rollback_to_ = tt
+body_asks g.rollback_to_savepoint_ = tt
 
 statement_asks : {ts : List Token} {plan : Plan Name} → IsStatementOf ts plan → AsksIfSelect plan
 statement_asks (g.bare is) = body_asks is

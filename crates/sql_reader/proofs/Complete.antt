@@ -8,9 +8,9 @@ use Rattle.desk_values.specs.declared.keyword.Keyword.TheVariants as word
 use Rattle.sql_reader.specs.declared.token.Sign.TheVariants as sign
 use Rattle.sql_reader.specs.declared.token.Token.{Token}
 use Rattle.sql_reader.specs.declared.token.Token.TheVariants as token
-use Rattle.sql_tree.specs.Plain.{Term, neg, not, bin, is_null, not_null, Name, Total, Entry, Change, Asked, columns, values, totals, Plan, select, next, insert, update, delete, plan_of}
+use Rattle.sql_tree.specs.Plain.{Term, neg, not, bin, is_null, not_null, Name, Total, Entry, Change, Asked, columns, values, totals, Plan, select, next, insert, update, delete, rollback, savepoint, rollback_to, plan_of}
 use Rattle.sql_reader.specs.Grammar.{looseness, line_of, operator_token, Parses, conjunction, or_, negation, and_, comparison, not_, sum_, compare_, is_null_, not_null_, product, add_, factor, multiply_, primary, minus_, number, string, null_, bind_, name, rowid_, parentheses, IsExpression, Joined, IsList, IsName, IsKey, IsAggregate, IsInput, IsSetting, IsWhere, IsOrder, IsForUpdate, IsSelection, IsColumns, IsBody, IsStatementOf}
-use Rattle.sql_reader.specs.Reading.{after_word, operator_at, more_at, chain_at, null_test, primary_in, factor_in, compared_in, comparison_in, negation_in, inner_at, part_at, expression_at, after_sign, list_at, name_at, key_at, enclosed_at, counted_at, aggregate_at, draw_at, input_at, setting_at, where_at, order_at, for_update_at, from_at, is_aggregate_word, begins_aggregate, aggregates_at, rows_at, listed_at, dual_at, items_at, select_at, columns_at, inputs_at, insert_at, update_at, delete_at, set_at, body_at, without_semicolon, only_if_empty, statement_at, statement_of, scanned}
+use Rattle.sql_reader.specs.Reading.{after_word, operator_at, more_at, chain_at, null_test, primary_in, factor_in, compared_in, comparison_in, negation_in, inner_at, part_at, expression_at, after_sign, list_at, name_at, key_at, enclosed_at, counted_at, aggregate_at, draw_at, input_at, setting_at, where_at, order_at, for_update_at, from_at, is_aggregate_word, begins_aggregate, aggregates_at, rows_at, listed_at, dual_at, items_at, select_at, columns_at, inputs_at, insert_at, update_at, delete_at, set_at, to_at, rollback_at, savepoint_at, body_at, without_semicolon, only_if_empty, statement_at, statement_of, scanned}
 use Rattle.sql_reader.proofs.Firsts.{after_word_self, after_sign_self, operator_complete, operator_none, rank, rank_operator, no_is, begins_primary, begins_factor, begins_negation, no_minus, no_not, factor_from_primary, negation_from_factor}
 use Rattle.std.specs.List.{list_all}
 use Rattle.std.proofs.lemmas.Bool.{and_from, and_parts}
@@ -650,6 +650,23 @@ select_draw : (n : List ℕ) (rest : List Token) → select_at (token.Name n ∷
 unfolding select_at dual_at
 select_draw n rest = rw (draw_one n (token.Word word.From ∷ token.Word word.Dual ∷ rest), after_word_self word.From (token.Word word.Dual ∷ rest), after_word_self word.Dual rest) refl
 
+rollback_again : {rest : List Token} → Final rest → rollback_at rest ≡ Some (rollback, rest)
+unfolding rollback_at
+rollback_again {rest} final = rw (no_word_final word.To final) refl
+
+savepoint_again : (n : List ℕ) (rest : List Token) → savepoint_at (token.Name n ∷ rest) ≡ Some (savepoint n, rest)
+unfolding savepoint_at
+savepoint_again n rest = rw (name_at_name n rest) refl
+
+to_again : (n : List ℕ) (rest : List Token) → rollback_at (token.Word word.To ∷ token.Name n ∷ rest) ≡ Some (rollback_to n, rest)
+unfolding rollback_at to_at after_word
+to_again n rest = rw (name_at_name n rest) refl
+
+to_savepoint_again : (n : List ℕ) (rest : List Token)
+    → rollback_at (token.Word word.To ∷ token.Word word.Savepoint ∷ token.Name n ∷ rest) ≡ Some (rollback_to n, rest)
+unfolding rollback_at to_at after_word
+to_savepoint_again n rest = rw (name_at_name n rest) refl
+
 body_again : {ts : List Token} {s : Plan Name} → IsBody ts s → {rest : List Token} → Final rest → body_at (ts ++ rest) ≡ Some (s, rest)
 unfolding body_at set_at after_word
 body_again (g.select_ {ts = ts} {ws = ws} {os = os} {fs = fs} {items = items} {table = table} {condition = condition} {keys = keys} {for_update = held} i w o f) {rest} final =
@@ -666,8 +683,11 @@ body_again (g.update_ {ss = ss} {ws = ws} {table = table} {settings = settings} 
     ap (λ (z : List Token). update_at (token.Name table ∷ token.Word word.Set ∷ z)) (append_assoc ss ws rest) ∙ update_again table ss ws settings condition rest l w final
 body_again (g.delete_ {ws = ws} {table = table} {condition = condition} w) {rest} final = delete_again table ws condition rest w final
 body_again g.commit_ final = refl
-body_again g.rollback_ final = refl
+body_again g.rollback_ final = rollback_again final
 body_again g.set_read_only_ final = refl
+body_again (g.savepoint_ {n = n}) {rest} final = savepoint_again n rest
+body_again (g.rollback_to_ {n = n}) {rest} final = to_again n rest
+body_again (g.rollback_to_savepoint_ {n = n}) {rest} final = to_savepoint_again n rest
 
 finishes : (ts : List Token) (s : Plan Name) (rest : List Token) → body_at ts ≡ Some (s, rest) → only_if_empty s (without_semicolon rest) ≡ Some s → statement_at ts ≡ Some s
 unfolding statement_at

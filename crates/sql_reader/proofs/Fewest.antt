@@ -212,6 +212,9 @@ body_few (g.delete_ w) = omega (arith, where_few w)
 body_few g.commit_ = omega arith
 body_few g.rollback_ = omega arith
 body_few g.set_read_only_ = omega arith
+body_few g.savepoint_ = omega arith
+body_few g.rollback_to_ = omega arith
+body_few g.rollback_to_savepoint_ = omega arith
 
 pub statement_few : {ts : List Token} {s : Plan Name} → IsStatementOf ts s → opened (statement_tokens s) ≤ opened ts
 statement_few (g.bare b) = body_few b

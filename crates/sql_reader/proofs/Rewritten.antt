@@ -470,6 +470,9 @@ body_of (g.delete_ w) = (let sw = where_of w in record { reads = g.delete_ sw.re
 body_of g.commit_ = record { reads = g.commit_; are = λ a. a }
 body_of g.rollback_ = record { reads = g.rollback_; are = λ a. a }
 body_of g.set_read_only_ = record { reads = g.set_read_only_; are = λ a. a }
+body_of g.savepoint_ = record { reads = g.savepoint_; are = λ a. a }
+body_of g.rollback_to_ = record { reads = g.rollback_to_; are = λ a. a }
+body_of g.rollback_to_savepoint_ = record { reads = g.rollback_to_; are = λ a. (a.0, (a.1.0, a.1.1.1)) }
 
 statement_of : {ts : List Token} {s : Plan Name} → IsStatementOf ts s → Again IsBody statement_tokens ts s
 statement_of (g.bare b) = body_of b

@@ -9,10 +9,10 @@ use Rattle.desk_values.specs.declared.keyword.Keyword.TheVariants as word
 use Rattle.sql_reader.specs.declared.token.Sign.TheVariants as sign
 use Rattle.sql_reader.specs.declared.token.Token.{Token}
 use Rattle.sql_reader.specs.declared.token.Token.TheVariants as token
-use Rattle.sql_tree.specs.Plain.{Term, null, int, text, bind, column, rowid, neg, not, bin, is_null, not_null, Name, Total, count, total, least, greatest, value, drawn, Change, Entry, Asked, columns, values, totals, Plan, select, next, insert, update, delete, commit, rollback, set_read_only}
+use Rattle.sql_tree.specs.Plain.{Term, null, int, text, bind, column, rowid, neg, not, bin, is_null, not_null, Name, Total, count, total, least, greatest, value, drawn, Change, Entry, Asked, columns, values, totals, Plan, select, next, insert, update, delete, commit, rollback, set_read_only, savepoint, rollback_to}
 use Rattle.sql_reader.specs.Grammar.{line_of, operator_token, Parses, conjunction, or_, negation, and_, comparison, not_, sum_, compare_, is_null_, not_null_, product, add_, factor, multiply_, primary, minus_, number, string, null_, bind_, name, rowid_, parentheses, IsExpression, Joined, IsList, IsName, IsKey, IsAggregate, IsInput, IsSetting, IsWhere, IsOrder, IsForUpdate, IsSelection, IsColumns, IsBody, IsStatementOf}
 use Rattle.desk_values.specs.Reading.{◌>>=◌}
-use Rattle.sql_reader.specs.Reading.{cases, after_word, after_sign, operator_at, more_at, chain_at, null_test, primary_in, factor_in, product_in, sum_in, compared_in, comparison_in, negation_in, conjunction_in, disjunction_in, part_in, inner_at, part_at, expression_at, list_at, name_at, key_at, enclosed_at, counted_at, made_of, aggregate_at, draw_at, input_at, setting_at, where_at, order_at, for_update_at, from_at, begins_aggregate, aggregates_at, rows_at, listed_at, dual_at, items_at, select_at, columns_at, inputs_at, insert_at, update_at, delete_at, set_at, body_at, without_semicolon, only_if_empty, statement_at}
+use Rattle.sql_reader.specs.Reading.{cases, after_word, after_sign, operator_at, more_at, chain_at, null_test, primary_in, factor_in, product_in, sum_in, compared_in, comparison_in, negation_in, conjunction_in, disjunction_in, part_in, inner_at, part_at, expression_at, list_at, name_at, key_at, enclosed_at, counted_at, made_of, aggregate_at, draw_at, input_at, setting_at, where_at, order_at, for_update_at, from_at, begins_aggregate, aggregates_at, rows_at, listed_at, dual_at, items_at, select_at, columns_at, inputs_at, insert_at, update_at, delete_at, set_at, to_at, rollback_at, savepoint_at, body_at, without_semicolon, only_if_empty, statement_at}
 use Rattle.sql_reader.proofs.Options.{bind_then, some, nothing_is, cases_are}
 use Rattle.sql_reader.proofs.Firsts.{after_word_is, after_sign_is, operator_sound}
 use Rattle.sql_tree.specs.declared.tree.Key.{Key}
@@ -575,6 +575,47 @@ set_sound ts s rest h =
       reads = g.set_read_only_;
     }))))
 
+savepoint_sound : (ts : List Token) (s : Plan Name) (rest : List Token) → savepoint_at ts ≡ Some (s, rest) → FrontOf IsBody (token.Word word.Savepoint ∷ ts) s rest
+unfolding savepoint_at
+savepoint_sound ts s rest h =
+    bind_then (name_at ts) (λ x. Some (savepoint x.0, x.1)) (s, rest) h (λ x ex e1.
+    got (savepoint x.0) x.1 s rest e1 (record {
+      taken = token.Word word.Savepoint ∷ token.Name x.0 ∷ [];
+      parts = ap (λ (z : List Token). token.Word word.Savepoint ∷ z) (name_is ts x.0 x.1 ex);
+      reads = g.savepoint_;
+    }))
+
+abbrev plan_pair : Plan Name → List Token → Plan Name × List Token
+plan_pair s rest = (s, rest)
+
+to_either : (ts : List Token) (s : Plan Name) (rest : List Token) (o : Option (List Token)) → after_word word.Savepoint ts ≡ o → (name_at (cases o ts (λ q. q)) >>= λ x. Some (plan_pair (rollback_to x.0) x.1)) ≡ some (plan_pair s rest) → FrontOf IsBody (token.Word word.Rollback ∷ token.Word word.To ∷ ts) s rest
+to_either ts s rest None eo h =
+    bind_then (name_at ts) (λ x. Some (plan_pair (rollback_to x.0) x.1)) (plan_pair s rest) h (λ x ex e1.
+    got (rollback_to x.0) x.1 s rest e1 (record {
+      taken = token.Word word.Rollback ∷ token.Word word.To ∷ token.Name x.0 ∷ [];
+      parts = ap (λ (z : List Token). token.Word word.Rollback ∷ token.Word word.To ∷ z) (name_is ts x.0 x.1 ex);
+      reads = g.rollback_to_;
+    }))
+to_either ts s rest (Some q) eo h =
+    bind_then (name_at q) (λ x. Some (plan_pair (rollback_to x.0) x.1)) (plan_pair s rest) h (λ x ex e1.
+    got (rollback_to x.0) x.1 s rest e1 (record {
+      taken = token.Word word.Rollback ∷ token.Word word.To ∷ token.Word word.Savepoint ∷ token.Name x.0 ∷ [];
+      parts = ap (λ (z : List Token). token.Word word.Rollback ∷ token.Word word.To ∷ z) (after_word_is word.Savepoint ts q eo ∙ ap (λ (z : List Token). token.Word word.Savepoint ∷ z) (name_is q x.0 x.1 ex));
+      reads = g.rollback_to_savepoint_;
+    }))
+
+to_sound : (ts : List Token) (s : Plan Name) (rest : List Token) → to_at ts ≡ Some (s, rest) → FrontOf IsBody (token.Word word.Rollback ∷ token.Word word.To ∷ ts) s rest
+unfolding to_at
+to_sound ts s rest h = to_either ts s rest (after_word word.Savepoint ts) refl h
+
+rollback_either : (ts : List Token) (s : Plan Name) (rest : List Token) (o : Option (List Token)) → after_word word.To ts ≡ o → cases o (some (plan_pair rollback ts)) (λ q. to_at q) ≡ some (plan_pair s rest) → FrontOf IsBody (token.Word word.Rollback ∷ ts) s rest
+rollback_either ts s rest None eo h = got rollback ts s rest h (record { taken = token.Word word.Rollback ∷ []; parts = refl; reads = g.rollback_ })
+rollback_either ts s rest (Some q) eo h = subst (λ (z : List Token). FrontOf IsBody (token.Word word.Rollback ∷ z) s rest) (sym (after_word_is word.To ts q eo)) (to_sound q s rest h)
+
+rollback_sound : (ts : List Token) (s : Plan Name) (rest : List Token) → rollback_at ts ≡ Some (s, rest) → FrontOf IsBody (token.Word word.Rollback ∷ ts) s rest
+unfolding rollback_at
+rollback_sound ts s rest h = rollback_either ts s rest (after_word word.To ts) refl h
+
 body_sound : SoundOf body_at IsBody
 unfolding body_at
 body_sound (token.Word word.Select ∷ ts) s rest h = select_sound ts s rest h
@@ -582,7 +623,8 @@ body_sound (token.Word word.Insert ∷ ts) s rest h = insert_sound ts s rest h
 body_sound (token.Word word.Update ∷ ts) s rest h = update_sound ts s rest h
 body_sound (token.Word word.Delete ∷ ts) s rest h = delete_sound ts s rest h
 body_sound (token.Word word.Commit ∷ ts) s rest h = got commit ts s rest h (record { taken = token.Word word.Commit ∷ []; parts = refl; reads = g.commit_ })
-body_sound (token.Word word.Rollback ∷ ts) s rest h = got rollback ts s rest h (record { taken = token.Word word.Rollback ∷ []; parts = refl; reads = g.rollback_ })
+body_sound (token.Word word.Rollback ∷ ts) s rest h = rollback_sound ts s rest h
+body_sound (token.Word word.Savepoint ∷ ts) s rest h = savepoint_sound ts s rest h
 body_sound (token.Word word.Set ∷ ts) s rest h = set_sound ts s rest h
 body_sound other s rest h = nothing_is (s, rest) h
 

@@ -11,7 +11,7 @@ use Rattle.desk_values.specs.declared.keyword.Keyword.TheVariants as word
 use Rattle.sql_reader.specs.declared.token.Sign.TheVariants as sign
 use Rattle.sql_reader.specs.declared.token.Token.{Token}
 use Rattle.sql_reader.specs.declared.token.Token.TheVariants as token
-use Rattle.sql_tree.specs.Plain.{Term, null, int, text, bind, column, rowid, neg, not, bin, is_null, not_null, Total, count, total, least, greatest, Entry, value, drawn, Change, Asked, columns, values, totals, Plan, select, next, insert, update, delete, commit, rollback, set_read_only, Name}
+use Rattle.sql_tree.specs.Plain.{Term, null, int, text, bind, column, rowid, neg, not, bin, is_null, not_null, Total, count, total, least, greatest, Entry, value, drawn, Change, Asked, columns, values, totals, Plan, select, next, insert, update, delete, commit, rollback, set_read_only, savepoint, rollback_to, Name}
 
 -- the part of an expression in which the operator stands
 abbrev pub line_of : Op → Part
@@ -208,6 +208,10 @@ pub data IsBody : List Token → Plan Name → Type 0 where
   rollback_ : IsBody (token.Word word.Rollback ∷ []) rollback
   set_read_only_ : IsBody
       (token.Word word.Set ∷ token.Word word.Transaction ∷ token.Word word.Read ∷ token.Word word.Only ∷ []) set_read_only
+  savepoint_ : {n : List ℕ} → IsBody (token.Word word.Savepoint ∷ token.Name n ∷ []) (savepoint n)
+  rollback_to_ : {n : List ℕ} → IsBody (token.Word word.Rollback ∷ token.Word word.To ∷ token.Name n ∷ []) (rollback_to n)
+  rollback_to_savepoint_ : {n : List ℕ}
+      → IsBody (token.Word word.Rollback ∷ token.Word word.To ∷ token.Word word.Savepoint ∷ token.Name n ∷ []) (rollback_to n)
 
 -- a statement, with or without a semicolon at its end
 pub data IsStatementOf : List Token → Plan Name → Type 0 where

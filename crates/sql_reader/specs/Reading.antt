@@ -21,7 +21,7 @@ use Rattle.sql_tree.specs.declared.tree.Op.{Op}
 use Rattle.sql_reader.specs.declared.part.Part.{Part}
 use Rattle.sql_reader.specs.declared.part.Part.TheVariants.{Disjunction, Conjunction, Negation, Comparison, Sum, Product, Factor, Primary}
 use Rattle.desk_values.specs.declared.keyword.Keyword.TheVariants as word
-use Rattle.sql_tree.specs.Plain.{Term, null, int, text, bind, column, rowid, neg, not, bin, is_null, not_null, Name, Total, count, total, least, greatest, Entry, value, drawn, Change, Asked, columns, values, totals, Plan, select, next, insert, update, delete, commit, rollback, set_read_only}
+use Rattle.sql_tree.specs.Plain.{Term, null, int, text, bind, column, rowid, neg, not, bin, is_null, not_null, Name, Total, count, total, least, greatest, Entry, value, drawn, Change, Asked, columns, values, totals, Plan, select, next, insert, update, delete, commit, rollback, set_read_only, savepoint, rollback_to}
 use Rattle.sql_reader.specs.Grammar.{line_of, looseness}
 use Rattle.sql_tree.specs.declared.tree.Key.{Key}
 
@@ -387,13 +387,28 @@ set_at ts = do
   rest ← after_word word.Only b
   Some (set_read_only, rest)
 
+-- what comes after TO, where SAVEPOINT may be left out
+unfoldable pub to_at : List Token → Option (Plan Name × List Token)
+to_at ts = do
+  x ← name_at (cases (after_word word.Savepoint ts) ts (λ rest. rest))
+  Some (rollback_to x.0, x.1)
+
+unfoldable pub rollback_at : List Token → Option (Plan Name × List Token)
+rollback_at ts = cases (after_word word.To ts) (Some (rollback, ts)) (λ after. to_at after)
+
+unfoldable pub savepoint_at : List Token → Option (Plan Name × List Token)
+savepoint_at ts = do
+  x ← name_at ts
+  Some (savepoint x.0, x.1)
+
 unfoldable pub body_at : List Token → Option (Plan Name × List Token)
 body_at (token.Word word.Select ∷ rest) = select_at rest
 body_at (token.Word word.Insert ∷ rest) = insert_at rest
 body_at (token.Word word.Update ∷ rest) = update_at rest
 body_at (token.Word word.Delete ∷ rest) = delete_at rest
 body_at (token.Word word.Commit ∷ rest) = Some (commit, rest)
-body_at (token.Word word.Rollback ∷ rest) = Some (rollback, rest)
+body_at (token.Word word.Rollback ∷ rest) = rollback_at rest
+body_at (token.Word word.Savepoint ∷ rest) = savepoint_at rest
 body_at (token.Word word.Set ∷ rest) = set_at rest
 body_at other = None
 

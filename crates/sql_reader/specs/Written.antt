@@ -4,7 +4,7 @@ use Rattle.std.specs.List.{flat_map, join_with_byte}
 use Rattle.std.specs.Char.{to_ascii_uppercase}
 use Rattle.std.specs.Fmt.{decimal, signed_decimal}
 use Rattle.sql_tree.specs.declared.tree.Key.{Key}
-use Rattle.sql_tree.specs.Plain.{Name, Term, null, int, text, bind, column, rowid, neg, not, bin, is_null, not_null, Total, count, total, least, greatest, Entry, value, drawn, Change, Asked, columns, values, totals, Plan, select, next, insert, update, delete, commit, rollback, set_read_only}
+use Rattle.sql_tree.specs.Plain.{Name, Term, null, int, text, bind, column, rowid, neg, not, bin, is_null, not_null, Total, count, total, least, greatest, Entry, value, drawn, Change, Asked, columns, values, totals, Plan, select, next, insert, update, delete, commit, rollback, set_read_only, savepoint, rollback_to}
 use Rattle.desk_values.specs.declared.keyword.Keyword.{Keyword}
 use Rattle.desk_values.specs.declared.keyword.Keyword.TheVariants as word
 use Rattle.sql_reader.specs.declared.token.Sign.TheVariants as sign
@@ -137,6 +137,8 @@ first_word (delete table condition) = word.Delete
 first_word commit = word.Commit
 first_word rollback = word.Rollback
 first_word set_read_only = word.Set
+first_word (savepoint n) = word.Savepoint
+first_word (rollback_to n) = word.Rollback
 
 -- the tokens after the first word
 abbrev pub further_tokens : Plan Name → List Token
@@ -151,6 +153,8 @@ further_tokens (delete table condition) = token.Word word.From ∷ token.Name ta
 further_tokens commit = []
 further_tokens rollback = []
 further_tokens set_read_only = token.Word word.Transaction ∷ token.Word word.Read ∷ token.Word word.Only ∷ []
+further_tokens (savepoint n) = token.Name n ∷ []
+further_tokens (rollback_to n) = token.Word word.To ∷ token.Name n ∷ []
 
 -- the tokens that are written for a statement
 abbrev pub statement_tokens : Plan Name → List Token

@@ -5,7 +5,7 @@ ghost use Rattle.sql_reader.specs.declared.token.Token.{Token as OneToken};
 ghost use Rattle.sql_tree.specs.Plain.{Term, Total, Entry, Change, term_of, condition_of, total_of, entry_of, change_of, asked_of, plan_of, Name};
 ghost use Rattle.sql_reader.specs.Spelling.{Returns};
 ghost use Rattle.sql_reader.specs.Inside.{Finds};
-ghost use Rattle.sql_reader.specs.Reading.{expression_at, list_at, name_at, key_at, enclosed_at, counted_at, aggregate_at, draw_at, input_at, setting_at, where_at, order_at, for_update_at, from_at, is_aggregate_word, begins_aggregate, aggregates_at, rows_at, listed_at, dual_at, items_at, select_at, columns_at, inputs_at, insert_at, update_at, delete_at, set_at, body_at, statement_at};
+ghost use Rattle.sql_reader.specs.Reading.{expression_at, list_at, name_at, key_at, enclosed_at, counted_at, aggregate_at, draw_at, input_at, setting_at, where_at, order_at, for_update_at, from_at, is_aggregate_word, begins_aggregate, aggregates_at, rows_at, listed_at, dual_at, items_at, select_at, columns_at, inputs_at, insert_at, update_at, delete_at, set_at, to_at, rollback_at, savepoint_at, body_at, statement_at};
 ghost use Rattle.sql_reader.specs.Limits.{list_limit};
 
 use crate::descent::{after_sign, after_word, expect_sign, expect_word, part};
@@ -462,6 +462,37 @@ fn set_transaction(tokens: &[Token]) -> Result<(Statement, &[Token]), SqlErr>
     Ok((Statement::SetReadOnly, expect_word(Keyword::Only, after)?))
 }
 
+// What comes after ROLLBACK TO, where SAVEPOINT may be left out.
+#[tactic(auto, unfolding(crate::specs::Reading::to_at))]
+fn rollback_to(tokens: &[Token]) -> Result<(Statement, &[Token]), SqlErr>
+    ensures { Returns (λ x. (plan_of x.0, x.1.now)) result (to_at tokens.now) }
+{
+    let after = match after_word(Keyword::Savepoint, tokens) {
+        Some(rest) => rest,
+        None => tokens,
+    };
+    let (savepoint, rest) = name(after)?;
+    Ok((Statement::RollbackTo(savepoint), rest))
+}
+
+#[tactic(auto, unfolding(crate::specs::Reading::rollback_at))]
+fn rollback(tokens: &[Token]) -> Result<(Statement, &[Token]), SqlErr>
+    ensures { Returns (λ x. (plan_of x.0, x.1.now)) result (rollback_at tokens.now) }
+{
+    match after_word(Keyword::To, tokens) {
+        Some(after) => rollback_to(after),
+        None => Ok((Statement::Rollback, tokens)),
+    }
+}
+
+#[tactic(auto, unfolding(crate::specs::Reading::savepoint_at))]
+fn savepoint(tokens: &[Token]) -> Result<(Statement, &[Token]), SqlErr>
+    ensures { Returns (λ x. (plan_of x.0, x.1.now)) result (savepoint_at tokens.now) }
+{
+    let (savepoint, rest) = name(tokens)?;
+    Ok((Statement::Savepoint(savepoint), rest))
+}
+
 #[tactic(auto, unfolding(crate::specs::Reading::body_at))]
 fn body(alloc: Global, tokens: &[Token]) -> Result<(Statement, &[Token]), SqlErr>
     ensures { Returns (λ x. (plan_of x.0, x.1.now)) result (body_at tokens.now) }
@@ -475,7 +506,8 @@ fn body(alloc: Global, tokens: &[Token]) -> Result<(Statement, &[Token]), SqlErr
         Keyword::Update => update(alloc, rest),
         Keyword::Delete => delete(alloc, rest),
         Keyword::Commit => Ok((Statement::Commit, rest)),
-        Keyword::Rollback => Ok((Statement::Rollback, rest)),
+        Keyword::Rollback => rollback(rest),
+        Keyword::Savepoint => savepoint(rest),
         Keyword::Set => set_transaction(rest),
         _ => Err(SqlErr::Syntax),
     }

@@ -433,6 +433,11 @@ fn further(out: &mut Bytes, statement: &Statement) -> Result<(), Memory>
             word(out, Keyword::Read)?;
             word(out, Keyword::Only)
         }
+        Statement::Savepoint(savepoint) => name(out, savepoint),
+        Statement::RollbackTo(savepoint) => {
+            word(out, Keyword::To)?;
+            name(out, savepoint)
+        }
     }
 }
 
@@ -476,6 +481,8 @@ fn first(statement: &Statement) -> Keyword
         Statement::Commit => Keyword::Commit,
         Statement::Rollback => Keyword::Rollback,
         Statement::SetReadOnly => Keyword::Set,
+        Statement::Savepoint(_) => Keyword::Savepoint,
+        Statement::RollbackTo(_) => Keyword::Rollback,
     }
 }
 

@@ -1,7 +1,7 @@
 -- The leaves of expressions and of statements.
 use Rattle.std.specs.Prelude.{List, [], ◌∷◌, ◌++◌, Option, None, Some}
 use Rattle.std.specs.List.{flat_map}
-use Rattle.sql_tree.specs.Plain.{Term, null, int, text, bind, column, rowid, neg, not, bin, is_null, not_null, Total, count, total, least, greatest, Entry, value, drawn, Change, Asked, columns, values, totals, Plan, select, next, insert, update, delete, commit, rollback, set_read_only}
+use Rattle.sql_tree.specs.Plain.{Term, null, int, text, bind, column, rowid, neg, not, bin, is_null, not_null, Total, count, total, least, greatest, Entry, value, drawn, Change, Asked, columns, values, totals, Plan, select, next, insert, update, delete, commit, rollback, set_read_only, savepoint, rollback_to}
 
 -- the parts of an expression that have no parts themselves, from left to right
 abbrev pub leaves : {N : Type 0} → Term N → List (Term N)
@@ -54,3 +54,5 @@ plan_leaves (delete table condition) = condition_leaves condition
 plan_leaves commit = []
 plan_leaves rollback = []
 plan_leaves set_read_only = []
+plan_leaves (savepoint name) = []
+plan_leaves (rollback_to name) = []

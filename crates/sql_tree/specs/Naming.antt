@@ -1,7 +1,7 @@
 -- Trees with each name another.
 use Rattle.std.specs.Prelude.{List, Option, None, Some, map}
 use Rattle.sql_tree.specs.declared.tree.Key.{Key}
-use Rattle.sql_tree.specs.Plain.{Term, null, int, text, bind, column, rowid, neg, not, bin, is_null, not_null, Total, count, total, least, greatest, Entry, value, drawn, Change, Asked, columns, values, totals, Plan, select, next, insert, update, delete, commit, rollback, set_read_only}
+use Rattle.sql_tree.specs.Plain.{Term, null, int, text, bind, column, rowid, neg, not, bin, is_null, not_null, Total, count, total, least, greatest, Entry, value, drawn, Change, Asked, columns, values, totals, Plan, select, next, insert, update, delete, commit, rollback, set_read_only, savepoint, rollback_to}
 
 -- what gives tables, columns and sequences other names
 pub record Naming (A B : Type 0) : Type 0 where
@@ -60,3 +60,5 @@ map_plan by (delete table condition) = delete (by.table table) (map_condition by
 map_plan by commit = commit
 map_plan by rollback = rollback
 map_plan by set_read_only = set_read_only
+map_plan by (savepoint name) = savepoint name
+map_plan by (rollback_to name) = rollback_to name

@@ -61,6 +61,8 @@ pub data Plan (N : Type 0) : Type 0 where
   commit : Plan N
   rollback : Plan N
   set_read_only : Plan N
+  savepoint : List ℕ → Plan N
+  rollback_to : List ℕ → Plan N
 
 -- what a name is where a text is read: its bytes, in lower case
 abbrev pub Name : Type 0
@@ -119,3 +121,5 @@ plan_of (statement.Delete table condition) = delete table (condition_of conditio
 plan_of statement.Commit = commit
 plan_of statement.Rollback = rollback
 plan_of statement.SetReadOnly = set_read_only
+plan_of (statement.Savepoint name) = savepoint name
+plan_of (statement.RollbackTo name) = rollback_to name

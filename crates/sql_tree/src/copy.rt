@@ -201,6 +201,8 @@ impl<N: Copied> CopiedTree for Statement<N> {
             Statement::Commit => Ok(Statement::Commit),
             Statement::Rollback => Ok(Statement::Rollback),
             Statement::SetReadOnly => Ok(Statement::SetReadOnly),
+            Statement::Savepoint(name) => Ok(Statement::Savepoint(name.copy()?)),
+            Statement::RollbackTo(name) => Ok(Statement::RollbackTo(name.copy()?)),
         }
     }
 }

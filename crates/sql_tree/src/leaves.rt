@@ -161,6 +161,8 @@ impl<N> Statement<N> {
             Statement::Commit => false,
             Statement::Rollback => false,
             Statement::SetReadOnly => false,
+            Statement::Savepoint(_) => false,
+            Statement::RollbackTo(_) => false,
         }
     }
 }

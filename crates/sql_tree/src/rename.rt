@@ -301,6 +301,8 @@ impl<N> Statement<N> {
             Statement::Commit => Ok(Statement::Commit),
             Statement::Rollback => Ok(Statement::Rollback),
             Statement::SetReadOnly => Ok(Statement::SetReadOnly),
+            Statement::Savepoint(name) => Ok(Statement::Savepoint(name.copy()?)),
+            Statement::RollbackTo(name) => Ok(Statement::RollbackTo(name.copy()?)),
         }
     }
 }

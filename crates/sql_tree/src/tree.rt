@@ -25,6 +25,10 @@ pub enum Statement<N = Txt> {
     Rollback,
     /// `SET TRANSACTION READ ONLY`: the start of a transaction that only reads.
     SetReadOnly,
+    /// `SAVEPOINT`: what the transaction has done so far is kept under this name.
+    Savepoint(Txt),
+    /// `ROLLBACK TO`, or `ROLLBACK TO SAVEPOINT`: what was done since the savepoint of this name is dropped.
+    RollbackTo(Txt),
 }
 
 /// What a SELECT asks for.

@@ -8,6 +8,7 @@
 
 ghost use Rattle.std.specs.Prelude.{◌≡◌, ◌+◌, ◌<◌, length, take, IfOk, OnOk, OnErr};
 ghost use Rattle.desk_values.specs.Good.{IsGoodReply};
+ghost use Rattle.machine_model.specs.Clean.{is_clean};
 ghost use Rattle.machine_model.specs.State.{is_connected, is_given, opening, tables};
 ghost use Rattle.machine_model.specs.Step.{Gives};
 ghost use Rattle.machine_model.specs.Sound.{AreStanding};
@@ -86,6 +87,14 @@ impl Engine {
         ensures { result ≡ is_connected self.now.state session }
     {
         self.machine.connected(session)
+    }
+
+    /// Whether a session's reads depend on nothing but what is committed: it is connected, its transaction reads the latest
+    /// commit, and it has changed nothing.
+    pub fn clean(&self, session: u32) -> bool
+        ensures { result ≡ is_clean self.now.state session }
+    {
+        self.machine.clean(session)
     }
 
     /// Whether a client can know the value: it is no id, or the start or a step has given it out.

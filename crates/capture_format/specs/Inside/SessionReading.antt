@@ -5,6 +5,7 @@ use Rattle.std.specs.List.{starts_with}
 use Rattle.std.specs.Str.{bytes_eq}
 use Rattle.desk_values.specs.Fields.{cut_at}
 use Rattle.desk_values.specs.Reading.{◌>>=◌, number_of, number_below}
+use Rattle.capture_format.specs.Inside.Fields.{two_of}
 use Rattle.capture_format.specs.CallReading.{call_of}
 use Rattle.capture_format.specs.ReplyReading.{reply_of}
 use Rattle.capture_format.specs.declared.session_line.CallLine.{CallLine}
@@ -73,13 +74,14 @@ call_line_of bytes = do
     reply = exchange.reply;
   })
 
--- the session's number behind `session 1 `
-unfoldable pub head_of : List ℕ → Option ℕ
-head_of bytes = if starts_with nat_eq bytes (codes "session 1 ") then number_below (2 ^ 32) (drop 10 bytes) else None
+-- the version and the session's number behind `session `
+unfoldable pub head_of : List ℕ → Option (ℕ × ℕ)
+head_of bytes = if starts_with nat_eq bytes (codes "session ")
+    then two_of 32 (number_below (2 ^ 32)) (number_below (2 ^ 32)) (drop 8 bytes) else None
 
 -- the head where there is one, and otherwise the line of a call
-abbrev pub head_or_call : List ℕ → Option ℕ → Option SessionLine
-head_or_call bytes (Some session) = Some (Head session)
+abbrev pub head_or_call : List ℕ → Option (ℕ × ℕ) → Option SessionLine
+head_or_call bytes (Some head) = Some (Head head.0 head.1)
 head_or_call bytes None = option_map Call (call_line_of bytes)
 
 -- the line of a session file: the end, the head, or a call

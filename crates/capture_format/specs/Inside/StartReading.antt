@@ -37,7 +37,8 @@ shape_of bytes = do
 
 -- what a line with this first field says
 unfoldable pub line_behind : List ℕ → List ℕ → Option StartLine
-line_behind word rest = if bytes_eq word (codes "level") then option_map line.Level (number_below (2 ^ 32) rest)
+line_behind word rest = if bytes_eq word (codes "start") then option_map line.Head (number_below (2 ^ 32) rest)
+    else (if bytes_eq word (codes "level") then option_map line.Level (number_below (2 ^ 32) rest)
     else (if bytes_eq word (codes "seq") then option_map (λ p. line.Seq p.0 p.1) (two_of 32 as_name number_of rest)
     else (if bytes_eq word (codes "svc") then option_map (λ p. line.Service p.0 p.1) (two_of 32 as_name rights_of rest)
     else (if bytes_eq word (codes "table") then option_map line.Table (as_name rest)
@@ -46,7 +47,7 @@ line_behind word rest = if bytes_eq word (codes "level") then option_map line.Le
     then option_map (λ p. line.Row p.0 p.1.0 p.1.1) (two_of 32 number_of (two_of 32 (number_below (2 ^ 32)) values_of) rest)
     else (if bytes_eq word (codes "nextrow") then option_map line.NextRow (number_of rest)
     else (if bytes_eq word (codes "sessions") then option_map line.Sessions (number_below (2 ^ 32) rest)
-    else None)))))))
+    else None))))))))
 
 -- a line of several fields
 unfoldable pub worded_of : List ℕ → Option StartLine
@@ -54,8 +55,6 @@ worded_of bytes = do
   parts ← cut_at 32 bytes
   line_behind parts.0 parts.1
 
--- the line of a start file: the first, the last, or one of several fields
+-- the line of a start file: the last, or one of several fields
 unfoldable pub start_line_of : List ℕ → Option StartLine
-start_line_of bytes = if bytes_eq bytes (codes "start 1") then Some line.Head
-    else (if bytes_eq bytes (codes "end") then Some line.End
-    else worded_of bytes)
+start_line_of bytes = if bytes_eq bytes (codes "end") then Some line.End else worded_of bytes

@@ -5,6 +5,7 @@ use Rattle.desk_values.specs.declared.read_err.ReadErr.TheVariants as line
 use Rattle.desk_schema.specs.declared.line.StartLine.{StartLine}
 use Rattle.desk_schema.specs.declared.line.StartLine.TheVariants.{Head}
 use Rattle.desk_schema.specs.Draft.{finished}
+use Rattle.desk_schema.specs.Schema.{IsVersion}
 use Rattle.desk_schema.specs.Rules.{MayFollow, IsWithin}
 use Rattle.desk_schema.specs.State.{State, nothing, added}
 use Rattle.capture_format.specs.declared.start.Stage.{Stage}
@@ -13,14 +14,15 @@ use Rattle.capture_format.specs.declared.start.Stage.TheVariants.{Empty, Headed,
 -- the state that the lines so far lead to
 abbrev pub state_at : Stage → State
 state_at Empty = nothing
-state_at Headed = added nothing Head
+state_at (Headed version) = added nothing (Head version)
 state_at (Drafting state) = state
 state_at (Declared start) = finished start
 state_at (Counted start count) = record { last = 9; start = start; sessions = count }
 state_at (Ended start count) = record { last = 10; start = start; sessions = count }
 
--- a draft is past the level, and its next row is still to come
+-- the first line has a version; a draft is past the level, and its next row is still to come
 abbrev pub IsStage : Stage → Type 0
+IsStage (Headed version) = IsVersion version
 IsStage (Drafting state) = IsWithin 2 7 state.last
 IsStage other = Unit {0}
 

@@ -8,7 +8,7 @@ abbrev pub declared : State
 declared = record {
   last = 6;
   start = record {
-    schema = record { level = 1; sequences = []; services = main_service ∷ []; tables = accounts_table ∷ [] };
+    schema = record { version = 1; level = 1; sequences = []; services = main_service ∷ []; tables = accounts_table ∷ [] };
     rows = [];
     next_row = 0;
     next_values = [];

@@ -142,13 +142,13 @@ pub record Connected (most : ℕ) (notes : Notes) (before after : Option Connect
 
 -- a failure that is a fault or want of memory
 abbrev pub IsPlain : ServeErr → Type 0
-IsPlain serve.Failed = ⊤
+IsPlain (serve.Failed short) = ⊤
 IsPlain (serve.Differs finding) = ⊥
 IsPlain serve.Memory = ⊤
 
 -- a failure that is no fault
 abbrev pub IsFaultless : ServeErr → Type 0
-IsFaultless serve.Failed = ⊥
+IsFaultless (serve.Failed short) = ⊥
 IsFaultless (serve.Differs finding) = ⊤
 IsFaultless serve.Memory = ⊤
 

@@ -29,6 +29,7 @@ pub fn needs_call(mode: Mode, facts: &[Fact], k: usize, j: usize) -> bool {
         Mode::Object => seen
             && (0..32).any(|table| has(other.writes, table) && has(call.refs, table)),
         Mode::Order => j < k,
+        Mode::Fence => if call.number == 0 { seen } else { j < k },
     }
 }
 

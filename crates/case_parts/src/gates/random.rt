@@ -7,12 +7,8 @@ use std::alloc::Global;
 
 /// A mode.
 pub fn any_mode(random: &mut Random) -> Mode {
-    match random.below(4) {
-        0 => Mode::Off,
-        1 => Mode::Scn,
-        2 => Mode::Object,
-        _ => Mode::Order,
-    }
+    let place = random.place(Mode::ALL.len());
+    Mode::ALL.get(place).copied().unwrap_or(Mode::Order)
 }
 
 /// Some sessions, one of them maybe without a call, one maybe twice.

@@ -2,10 +2,11 @@
 use Rattle.std.specs.Prelude.{ℕ, ◌≡◌, ◌<◌, ◌≤◌, List, [], ◌∷◌, length}
 use Rattle.std.specs.List.{AllByRecursion}
 use Rattle.desk_values.specs.Limits.{session_limit}
-use Rattle.desk_schema.specs.Limits.{only_level}
 use Rattle.desk_schema.specs.declared.schema.Table.{Table}
+use Rattle.desk_schema.specs.Schema.{IsVersion}
 use Rattle.desk_schema.specs.Start.{StartView}
 use Rattle.desk_schema.specs.State.{State}
+use Rattle.desk_schema.specs.Rules.{IsLevel}
 use Rattle.desk_schema.specs.Sound.{IsSound, IsSoundNextRow}
 
 -- each table but the last has columns, which may still be coming
@@ -16,7 +17,8 @@ HaveColumnsButLast (table ∷ next ∷ tables) = (1 ≤ length table.columns) ×
 
 -- what has its turn later than the last line is not there yet
 pub record IsInOrder (last : ℕ) (start : StartView) : Type 0 where
-  pub level : 2 ≤ last → start.schema.level ≡ only_level
+  pub version : 1 ≤ last → IsVersion start.schema.version
+  pub level : 2 ≤ last → IsLevel start.schema.level
   pub no_sequences : last ≤ 2 → start.schema.sequences ≡ []
   pub no_services : last ≤ 3 → start.schema.services ≡ []
   pub no_tables : last ≤ 4 → start.schema.tables ≡ []

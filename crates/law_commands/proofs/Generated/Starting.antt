@@ -110,4 +110,4 @@ no_accounts : HasAccountsBelow [] 1
 no_accounts = record { count = refl; below = tt; keys = λ j from. tt }
 
 pub keeps : IsStart generated_start
-keeps = record { lines = (refl, ((refl, refl), (service_follows, (table_follows, (id_follows, (balance_follows, accounts_follow 100 1 6 [] (record { from = omega arith; to = omega arith }) no_accounts (omega arith) (omega arith))))))); declared = accounts_declare 100 1 6 [] }
+keeps = record { lines = ((refl, record { least = omega arith; most = omega arith }), ((refl, (omega arith, omega arith)), (service_follows, (table_follows, (id_follows, (balance_follows, accounts_follow 100 1 6 [] (record { from = omega arith; to = omega arith }) no_accounts (omega arith) (omega arith))))))); declared = accounts_declare 100 1 6 [] }

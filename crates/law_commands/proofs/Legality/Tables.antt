@@ -12,7 +12,7 @@ use Rattle.desk_values.specs.declared.call.Call.{Call}
 use Rattle.desk_values.specs.declared.call.Call.TheVariants.{Connect, Sql, Disconnect}
 use Rattle.replay_history.specs.Capture.{commits}
 use Rattle.sql_reader.specs.Reading.{statement_of}
-use Rattle.sql_tree.specs.Plain.{Name, Plan, select, next, insert, update, delete, commit, rollback, set_read_only}
+use Rattle.sql_tree.specs.Plain.{Name, Plan, select, next, insert, update, delete, commit, rollback, set_read_only, savepoint, rollback_to}
 use Rattle.machine_model.specs.Request.{table_named}
 use Rattle.machine_model.specs.Step.{committed_in}
 use Rattle.object_depends.specs.Facts.{has_table}
@@ -98,6 +98,8 @@ speaks_told schema (update own changes test) table = one_told (table_named schem
 speaks_told schema (delete from test) table = one_told (table_named schema (delete from test)) table
 speaks_told schema commit table = one_told (table_named schema commit) table
 speaks_told schema rollback table = one_told (table_named schema rollback) table
+speaks_told schema (savepoint name) table = one_told (table_named schema (savepoint name)) table
+speaks_told schema (rollback_to name) table = one_told (table_named schema (rollback_to name)) table
 
 nothing_told : (table : ℕ) → has_table 0 table ≡ true → ⊥
 nothing_told table has = let none = bit_at-zero table in let one = tells 0 table has in absurd (omega (arith, one, none))

@@ -13,6 +13,8 @@ use Rattle.prepare_plan.specs.Lists.{all_calls, by_stamp}
 use Rattle.captured_calls.specs.Verdict.{CanBeLegal, Preparation, verdict}
 use Rattle.captured_calls.specs.Facts.{facts_of}
 use Rattle.remap_ids.specs.Services.{ServicePair, services_of}
+use Rattle.desk_schema.specs.Start.{StartView}
+use Rattle.desk_schema.specs.Change.{ChangesTo, records_in}
 use Rattle.desk_words.specs.declared.ways.Ways.{Ways}
 use Rattle.desk_words.specs.declared.words.Command.TheVariants.{Run, Prepare, Serve, Generate, Trial}
 use Rattle.desk_words.specs.Command.{command_of}
@@ -23,12 +25,12 @@ use Rattle.replay_cli.specs.FileNames.{session_names, start_name}
 abbrev pub IsThere : FileMap → List ℕ → List ℕ → Type 0
 IsThere files name bytes = (get files name ≡ Some bytes) × (length bytes ≤ file_limit)
 
--- the files of these names are those of the sessions from this one on, with these calls
-abbrev pub AreThere : FileMap → ℕ → List (List ℕ) → List (List ℕ) → List (List Captured) → Type 0
-AreThere files session [] [] [] = Unit {0}
-AreThere files session (name ∷ names) (bytes ∷ texts) (calls ∷ lists) = IsThere files name bytes
-    × IsSessionFile session bytes calls × AreThere files (session + 1) names texts lists
-AreThere files session names texts lists = ⊥
+-- the files of these names are those of the sessions from this one on, of this version, with these calls
+abbrev pub AreThere : FileMap → ℕ → ℕ → List (List ℕ) → List (List ℕ) → List (List Captured) → Type 0
+AreThere files version session [] [] [] = Unit {0}
+AreThere files version session (name ∷ names) (bytes ∷ texts) (calls ∷ lists) = IsThere files name bytes
+    × IsSessionFile session version bytes calls × AreThere files version (session + 1) names texts lists
+AreThere files version session names texts lists = ⊥
 
 -- how many bytes the texts have together
 abbrev pub total : List (List ℕ) → ℕ
@@ -40,7 +42,7 @@ pub record AreCapture (files : FileMap) (folder : List ℕ) (file : StartFile) (
   pub texts : List (List ℕ)
   pub there : IsThere files (start_name folder) bytes
   pub start : IsStartFile bytes file
-  pub sessions : AreThere files 0 (session_names folder file.sessions) texts lists
+  pub sessions : AreThere files file.start.schema.version 0 (session_names folder file.sessions) texts lists
   pub together : length bytes + total texts ≤ capture_limit
 
 -- the remap file is there and says these services; or none is named, and there are none
@@ -48,13 +50,18 @@ abbrev pub HasRemap : FileMap → Option (List ℕ) → List ServicePair → Typ
 HasRemap files None services = services ≡ []
 HasRemap files (Some name) services = (bytes : List ℕ) × IsThere files name bytes × (services_of bytes ≡ Ok services)
 
+-- the change file is there and makes this target of the captured start; or none is named, and it is that start
+abbrev pub HasTarget : FileMap → Option (List ℕ) → StartView → StartView → Type 0
+HasTarget files None start target = target ≡ start
+HasTarget files (Some name) start target = (bytes : List ℕ) × IsThere files name bytes × ChangesTo start (records_in bytes) target
+
 abbrev pub CapturesAreReplayed : Type 0
 CapturesAreReplayed = (words : List (List ℕ)) (files : FileMap) (folder out : List ℕ) (ways : Ways)
-    (file : StartFile) (lists : List (List Captured)) (services : List ServicePair) (plan : Preparation)
+    (file : StartFile) (lists : List (List Captured)) (services : List ServicePair) (target : StartView) (plan : Preparation)
     → command_of words ≡ Some (Run folder out ways) → AreCapture files folder file lists
-    → HasRemap files ways.remap services → verdict file.start lists ≡ Ok plan
+    → HasRemap files ways.remap services → HasTarget files ways.change file.start target → verdict file.start lists ≡ Ok plan
     → Verdict words files
-    (Ok (ToReplay out (run_job (record { start = file.start; calls = plan.calls; facts = plan.facts }) services ways)))
+    (Ok (ToReplay out (run_job (record { start = file.start; calls = plan.calls; facts = plan.facts }) target services ways)))
 
 abbrev pub CapturesArePrepared : Type 0
 CapturesArePrepared =
@@ -65,12 +72,12 @@ CapturesArePrepared =
 -- where some order of the calls is a legal capture, they are replayed, by stamp
 abbrev pub LegalCapturesAreReplayed : Type 0
 LegalCapturesAreReplayed = (words : List (List ℕ)) (files : FileMap) (folder out : List ℕ) (ways : Ways)
-    (file : StartFile) (lists : List (List Captured)) (services : List ServicePair)
+    (file : StartFile) (lists : List (List Captured)) (services : List ServicePair) (target : StartView)
     → command_of words ≡ Some (Run folder out ways) → AreCapture files folder file lists
-    → HasRemap files ways.remap services → CanBeLegal file.start (all_calls lists)
+    → HasRemap files ways.remap services → HasTarget files ways.change file.start target → CanBeLegal file.start (all_calls lists)
     → let calls = by_stamp (all_calls lists) in
     Verdict words files
-    (Ok (ToReplay out (run_job (record { start = file.start; calls = calls; facts = facts_of file.start.schema calls }) services ways)))
+    (Ok (ToReplay out (run_job (record { start = file.start; calls = calls; facts = facts_of file.start.schema calls }) target services ways)))
 
 -- and which wait for which is told
 abbrev pub LegalCapturesArePrepared : Type 0

@@ -1,6 +1,7 @@
 -- In a replay no id comes to stand twice on one side of the pairs.
 use Rattle.std.proofs.Common.{◌≡◌, ℕ, zero, suc, true, false, ◌==◌, if◌then◌else◌, length, List, [], ◌∷◌, Option, Some, refl, sym, ap, subst, arith, ◌⊎◌, inl, inr, ⊎_elim}
-use Rattle.std.specs.List.{AllByRecursion}
+use Rattle.std.specs.Prelude.{◌<◌, ◌≤◌, slice_index}
+use Rattle.std.specs.List.{AllByRecursion, AllZip}
 use Rattle.std.proofs.lemmas.Bool.{cases_lt, eqb-true}
 use Rattle.std.proofs.lemmas.List.{get_or_past}
 use Rattle.desk_values.specs.declared.value.Value.{Value}
@@ -60,6 +61,13 @@ own_like x y e = subst (AreLike x) e (by x)
     by (id.Row n) = tt
     by (id.Draw q n) = refl
 
+-- no next value is lower
+each_up : (olds nexts : List ℕ) → AllZip (λ old next. old ≤ next) olds nexts → (q : ℕ) → q < length olds → slice_index olds q ≤ slice_index nexts q
+each_up [] nexts up q below = omega (arith, below)
+each_up (o ∷ os) (n ∷ ns) up zero below = up.0
+each_up (o ∷ os) (n ∷ ns) up (suc q) below = each_up os ns up.1 q (omega (arith, below))
+each_up (o ∷ os) [] up q below = absurd up
+
 module _ (job : JobView) (replayable : IsReplayable job) where
   -- the id stands in the rows, or a call gave it that these events do not answer
   abbrev IsBefore : List Event → Value → Type 0
@@ -108,7 +116,7 @@ module _ (job : JobView) (replayable : IsReplayable job) where
   target_passes : (v : Value) → IsPassed (opening job.start) v → IsPassed (opening job.target) v
   target_passes (Row n) passed = omega (arith, replayable.target.next_row, passed)
   target_passes (Draw q n) passed = ⊎_elim
-      (λ within. omega (arith, replayable.target.next_values q within, passed))
+      (λ within. omega (arith, each_up job.start.next_values job.target.next_values replayable.target.next_values q within, passed))
       (λ past. absurd (omega (arith, get_or_past job.start.next_values q 0 past, passed)))
       (cases_lt q (length job.start.next_values))
   target_passes Null passed = tt

@@ -34,7 +34,7 @@ use Rattle.law_replays.proofs.End.Stages.{more_pairs, one_call}
 use Rattle.law_replays.proofs.End.Order.{answered, recorded}
 use Rattle.law_replays.proofs.End.Own.{own_given, own_rows}
 use Rattle.law_ids.proofs.Replays.Starts.{own_stands}
-use Rattle.law_replays.specs.Told.Own.{AreOwn, GivesOwn, HasOwnIds, IsOwn}
+use Rattle.law_replays.specs.Told.Own.{AreOwn, GivesOwn, HasOwnIds, IsOwn, KeepsOwn}
 use Rattle.law_replays.proofs.Told.Told.{own_outcome, own_step}
 
 -- ---- what is sent
@@ -67,6 +67,8 @@ own_longer pairs more state own =
       start = all state.start.rows own.start;
       commits = each_weaker (AreOwn pairs) (AreOwn (pairs ++ more)) all state.commits own.commits;
       sessions = each_weaker (λ (s : Session). AreOwn pairs s.own.changes) (λ (s : Session). AreOwn (pairs ++ more) s.own.changes) (λ s h. all s.own.changes h) state.sessions own.sessions;
+      kept = each_weaker (λ (s : Session). AllByRecursion (KeepsOwn pairs) s.savepoints) (λ (s : Session). AllByRecursion (KeepsOwn (pairs ++ more)) s.savepoints)
+          (λ s h. each_weaker (KeepsOwn pairs) (KeepsOwn (pairs ++ more)) (λ savepoint t. all savepoint.own.changes t) s.savepoints h) state.sessions own.kept;
     }
 
 module _ (job : JobView) where
@@ -162,7 +164,7 @@ module _ (job : JobView) where
   pub first_own : StandsOwn 0 (record { state = opening job.start; pairs = start_pairs job.start })
   first_own = record {
     known = λ v f. known_first v f;
-    own = record { start = own_rows job.start; commits = tt; sessions = each_repeated (λ (s : Session). AreOwn (start_pairs job.start) s.own.changes) 64 disconnected tt };
+    own = record { start = own_rows job.start; commits = tt; sessions = each_repeated (λ (s : Session). AreOwn (start_pairs job.start) s.own.changes) 64 disconnected tt; kept = each_repeated (λ (s : Session). AllByRecursion (KeepsOwn (start_pairs job.start)) s.savepoints) 64 disconnected tt };
   }
     where
       first_known : (v : Value) → StandsIn job.start.rows v ⊎ ((j : ℕ) × (call : Captured) × (j < 0) × IsCallAt job.calls j call × IsGivenBy v call.reply) → IsRenamed (start_pairs job.start) v v

@@ -70,7 +70,7 @@ zipped_bags R xs ys z = record { turned = ys; related = z; moved = moved_same ys
 -- ---- images by row
 
 module _ (xs : List Image) where
-  one_image : (n : ℕ) → RisesFrom n xs → (a b : Image) → Contains xs a → Contains xs b → a.row ≡ b.row → a ≡ b
+  pub one_image : (n : ℕ) → RisesFrom n xs → (a b : Image) → Contains xs a → Contains xs b → a.row ≡ b.row → a ≡ b
   one_image = go xs
     where
       go : (ys : List Image) (n : ℕ) → RisesFrom n ys → (a b : Image) → Contains ys a → Contains ys b → a.row ≡ b.row → a ≡ b
@@ -111,7 +111,7 @@ module _ (pairs : List IdPair) (is_map : IsIdMap pairs) where
   draw_to p n (id.Draw q m) e like = paired (id.Draw p n) (id.Draw q m) e
   draw_to p n (id.Row m) e like = absurd like
 
-  value_to : (v w : Value) → carried_value pairs v ≡ Some w → IsRenamed pairs v w
+  pub value_to : (v w : Value) → carried_value pairs v ≡ Some w → IsRenamed pairs v w
   value_to Null w e = subst (IsRenamed pairs Null) (same_Some Null w e) tt
   value_to (Int n) w e = subst (IsRenamed pairs (Int n)) (same_Some (Int n) w e) refl
   value_to (Text t) w e = subst (IsRenamed pairs (Text t)) (same_Some (Text t) w e) refl
@@ -128,11 +128,11 @@ module _ (pairs : List IdPair) (is_map : IsIdMap pairs) where
   left_to None other e = subst (IsRenamedLeft pairs None) (same_Some None other e) tt
   left_to (Some values) other e = let one = map_some (λ (l : List Value). Some l) (carried_row pairs values) other e in subst (IsRenamedLeft pairs (Some values)) one.2 (values_to values one.0 (each_zipped (carried_value pairs) values one.0 one.1))
 
-  number_to : (n m : ℕ) (y : Id) → image_in pairs (id.Row n) ≡ Some y → row_of y ≡ Some m → Contains pairs (id.Row n, id.Row m)
+  pub number_to : (n m : ℕ) (y : Id) → image_in pairs (id.Row n) ≡ Some y → row_of y ≡ Some m → Contains pairs (id.Row n, id.Row m)
   number_to n m (id.Row k) e is = paired (id.Row n) (id.Row m) (e ∙ ap (λ (j : ℕ). Some (id.Row j)) (same_Some k m is))
   number_to n m (id.Draw q k) e is = absurd (none-some m is)
 
-  image_to : (image other : Image) → carried_image pairs image ≡ Some other → IsRenamedImage pairs image other
+  pub image_to : (image other : Image) → carried_image pairs image ≡ Some other → IsRenamedImage pairs image other
   image_to image other e =
       let made : ℕ → Option (List Value) → Image = λ row left. record { row = row; table = image.table; left = left } in
       let one = then_some (λ (row : ℕ). option_map (made row) (carried_left pairs image.left)) (carried_number pairs image.row) other e in
@@ -246,7 +246,7 @@ module _ (pairs : List IdPair) (once : HasNoIdTwice pairs) where
   to_left None (Some others) t = absurd t
   to_left (Some values) None t = absurd t
 
-  to_image : (image other : Image) → IsRenamedImage pairs image other → carried_image pairs image ≡ Some other
+  pub to_image : (image other : Image) → IsRenamedImage pairs image other → carried_image pairs image ≡ Some other
   to_image image other t = let e = (image_is pairs (id.Row image.row) (id.Row other.row) once).0 t.row in rw (e, to_left image.left other.left t.left) (ap (λ (n : ℕ). Some (record { row = other.row; table = n; left = other.left })) t.table)
 
   same_outcome : (o p : Outcome) → IsRenamedOutcome pairs o p → IsRising (committed_in p) → IsSameOutcome pairs o p

@@ -91,11 +91,11 @@ module _ (test : ℕ → Bool) where
   ] refl c
 
   -- two histories that answer the same, both in order
-  pub same_order : (events others : List Event) → IsInOrder events → IsInOrder others → ((k : ℕ) → IsAnswered events k → IsAnswered others k) → ((k : ℕ) → IsAnswered others k → IsAnswered events k) → tested events ≡ tested others
+  pub same_order : (events others : List Event) → IsInOrder events → IsInOrder others → ((k : ℕ) → IsAnswered events k → test k ≡ true → IsAnswered others k) → ((k : ℕ) → IsAnswered others k → test k ≡ true → IsAnswered events k) → tested events ≡ tested others
   same_order events others one other forth back =
       one_ascending (λ (k : ℕ). k) 0 0 (tested events) (tested others) (ascends 0 events one (λ i k reply e s. omega arith)) (ascends 0 others other (λ i k reply e s. omega arith))
-      (λ k c. let t = told_stands k events c in let a = forth k t.0 in stands_told k others a.0 a.1 a.2 t.1)
-      (λ k c. let t = told_stands k others c in let a = back k t.0 in stands_told k events a.0 a.1 a.2 t.1)
+      (λ k c. let t = told_stands k events c in let a = forth k t.0 t.1 in stands_told k others a.0 a.1 a.2 t.1)
+      (λ k c. let t = told_stands k others c in let a = back k t.0 t.1 in stands_told k events a.0 a.1 a.2 t.1)
 
 -- ---- the captured order
 

@@ -103,8 +103,8 @@ one_run first (c ∷ calls) last other run more =
 
 -- ---- sound jobs
 
-opens_sound : (start : StartView) → IsSoundStart start → IsSoundState (opening start)
-opens_sound start is = record { start = is; commits = tt; next_values = is.sound.sequences.counts; count = length-replicate 64 disconnected; sessions = each_repeated HasSoundChanges 64 disconnected sound_none }
+pub opens_sound : (start : StartView) → IsSoundStart start → IsSoundState (opening start)
+opens_sound start is = record { start = is; commits = tt; next_values = is.sound.sequences.counts; count = length-replicate 64 disconnected; sessions = each_repeated HasSoundChanges 64 disconnected (record { own = sound_none; kept = tt }) }
 
 module _ (job : JobView) (history : List Event) (last : Stage) (replay : IsReplay job history last) where
   pub captured_sound : IsSoundState (opening job.start)

@@ -46,6 +46,15 @@ module _ {S : Type 0} (does : S → ℕ → Reply → S → Type 0) where
       let t = step_at h.0 events i k reply last e h.2 in
       record { before = t.before; after = t.after; stood = (h.0, h.1, t.stood); step = t.step; stands = (h.0, h.1, t.stands); rest = t.rest }
 
+  -- a history is what stands before a place, and the rest
+  pub split_at : (first : S) (history : List Event) (i : ℕ) (last : S) → IsTruthfulHistory does first history last
+      → (middle : S) × IsTruthfulHistory does first (take i history) middle × IsTruthfulHistory does middle (drop i history) last
+  split_at first [] zero last h = (first, refl, h)
+  split_at first [] (suc i) last h = (first, refl, h)
+  split_at first (event ∷ events) zero last h = (first, refl, h)
+  split_at first (Start j pause ∷ events) (suc i) last h = split_at first events i last h
+  split_at first (Answer j given ∷ events) (suc i) last h = let t = split_at h.0 events i last h.2 in (t.0, (h.0, h.1, t.1), t.2)
+
   module _ (more : S → ℕ → Reply → S → Type 0) where
     -- a step of which more is known
     abbrev pub Both : S → ℕ → Reply → S → Type 0

@@ -1,7 +1,8 @@
 -- The laws, of whole replays.
-use Rattle.std.proofs.Common.{◌≡◌, ℕ, suc, ◌<◌, Bool, true, List, [], ◌∷◌, ◌++◌, take, drop, refl, sym, ap, subst, ◌∙◌, arith}
+use Rattle.std.proofs.Common.{◌≡◌, ℕ, suc, ◌<◌, Bool, true, List, [], ◌∷◌, ◌++◌, take, drop, length, refl, sym, ap, subst, ◌∙◌, arith}
 use Rattle.std.specs.List.{filter}
 use Rattle.std.proofs.lemmas.Bool.{lt-ltb}
+use Rattle.std.proofs.lemmas.List.{take_all}
 use Rattle.std.proofs.lemmas.Option.{slice_get_within}
 use Rattle.desk_values.specs.declared.call.Reply.{Reply}
 use Rattle.desk_values.specs.declared.capture.Captured.{Captured}
@@ -26,18 +27,19 @@ use Rattle.law_server.specs.Renaming.Replies.{IsRenamedOutcome, IsRenamedReply}
 use Rattle.law_server.specs.Renaming.Twins.{AreTwinCalls}
 use Rattle.law_server.proofs.Renaming.Answering.{replies_renamed}
 use Rattle.replay_job.specs.Job.{JobView}
-use Rattle.replay_job.specs.Runs.{Executes, Stage, first_stage}
-use Rattle.law_replays.specs.End.Answers.{IsAgain, IsAnsweredAt, IsReplay, class_after}
+use Rattle.replay_job.specs.Runs.{Executes, IsTruthfulFor, Stage, first_stage}
+use Rattle.law_replays.specs.End.Answers.{HasNoWriteDivergence, IsAgain, IsAnsweredAt, IsReplay, class_after}
 use Rattle.law_replays.specs.End.Tables.{CameTo}
 use Rattle.law_replays.specs.End.Twins.{CameBefore, IsTwinCall}
-use Rattle.law_replays.specs.End.Laws.{AgainIsAsCaptured, CapturedStatesAreOne, CommitsKeepTheirOrder, EachIsAnsweredOnce, EndTablesAreCarried, IsAsCaptured, OnlyCallsAreAnswered, StagesAreOne, TwinCallsAreSame}
+use Rattle.law_replays.specs.End.Laws.{AgainIsAsCaptured, CapturedStatesAreOne, CommitsKeepTheirOrder, EachIsAnsweredOnce, EndTablesAreCarried, IsAsCaptured, OnlyCallsAreAnswered, StagesAreOne, TablesSoFarAreCarried, TablesBeforeAreCarried, TwinCallsAreSame}
 use Rattle.law_replays.proofs.End.Truth.{Both, step_at, without}
 use Rattle.law_replays.proofs.End.Stages.{IsMade, captured_sound, made, more_pairs, one_end, one_run, replayed_sound, run_gives, run_sound, stays_sound}
 use Rattle.law_replays.proofs.End.Order.{answered, recorded, same_order}
-use Rattle.law_replays.proofs.End.Written.{in_order, needs_commit, numbered_is, recorded_in_order, waits}
+use Rattle.law_replays.proofs.End.Written.{fences_wait, in_order, needs_commit, numbered_is, recorded_in_order, waits}
 use Rattle.law_replays.proofs.End.Longer.{map_before}
 use Rattle.law_replays.proofs.End.Classes.{renamed_same}
-use Rattle.law_replays.proofs.End.Ends.{ends_carried, in_recorded, of_recorded, reply_rises}
+use Rattle.law_replays.proofs.End.Ends.{all_before, in_recorded, of_recorded, part_carried, reply_rises}
+use Rattle.law_replays.proofs.End.Seen.{before_answer}
 use Rattle.law_ids.proofs.Replays.Pairs.{one_to_one}
 use Rattle.law_replays.proofs.End.Again.{IsAsWas, StandsOwn, all_again, first_own}
 
@@ -74,19 +76,19 @@ commits_ordered job history replayable legal may i j m n call other reply answer
 -- ---- stages in between
 
 module _ (job : JobView) (history : List Event) (last : Stage) (replay : IsReplay job history last) (is_map : IsIdMap last.pairs) (i k : ℕ) (call : Captured) (reply : Reply) (before after : Stage) (there : IsAnsweredAt job history i k call reply before after) where
-  step_there : IsMade job history i k call reply before after last
+  pub step_there : IsMade job history i k call reply before after last
   step_there = made job history last replay.complete.truthful i k call reply before after there
 
-  after_map : IsIdMap after.pairs
+  pub after_map : IsIdMap after.pairs
   after_map = let more = more_pairs job after (drop (suc i) history) last step_there.rest in map_before after.pairs more.0 (subst IsIdMap more.1 is_map)
 
-  before_map : IsIdMap before.pairs
+  pub before_map : IsIdMap before.pairs
   before_map = map_before before.pairs (learnt call.reply reply) (subst IsIdMap step_there.pairs after_map)
 
-  before_sound : IsSoundState before.state × (before.state.start ≡ job.target)
+  pub before_sound : IsSoundState before.state × (before.state.start ≡ job.target)
   before_sound = stays_sound job (first_stage job) (take i history) before there.stood (replayed_sound job history last replay)
 
-  answer_rises : IsRising (committed_in reply.outcome)
+  pub answer_rises : IsRising (committed_in reply.outcome)
   answer_rises = reply_rises before.state after.state call.session (sent before.pairs job.remap call.call) reply before_sound.0 step_there.given
 
   -- ---- twins
@@ -119,7 +121,7 @@ module _ (job : JobView) (history : List Event) (last : Stage) (replay : IsRepla
   always k = true
 
   stamps_rise : answered history ≡ answered (recorded 0 job.calls)
-  stamps_rise = sym (all_true (answered history)) ∙ same_order always history (recorded 0 job.calls) (in_order job history replay.complete.legal always (λ m n less there t. order_requires job.mode again.order job.facts n m less)) (recorded_in_order job.calls always) (in_recorded job history last replay) (of_recorded job history last replay) ∙ all_true (answered (recorded 0 job.calls))
+  stamps_rise = sym (all_true (answered history)) ∙ same_order always history (recorded 0 job.calls) (in_order job history replay.complete.legal always (λ m n less there t. order_requires job.mode again.order job.facts n m less)) (recorded_in_order job.calls always) (λ k a is. in_recorded job history last replay k a) (λ k a is. of_recorded job history last replay k a) ∙ all_true (answered (recorded 0 job.calls))
 
   as_was : IsTruthfulHistory (Both (Executes job) (IsAsWas job)) (first_stage job) history last × (last.state ≡ replay.sound.replayable.legal.replies.0)
   as_was =
@@ -145,14 +147,30 @@ module _ (job : JobView) (history : List Event) (last : Stage) (replay : IsRepla
 
 -- ---- the laws
 
-pairs_map : (job : JobView) (history : List Event) (last : Stage) → IsReplay job history last → IsIdMap last.pairs
+pub pairs_map : (job : JobView) (history : List Event) (last : Stage) → IsReplay job history last → IsIdMap last.pairs
 pairs_map job history last replay = one_to_one job history last replay.sound.replayable replay.complete.legal replay.complete.truthful
 
 pub again_as_captured : AgainIsAsCaptured
 again_as_captured job history last replay again = as_captured job history last replay (pairs_map job history last replay) again
 
+pub so_far_carried : TablesSoFarAreCarried
+so_far_carried job history last stage captured i n replay may stood before quiet came = part_carried job history last replay may i n before (pairs_map job history last replay) stage stood quiet captured came
+
+pub before_carried : TablesBeforeAreCarried
+before_carried job history last captured replay may i k call reply before after there quiet came =
+    so_far_carried job history last before captured i k replay (fences_wait job.mode may) there.stood
+    (before_answer job history replay.sound.replayable replay.complete.legal may i k call reply there.is_call there.answers) quiet came
+
+-- the end is the place behind all events
 pub tables_carried : EndTablesAreCarried
-tables_carried job history last captured replay may quiet came = ends_carried job history last replay may quiet (pairs_map job history last replay) captured came
+tables_carried job history last captured replay may quiet came =
+    let all : take (length history) history ≡ history = take_all (length history) history (omega arith) in
+    let calls : take (length job.calls) job.calls ≡ job.calls = take_all (length job.calls) job.calls (omega arith) in
+    so_far_carried job history last last captured (length history) (length job.calls) replay may
+    (subst (λ (events : List Event). IsTruthfulFor job events last) (sym all) replay.complete.truthful)
+    (all_before job history last replay)
+    (subst (HasNoWriteDivergence job) (sym all) quiet)
+    (subst (λ (captured_calls : List Captured). IsRun Gives (opening job.start) captured_calls captured) (sym calls) came)
 
 pub twins_same : TwinCallsAreSame
 twins_same job history last captured replay schemas i k call reply before after there came twin = twin_same job history last replay (pairs_map job history last replay) i k call reply before after there schemas captured came twin

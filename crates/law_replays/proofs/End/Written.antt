@@ -1,5 +1,5 @@
 -- What commits write, in the order of their answers.
-use Rattle.std.proofs.Common.{◌≡◌, ℕ, zero, suc, ◌+◌, ◌<◌, Bool, true, false, if◌then◌else◌, List, [], ◌∷◌, ◌++◌, length, Option, None, Some, refl, sym, ap, subst, ◌∙◌, append-nil, append_assoc, arith, ⊎_elim}
+use Rattle.std.proofs.Common.{◌≡◌, ℕ, zero, suc, ◌+◌, ◌<◌, Bool, true, false, if◌then◌else◌, ◌||◌, List, [], ◌∷◌, ◌++◌, length, Option, None, Some, refl, sym, ap, subst, ◌∙◌, append-nil, append_assoc, arith, ⊎_elim}
 use Rattle.std.specs.Prelude.{slice_get}
 use Rattle.std.specs.List.{filter}
 use Rattle.std.proofs.lemmas.Bool.{cases_order, lt-ltb}
@@ -12,7 +12,7 @@ use Rattle.desk_values.specs.declared.capture.Event.{Event}
 use Rattle.machine_model.specs.State.{State}
 use Rattle.machine_model.specs.Step.{Gives, committed_in, reply_in, with_commit}
 use Rattle.replay_history.specs.declared.mode.Mode.{Mode}
-use Rattle.replay_history.specs.declared.mode.Mode.TheVariants.{Off, Scn, Object, Order}
+use Rattle.replay_history.specs.declared.mode.Mode.TheVariants.{Off, Scn, Object, Order, Fence}
 use Rattle.replay_history.specs.Capture.{IsRun, commits, commits_before}
 use Rattle.replay_history.specs.Gap.{IsCallAt}
 use Rattle.replay_history.specs.History.{AnswersAt, IsAnswered}
@@ -22,7 +22,7 @@ use Rattle.object_depends.specs.Required.{is_required}
 use Rattle.object_depends.proofs.Sound.{awaited_required}
 use Rattle.replay_job.specs.Job.{IsReplayable, JobView}
 use Rattle.replay_job.specs.Runs.{IsLegalFor, Requires}
-use Rattle.law_replays.specs.End.Answers.{WaitsForCommits}
+use Rattle.law_replays.specs.End.Answers.{FencesCommits, WaitsForCommits}
 use Rattle.law_replays.proofs.End.Order.{IsInOrder, answered, recorded}
 
 -- ---- order
@@ -51,10 +51,30 @@ waits_for Off facts sound never n m within less is = absurd never
 waits_for Scn facts sound may n m within less is = awaited_required Scn facts sound n m within less is
 waits_for Object facts sound never n m within less is = absurd never
 waits_for Order facts sound may n m within less is = awaited_required Order facts sound n m within less refl
+waits_for Fence facts sound may n m within less is = awaited_required Fence facts sound n m within less (elim (is_commit (fact_at facts n)) as (λ b. (b || is_commit (fact_at facts m)) ≡ true) [ true ↦ refl | false ↦ is ])
+
+-- where commits are fenced each call waits for the commits before it, and each commit for every call before it
+pub fences_wait : (mode : Mode) → FencesCommits mode → WaitsForCommits mode
+fences_wait Off never = absurd never
+fences_wait Scn never = absurd never
+fences_wait Object never = absurd never
+fences_wait Order may = tt
+fences_wait Fence may = tt
+
+fences_all : (mode : Mode) (facts : List Fact) → AreSound facts → FencesCommits mode → (n m : ℕ) → n < length facts → m < n → is_commit (fact_at facts n) ≡ true → is_required mode facts n m ≡ true
+fences_all Off facts sound never n m within less is = absurd never
+fences_all Scn facts sound never n m within less is = absurd never
+fences_all Object facts sound never n m within less is = absurd never
+fences_all Order facts sound may n m within less is = awaited_required Order facts sound n m within less refl
+fences_all Fence facts sound may n m within less is = awaited_required Fence facts sound n m within less (rw is refl)
 
 module _ (job : JobView) (replayable : IsReplayable job) where
   pub numbered : ℕ → Bool
   numbered k = is_commit (fact_at job.facts k)
+
+  pub numbered_fact : (k : ℕ) → numbered k ≡ is_commit (fact_at job.facts k)
+  unfolding numbered
+  numbered_fact k = refl
 
   -- the facts tell which calls are numbered commits
   pub numbered_is : (k : ℕ) (call : Captured) → IsCallAt job.calls k call → numbered k ≡ commits call.reply.outcome
@@ -69,6 +89,10 @@ module _ (job : JobView) (replayable : IsReplayable job) where
   pub needs_commit : WaitsForCommits job.mode → (m n : ℕ) → m < n → n < length job.calls → numbered m ≡ true → Requires job n m
   unfolding numbered
   needs_commit may m n less within is = waits_for job.mode job.facts replayable.known.sound may n m (omega (arith, within, replayable.known.count)) less is
+
+  pub needs_all : FencesCommits job.mode → (m n : ℕ) → m < n → n < length job.calls → numbered n ≡ true → Requires job n m
+  unfolding numbered
+  needs_all may m n less within is = fences_all job.mode job.facts replayable.known.sound may n m (omega (arith, within, replayable.known.count)) less is
 
 -- ---- what is written
 
@@ -132,6 +156,12 @@ module _ (calls : List Captured) where
   recorded_at k [] i n reply e = absurd cc
   recorded_at k (c ∷ rest) zero n reply e = let same : n ≡ k = cc in (omega (arith, same), omega arith)
   recorded_at k (c ∷ rest) (suc i) n reply e = let t = recorded_at (suc k) rest i n reply e in (omega (arith, t.0), omega (arith, t.1))
+
+  -- and it is the captured call's
+  pub recorded_call : (k : ℕ) (rest : List Captured) (i n : ℕ) (reply : Reply) → AnswersAt (recorded k rest) i n reply → (call : Captured) × IsCallAt rest i call
+  recorded_call k [] i n reply e = absurd cc
+  recorded_call k (c ∷ rest) zero n reply e = (c, refl)
+  recorded_call k (c ∷ rest) (suc i) n reply e = recorded_call (suc k) rest i n reply e
 
   pub at_recorded : (k : ℕ) (rest : List Captured) (i : ℕ) → i < length rest → (n : ℕ) → n ≡ k + i → IsAnswered (recorded k rest) n
   at_recorded k [] i within n e = absurd (omega (arith, within))

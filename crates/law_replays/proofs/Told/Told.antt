@@ -13,15 +13,16 @@ use Rattle.desk_values.specs.declared.call.Reply.{Reply}
 use Rattle.desk_schema.specs.declared.schema.Column.{Column}
 use Rattle.desk_schema.specs.Schema.{SchemaView, columns_of}
 use Rattle.desk_schema.proofs.Members.{Contains-here, Contains-there}
-use Rattle.sql_tree.specs.Plain.{Entry, Name, Plan, Term, commit, delete, drawn, insert, next, rollback, select, set_read_only, update, value}
-use Rattle.sql_reader.specs.Reading.{statement_of}
+use Rattle.sql_tree.specs.Plain.{Entry, Name, Plan, Term, commit, delete, drawn, insert, next, rollback, rollback_to, savepoint, select, set_read_only, update, value}
 use Rattle.sql_eval.specs.Check.{check_of}
 use Rattle.machine_model.specs.declared.effect.Effect.{Effect}
 use Rattle.machine_model.specs.declared.session.Session.{Session}
+use Rattle.machine_model.specs.declared.session.Transaction.{Transaction}
+use Rattle.machine_model.proofs.Marks.{each_up_to, each_with, own_at_one}
 use Rattle.machine_model.specs.Rows.{lay_all, of_table}
 use Rattle.machine_model.specs.State.{State, disconnected, session_at}
 use Rattle.machine_model.specs.View.{View, commits_seen, view_of}
-use Rattle.machine_model.specs.Request.{Request, checked, connect, disconnect, read, request_of, statement, table_in, table_named, unreadable, unsound}
+use Rattle.machine_model.specs.Request.{Request, checked, connect, disconnect, read, request_of, statement, statement_in, table_in, table_named, unreadable, unsound}
 use Rattle.machine_model.specs.Draws.{drawn_from, drawn_value, draws_from, draws_of, is_draw_of}
 use Rattle.machine_model.specs.Causes.{connect_fault, disconnect_fault, statement_fault}
 use Rattle.machine_model.specs.Found.{Environment, matches, matching}
@@ -41,9 +42,9 @@ use Rattle.law_server.specs.Renaming.Replies.{IsRenamedOutcome, rows, count, com
 use Rattle.law_server.proofs.Renaming.Checking.{inputs_name_no_row}
 use Rattle.law_server.proofs.Renaming.Found.{sound_twin}
 use Rattle.law_server.proofs.Renaming.Selecting.{renamed_rows}
-use Rattle.law_server.proofs.Renaming.Writing.{updated_renamed}
+use Rattle.law_server.proofs.Renaming.Writing.{stored_renamed, updated_renamed}
 use Rattle.law_replays.proofs.Told.Placed.{each_laid, each_laid_all, each_noted}
-use Rattle.law_replays.specs.Told.Own.{AreOwn, GivesOwn, HasOwnIds, IsOwn}
+use Rattle.law_replays.specs.Told.Own.{AreOwn, GivesOwn, HasOwnIds, IsOwn, KeepsOwn}
 use Rattle.law_replays.specs.Told.Laws.{StepsTellOwnIds}
 
 -- so do those of a reply's outcome, and of what the session has changed
@@ -51,6 +52,12 @@ record IsOwnAnswer (pairs : List IdPair) (a : Answer) : Type 0 where
   outcome : IsRenamedOutcome pairs a.reply.outcome a.reply.outcome
   written : AreOwn pairs (committed_in a.reply.outcome)
   own : AreOwn pairs a.own.changes
+  kept : AllByRecursion (KeepsOwn pairs) a.savepoints
+
+-- those of a view's session do
+record IsOwnView (pairs : List IdPair) (view : View) : Type 0 where
+  own : AreOwn pairs view.own.changes
+  kept : AllByRecursion (KeepsOwn pairs) view.savepoints
 
 zipped_own : {A : Type 0} (R : A → A → Type 0) (xs : List A) → AllByRecursion (λ x. R x x) xs → AllZip R xs xs
 zipped_own R [] h = tt
@@ -80,12 +87,12 @@ module _ (pairs : List IdPair) where
     | false ↦ own_drawn draws sequence t.1
   ]
 
-  unless_own : (view : View) (draws : List Value) (f : Option Fault) (a : Answer) → AreOwn pairs view.own.changes → (GivesOwn pairs a.reply → IsOwnAnswer pairs a) → GivesOwn pairs (unless view draws f a).reply → IsOwnAnswer pairs (unless view draws f a)
+  unless_own : (view : View) (draws : List Value) (f : Option Fault) (a : Answer) → IsOwnView pairs view → (GivesOwn pairs a.reply → IsOwnAnswer pairs a) → GivesOwn pairs (unless view draws f a).reply → IsOwnAnswer pairs (unless view draws f a)
   unless_own view draws None a own is given = is given
-  unless_own view draws (Some fault) a own is given = record { outcome = refused fault; written = tt; own = own }
+  unless_own view draws (Some fault) a own is given = record { outcome = refused fault; written = tt; own = own.own; kept = own.kept }
 
-  done_own : (table : ℕ) (view : View) (draws : List Value) (effect : Effect) → AreOwn pairs view.own.changes → IsRenamedOutcome pairs effect.outcome effect.outcome → AreOwn pairs (committed_in effect.outcome) → AreOwn pairs effect.writing.images → IsOwnAnswer pairs (done table view draws effect)
-  done_own table view draws effect own outcome wrote images = record { outcome = outcome; written = wrote; own = each_noted (IsOwn pairs) view.own.changes effect.writing.images own images }
+  done_own : (table : ℕ) (view : View) (draws : List Value) (effect : Effect) → IsOwnView pairs view → IsRenamedOutcome pairs effect.outcome effect.outcome → AreOwn pairs (committed_in effect.outcome) → AreOwn pairs effect.writing.images → IsOwnAnswer pairs (done table view draws effect)
+  done_own table view draws effect own outcome wrote images = record { outcome = outcome; written = wrote; own = each_noted (IsOwn pairs) view.own.changes effect.writing.images own.own images; kept = own.kept }
 
   module _ (once : HasNoIdTwice pairs) (level : ℕ) (binds : List Value) (known : AreRenamed pairs binds binds) where
     abbrev env : Environment
@@ -94,8 +101,8 @@ module _ (pairs : List IdPair) where
     module _ (draws : List Value) (drew : AreRenamed pairs draws draws) where
       own_inputs : (entries : List (Entry ℕ)) → AllByRecursion IsInput entries → AreRenamed pairs (inputs_for env draws entries) (inputs_for env draws entries)
       own_inputs [] plain = tt
-      own_inputs (value e ∷ entries) plain = (renamed_of (sound_twin (value_twins pairs level 0 0 [] [] tt binds binds known e (λ t. absurd (let f = plain.0 in cc)))), own_inputs entries plain.1)
-      own_inputs (drawn sequence ∷ entries) plain = (own_drawn draws sequence drew, own_inputs entries plain.1)
+      own_inputs (value e ∷ entries) plain = (stored_renamed pairs level _ _ (renamed_of (sound_twin (value_twins pairs level 0 0 [] [] tt binds binds known e (λ t. absurd (let f = plain.0 in cc))))), own_inputs entries plain.1)
+      own_inputs (drawn sequence ∷ entries) plain = (stored_renamed pairs level _ _ (own_drawn draws sequence drew), own_inputs entries plain.1)
 
       own_column : (inputs : List Value) → AreRenamed pairs inputs inputs → (at : Option ℕ) → IsRenamed pairs (unwrap_or (option_and_then (slice_get inputs) at) Null) (unwrap_or (option_and_then (slice_get inputs) at) Null)
       own_column inputs t None = tt
@@ -105,7 +112,7 @@ module _ (pairs : List IdPair) where
       own_row named inputs t number [] = tt
       own_row named inputs t number (c ∷ cs) = (own_column inputs t (input_place named number), own_row named inputs t (number + 1) cs)
 
-    module _ (schema : SchemaView) (view : View) (seen : AreOwn pairs view.rows) (own : AreOwn pairs view.own.changes) (ns : List ℕ) (row : ℕ) where
+    module _ (schema : SchemaView) (view : View) (seen : AreOwn pairs view.rows) (own : IsOwnView pairs view) (ns : List ℕ) (row : ℕ) where
       own_found : (condition : Option (Term ℕ)) → AreOwn pairs (matching env condition view.rows)
       own_found condition = each_filtered (IsOwn pairs) (matches env condition) view.rows seen
 
@@ -118,7 +125,7 @@ module _ (pairs : List IdPair) where
           unless_own view [] _ _ own (λ given. done_own table view [] (select_effect env view asked condition keys for_update) own (rows _ _ (renamed_rows pairs once level binds binds known found found (own_bags (IsRenamedImage pairs) found (own_found condition)) asked keys)) tt tt) given
       executed_own (next sequence) plain given =
           let drew = given_draws (next sequence) ns (executed schema view ns row env (next sequence)).reply refl given in
-          record { outcome = rows _ _ (own_bags (AreRenamed pairs) (draws_of (next sequence) ns ∷ []) (drew, tt)); written = tt; own = own }
+          record { outcome = rows _ _ (own_bags (AreRenamed pairs) (draws_of (next sequence) ns ∷ []) (drew, tt)); written = tt; own = own.own; kept = own.kept }
       executed_own (insert table named entries) plain given =
           let cs = columns_of schema.tables table in
           let draws = draws_of (insert table named entries) ns in
@@ -130,9 +137,17 @@ module _ (pairs : List IdPair) where
           done_own table view draws effect own (count 1) tt (image, tt)) given
       executed_own (update table changes condition) plain given = unless_own view [] _ _ own (λ given. done_own table view [] (update_effect env view changes condition) own (count _) tt (own_changed (updated env changes) (λ image t. updated_renamed pairs once level binds binds known changes image image t) condition)) given
       executed_own (delete table condition) plain given = unless_own view [] _ _ own (λ given. done_own table view [] (delete_effect env view condition) own (count _) tt (own_changed gone (λ image t. record { row = t.row; table = refl; left = tt }) condition)) given
-      executed_own commit plain given = record { outcome = committed _ _ (own_bags (IsRenamedImage pairs) view.own.changes own); written = own; own = tt }
-      executed_own rollback plain given = record { outcome = rolled_back; written = tt; own = tt }
-      executed_own set_read_only plain given = record { outcome = marked; written = tt; own = own }
+      executed_own commit plain given = record { outcome = committed _ _ (own_bags (IsRenamedImage pairs) view.own.changes own.own); written = own.own; own = tt; kept = tt }
+      executed_own rollback plain given = record { outcome = rolled_back; written = tt; own = tt; kept = tt }
+      executed_own set_read_only plain given = record { outcome = marked; written = tt; own = own.own; kept = own.kept }
+      executed_own (savepoint name) plain given =
+          record { outcome = marked; written = tt; own = own.own; kept = each_with (KeepsOwn pairs) view.savepoints (record { name = name; own = view.own }) own.kept own.own }
+      executed_own (rollback_to name) plain given = record {
+        outcome = rolled_back;
+        written = tt;
+        own = own_at_one (λ (o : Transaction). AreOwn pairs o.changes) name view.own view.savepoints own.own own.kept;
+        kept = each_up_to (KeepsOwn pairs) name view.savepoints own.kept;
+      }
 
   -- ---- all calls
 
@@ -152,14 +167,14 @@ module _ (pairs : List IdPair) where
 
   own_request : (schema : SchemaView) (call : Call) → AreRenamed pairs (binds_of call) (binds_of call) → IsOwnRequest (request_of schema call)
   own_request schema (Connect service) known = tt
-  own_request schema (Sql text binds) known = own_read schema binds known (statement_of text)
+  own_request schema (Sql text binds) known = own_read schema binds known (statement_in schema.version text)
   own_request schema Disconnect known = tt
 
-  answer_own : HasNoIdTwice pairs → (schema : SchemaView) (view : View) → AreOwn pairs view.rows → AreOwn pairs view.own.changes → (ns : List ℕ) (row : ℕ) (request : Request) → IsOwnRequest request → GivesOwn pairs (answer schema view ns row request).reply → IsOwnAnswer pairs (answer schema view ns row request)
-  answer_own once schema view seen own ns row (connect service) is given = unless_own view [] (connect_fault view service) _ own (λ given. record { outcome = connected; written = tt; own = own }) given
-  answer_own once schema view seen own ns row disconnect is given = unless_own view [] (disconnect_fault view) _ own (λ given. record { outcome = over; written = tt; own = tt }) given
-  answer_own once schema view seen own ns row unreadable is given = record { outcome = refused _; written = tt; own = own }
-  answer_own once schema view seen own ns row (unsound table fault) is given = record { outcome = refused _; written = tt; own = own }
+  answer_own : HasNoIdTwice pairs → (schema : SchemaView) (view : View) → AreOwn pairs view.rows → IsOwnView pairs view → (ns : List ℕ) (row : ℕ) (request : Request) → IsOwnRequest request → GivesOwn pairs (answer schema view ns row request).reply → IsOwnAnswer pairs (answer schema view ns row request)
+  answer_own once schema view seen own ns row (connect service) is given = unless_own view [] (connect_fault view service) _ own (λ given. record { outcome = connected; written = tt; own = own.own; kept = own.kept }) given
+  answer_own once schema view seen own ns row disconnect is given = unless_own view [] (disconnect_fault view) _ own (λ given. record { outcome = over; written = tt; own = tt; kept = tt }) given
+  answer_own once schema view seen own ns row unreadable is given = record { outcome = refused _; written = tt; own = own.own; kept = own.kept }
+  answer_own once schema view seen own ns row (unsound table fault) is given = record { outcome = refused _; written = tt; own = own.own; kept = own.kept }
   answer_own once schema view seen own ns row (statement plan binds) is given = unless_own view [] (statement_fault view plan) _ own (executed_own once schema.level binds is.0 schema view seen own ns row plan is.1) given
 
   -- ---- states
@@ -172,8 +187,11 @@ module _ (pairs : List IdPair) where
     own_seen None = is.commits
     own_seen (Some n) = each_taken (AreOwn pairs) n state.commits is.commits
 
-    own_view : (table : Option ℕ) → AreOwn pairs (view_of state session table).rows × AreOwn pairs (view_of state session table).own.changes
-    own_view None = (tt, own_session)
+    own_kept : AllByRecursion (KeepsOwn pairs) (session_at state session).savepoints
+    own_kept = one_of (λ (s : Session). AllByRecursion (KeepsOwn pairs) s.savepoints) state.sessions session disconnected tt is.kept
+
+    own_view : (table : Option ℕ) → AreOwn pairs (view_of state session table).rows × IsOwnView pairs (view_of state session table)
+    own_view None = (tt, record { own = own_session; kept = own_kept })
     own_view (Some table) =
         let mine = session_at state session in
         let among = commits_seen mine.snapshot state.commits in (
@@ -181,7 +199,7 @@ module _ (pairs : List IdPair) where
               (each_laid_all (IsOwn pairs) (of_table table state.start.rows) (map (of_table table) among) (each_filtered (IsOwn pairs) _ state.start.rows is.start)
               (each_mapped (AreOwn pairs) (of_table table) among (each_weaker (AreOwn pairs) (λ images. AreOwn pairs (of_table table images)) (λ images t. each_filtered (IsOwn pairs) _ images t) among (own_seen mine.snapshot))))
               (each_filtered (IsOwn pairs) _ mine.own.changes own_session),
-          own_session,
+          record { own = own_session; kept = own_kept },
         )
 
   own_commits : (commits : List (List Image)) (images : List Image) → AllByRecursion (AreOwn pairs) commits → AreOwn pairs images → AllByRecursion (AreOwn pairs) (with_commit commits images)
@@ -207,6 +225,7 @@ module _ (pairs : List IdPair) where
           start = is.start;
           commits = own_commits state.commits (committed_in a.reply.outcome) is.commits own_answer.written;
           sessions = each_set (λ (s : Session). AreOwn pairs s.own.changes) state.sessions session (session_after (session_at state session) (length state.commits) a) own_answer.own is.sessions;
+          kept = each_set (λ (s : Session). AllByRecursion (KeepsOwn pairs) s.savepoints) state.sessions session (session_after (session_at state session) (length state.commits) a) own_answer.kept is.kept;
         }
 
 pub steps_tell_own : StepsTellOwnIds

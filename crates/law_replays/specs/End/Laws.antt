@@ -1,5 +1,5 @@
 -- The laws of whole replays.
-use Rattle.std.specs.Prelude.{◌≡◌, ℕ, ◌<◌, true, List}
+use Rattle.std.specs.Prelude.{◌≡◌, ◌↔◌, ℕ, ◌<◌, ◌≤◌, true, List, take}
 use Rattle.desk_values.specs.declared.value.Image.{Image}
 use Rattle.desk_values.specs.declared.call.Reply.{Reply}
 use Rattle.desk_values.specs.declared.capture.Captured.{Captured}
@@ -8,11 +8,11 @@ use Rattle.machine_model.specs.State.{State}
 use Rattle.replay_history.specs.declared.report.Class.TheVariants.{Same}
 use Rattle.replay_history.specs.Capture.{commits}
 use Rattle.replay_history.specs.Gap.{IsCallAt}
-use Rattle.replay_history.specs.History.{AnswersAt}
+use Rattle.replay_history.specs.History.{AnswersAt, IsAnsweredBefore}
 use Rattle.id_pairs.specs.Pairs.{IdPair, IsIdMap}
 use Rattle.replay_job.specs.Job.{IsReplayable, JobView}
 use Rattle.replay_job.specs.Runs.{IsCompleteFor, IsLegalFor, IsTruthfulFor, Stage, end_tables}
-use Rattle.law_replays.specs.End.Answers.{HasNoWriteDivergence, IsAgain, IsAnsweredAt, IsReplay, WaitsForCommits, class_after}
+use Rattle.law_replays.specs.End.Answers.{FencesCommits, HasCommitsBefore, HasNoWriteDivergence, IsAgain, IsAnsweredAt, IsReplay, WaitsForCommits, class_after}
 use Rattle.law_replays.specs.End.Tables.{AreCarried, CameTo}
 use Rattle.law_replays.specs.End.Twins.{CameBefore, IsTwinCall}
 
@@ -67,6 +67,28 @@ CommitsKeepTheirOrder = (job : JobView) (history : List Event) → IsReplayable 
     → (i j m n : ℕ) (call other : Captured) (reply answer : Reply) → IsCallAt job.calls m call → IsCallAt job.calls n other
     → commits call.reply.outcome ≡ true → commits other.reply.outcome ≡ true → AnswersAt history i m reply
     → AnswersAt history j n answer → m < n → i < j
+
+-- where a numbered commit waits for each call before it too, just those are answered before a call that it saw
+abbrev pub SeenCommitsAreAnswered : Type 0
+SeenCommitsAreAnswered = (job : JobView) (history : List Event) → IsReplayable job → IsLegalFor job history → FencesCommits job.mode
+    → (i k m : ℕ) (call other : Captured) (reply : Reply) → IsCallAt job.calls k call → IsCallAt job.calls m other
+    → AnswersAt history i k reply → commits other.reply.outcome ≡ true → IsAnsweredBefore history i m ↔ (other.number ≤ call.seen)
+
+-- Where just the numbered commits of the calls before a stamp are answered before a place, and there was no write divergence before
+-- it, the tables there are those that the captured server had just before that stamp, under the pairs there.
+abbrev pub TablesSoFarAreCarried : Type 0
+TablesSoFarAreCarried = (job : JobView) (history : List Event) (last stage : Stage) (captured : State) (i n : ℕ)
+    → IsReplay job history last → WaitsForCommits job.mode → IsTruthfulFor job (take i history) stage
+    → HasCommitsBefore job history i n → HasNoWriteDivergence job (take i history)
+    → CameBefore job n captured → AreCarried stage.pairs (end_tables captured) (end_tables stage.state)
+
+-- so they are before each answer where a numbered commit waits for each call before it too
+abbrev pub TablesBeforeAreCarried : Type 0
+TablesBeforeAreCarried = (job : JobView) (history : List Event) (last : Stage) (captured : State)
+    → IsReplay job history last → FencesCommits job.mode
+    → (i k : ℕ) (call : Captured) (reply : Reply) (before after : Stage) → IsAnsweredAt job history i k call reply before after
+    → HasNoWriteDivergence job (take i history)
+    → CameBefore job k captured → AreCarried before.pairs (end_tables captured) (end_tables before.state)
 
 -- and without a write divergence the tables at the end are the captured ones under the pairs at the end
 abbrev pub EndTablesAreCarried : Type 0

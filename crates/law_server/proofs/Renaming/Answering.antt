@@ -1,25 +1,29 @@
 -- Twin calls at twin views are answered alike.
 use Rattle.std.proofs.Common.{◌≡◌, ℕ, ◌||◌, ◌&&◌, not, List, [], ◌∷◌, ◌++◌, length, if◌then◌else◌, Option, None, Some, refl, sym, ap, subst, ◌∙◌}
 use Rattle.std.specs.Prelude.{is_none, is_some}
+use Rattle.std.specs.List.{AllZip}
+use Rattle.std.specs.Str.{bytes_eq}
 use Rattle.desk_values.specs.declared.value.Value.{Value}
 use Rattle.desk_values.specs.declared.fault.Fault.{Fault}
-use Rattle.desk_values.specs.declared.fault.Fault.TheVariants.{AlreadyConnected, NotConnected, ReadOnly, UnderWay, UnknownService}
+use Rattle.desk_values.specs.declared.fault.Fault.TheVariants.{AlreadyConnected, NoSavepoint, NotConnected, ReadOnly, UnderWay, UnknownService}
 use Rattle.desk_values.specs.declared.call.Outcome.TheVariants.{Count, Refused}
 use Rattle.desk_values.specs.declared.call.Call.{Call}
 use Rattle.desk_values.specs.declared.call.Reply.{Reply}
 use Rattle.desk_schema.specs.declared.schema.Rights.{Rights}
 use Rattle.desk_schema.specs.Schema.{SchemaView, columns_of}
-use Rattle.sql_tree.specs.Plain.{Plan, select, next, insert, update, delete, commit, rollback, set_read_only}
+use Rattle.sql_tree.specs.Plain.{Plan, select, next, insert, update, delete, commit, rollback, set_read_only, savepoint, rollback_to}
 use Rattle.machine_model.specs.Found.{Environment}
-use Rattle.machine_model.specs.Causes.{connect_fault, disconnect_fault, is_read_only, is_under_way, needs_write_access, ranked, sets_read_only, statement_fault}
+use Rattle.machine_model.specs.Causes.{connect_fault, disconnect_fault, is_empty, is_read_only, is_under_way, lacks_savepoint, needs_write_access, ranked, sets_read_only, statement_fault}
 use Rattle.machine_model.specs.Draws.{draws_of}
 use Rattle.machine_model.specs.Request.{Request}
+use Rattle.machine_model.specs.declared.session.Savepoint.{Savepoint}
+use Rattle.machine_model.specs.Savepoints.{has_savepoint}
 use Rattle.machine_model.specs.View.{View}
 use Rattle.machine_model.specs.Answer.{Answer, answer, executed, unless}
 use Rattle.id_pairs.specs.Pairs.{HasNoIdTwice, IdPair, IsIdMap, learnt}
 use Rattle.id_pairs.specs.Renaming.{AreRenamed}
 use Rattle.law_server.proofs.Rows.Bags.{moved_same}
-use Rattle.law_server.specs.Renaming.Twins.{AreTwinCalls, IsRenamedKey, IsRenamedRow, AreTwinViews, IsRisingView}
+use Rattle.law_server.specs.Renaming.Twins.{AreTwinCalls, AreTwinSavepoints, IsRenamedKey, IsRenamedRow, AreTwinViews, IsRisingView}
 use Rattle.law_server.proofs.Renaming.Matched.{AreMatched, matched, views_rise}
 use Rattle.law_server.specs.Rows.Images.{IsRenamedImage}
 use Rattle.law_server.specs.Renaming.Replies.{IsRenamedOutcome, rows, count, committed, rolled_back, marked, connected, disconnected, refused, IsRenamedReply}
@@ -68,6 +72,8 @@ executed_draws schema view ns row env (delete table condition) = unless_draws vi
 executed_draws schema view ns row env commit = refl
 executed_draws schema view ns row env rollback = refl
 executed_draws schema view ns row env set_read_only = refl
+executed_draws schema view ns row env (savepoint name) = refl
+executed_draws schema view ns row env (rollback_to name) = refl
 
 module _ (pairs : List IdPair) where
   refused_alike : (f g : Fault) → f ≡ g → IsRenamedOutcome pairs (Refused f) (Refused g)
@@ -108,8 +114,24 @@ module _ (pairs : List IdPair) where
     executed_alike commit inputs same renamed = record { outcome = committed _ _ twins.changes; draws = tt; made = refl }
     executed_alike rollback inputs same renamed = record { outcome = rolled_back; draws = tt; made = refl }
     executed_alike set_read_only inputs same renamed = record { outcome = marked; draws = tt; made = refl }
+    executed_alike (savepoint name) inputs same renamed = record { outcome = marked; draws = tt; made = refl }
+    executed_alike (rollback_to name) inputs same renamed = record { outcome = rolled_back; draws = tt; made = refl }
 
 -- ---- before anything is drawn
+
+-- savepoints of equal names
+module _ (pairs : List IdPair) where
+  same_named : (name : List ℕ) (xs ys : List Savepoint) → AllZip (AreTwinSavepoints pairs) xs ys → has_savepoint name xs ≡ has_savepoint name ys
+  same_named name [] [] twins = refl
+  same_named name [] (y ∷ ys) twins = absurd twins
+  same_named name (x ∷ xs) [] twins = absurd twins
+  same_named name (x ∷ xs) (y ∷ ys) twins = let rest = same_named name xs ys twins.1 in λ i. bytes_eq (twins.0.name i) name || rest i
+
+  same_marked : (xs ys : List Savepoint) → AllZip (AreTwinSavepoints pairs) xs ys → is_empty xs ≡ is_empty ys
+  same_marked [] [] twins = refl
+  same_marked [] (y ∷ ys) twins = absurd twins
+  same_marked (x ∷ xs) [] twins = absurd twins
+  same_marked (x ∷ xs) (y ∷ ys) twins = refl
 
 same_none : {A B : Type 0} (o : Option A) (p : Option B) → is_some o ≡ is_some p → is_none o ≡ is_none p
 same_none None None e = refl
@@ -129,11 +151,16 @@ module _ (pairs : List IdPair) (view other : View) (twins : AreMatched pairs vie
       let c = bags_empty (IsRenamedImage pairs) view.own.changes other.own.changes twins.changes in
       let r = sets_empty (IsRenamedRow pairs) view.own.rows other.own.rows twins.own_rows in
       let k = sets_empty (IsRenamedKey pairs) view.own.keys other.own.keys twins.own_keys in
-      λ i. twins.reads_only i || not (c i) || not (r i) || not (k i)
+      let s = same_marked pairs view.savepoints other.savepoints twins.savepoints in
+      λ i. twins.reads_only i || not (c i) || not (r i) || not (k i) || not (s i)
+
+  same_lacks : (plan : Plan ℕ) → lacks_savepoint view plan ≡ lacks_savepoint other plan
+  same_lacks (rollback_to name) = ap not (same_named pairs name view.savepoints other.savepoints twins.savepoints)
+  same_lacks plan = refl
 
   same_statement_fault : (plan : Plan ℕ) → statement_fault view plan ≡ statement_fault other plan
   unfolding statement_fault
-  same_statement_fault plan = λ i. if is_none (twins.rights i) then Some NotConnected else if needs_write_access plan && (is_read_only (twins.rights i) || twins.reads_only i) then Some ReadOnly else if sets_read_only plan && same_under_way i then Some UnderWay else None
+  same_statement_fault plan = λ i. if is_none (twins.rights i) then Some NotConnected else if needs_write_access plan && (is_read_only (twins.rights i) || twins.reads_only i) then Some ReadOnly else if sets_read_only plan && same_under_way i then Some UnderWay else if same_lacks plan i then Some NoSavepoint else None
 
 -- ---- all calls
 

@@ -20,7 +20,7 @@ empty_sets R = record { forth = λ x c. absurd (Contains-none x c); back = λ y 
 
 -- sessions that hold and have changed nothing
 twin_views : (pairs : List IdPair) (rows others : List Image) → AreBags (IsRenamedImage pairs) rows others → AreTwinViews pairs (view_with rows) (view_with others)
-twin_views pairs rows others bags = record { rights = refl; reads_only = refl; changes = empty_sets _; own_rows = empty_sets _; own_keys = empty_sets _; rows = bags_sets _ _ _ bags; locked = empty_sets _; locked_keys = empty_sets _ }
+twin_views pairs rows others bags = record { rights = refl; reads_only = refl; changes = empty_sets _; own_rows = empty_sets _; own_keys = empty_sets _; savepoints = tt; rows = bags_sets _ _ _ bags; locked = empty_sets _; locked_keys = empty_sets _ }
 
 crossed_rows : AreBags (IsRenamedImage crossed) first_view.rows second_view.rows
 crossed_rows = record {

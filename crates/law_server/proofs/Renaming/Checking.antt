@@ -17,13 +17,12 @@ use Rattle.sql_tree.specs.Plain.{Name, Term, Entry, Plan, Asked, Total}
 use Rattle.sql_tree.specs.Plain as tree
 use Rattle.sql_tree.specs.Leaves.{entry_leaves, leaves, plan_leaves}
 use Rattle.sql_tree.specs.Naming.{Naming, map_entry, map_term}
-use Rattle.sql_reader.specs.Reading.{statement_of}
 use Rattle.sql_eval.specs.Value.{bind_at}
 use Rattle.sql_eval.specs.Kinds.{are_inputs, entry_kind, fits_column, has_order, is_asked, is_key, is_number, is_total, is_truth, is_where, kind_at, kind_of, kind_of_value, kinds_agree, of_two, operator_kind, passes, target_kinds}
 use Rattle.sql_eval.specs.Check.{applies, first_fault, is_missing_bind, is_of_row}
 use Rattle.sql_eval.specs.Faults.{unless_told}
 use Rattle.sql_eval.specs.SchemaNames.{columns_at, numbered, numbers, table_number}
-use Rattle.machine_model.specs.Request.{Request, connect, disconnect, unreadable, unsound, statement, checked, read, request_of, table_named}
+use Rattle.machine_model.specs.Request.{Request, connect, disconnect, unreadable, unsound, statement, checked, read, request_of, statement_in, table_named}
 use Rattle.id_pairs.specs.declared.Id.TheVariants as id
 use Rattle.id_pairs.specs.Pairs.{AreLike, IdPair}
 use Rattle.id_pairs.specs.Renaming.{AreRenamed}
@@ -119,6 +118,8 @@ module _ (pairs : List IdPair) (like : AllLike pairs) where
       agree_same tree.commit = refl
       agree_same tree.rollback = refl
       agree_same tree.set_read_only = refl
+      agree_same (tree.savepoint name) = refl
+      agree_same (tree.rollback_to name) = refl
 
     applies_same : (schema : SchemaView) (parsed : Plan Name) (fault : Fault) → applies schema binds parsed fault ≡ applies schema sent parsed fault
     applies_same schema parsed BindMissing = ap (λ n. list_any (is_missing_bind n) (plan_leaves parsed)) (same_length binds sent given)
@@ -173,6 +174,8 @@ checked_inputs schema binds (tree.delete table condition) e = tt
 checked_inputs schema binds tree.commit e = tt
 checked_inputs schema binds tree.rollback e = tt
 checked_inputs schema binds tree.set_read_only e = tt
+checked_inputs schema binds (tree.savepoint name) e = tt
+checked_inputs schema binds (tree.rollback_to name) e = tt
 
 inputs_of : (schema : SchemaView) (parsed : Plan Name) (f : Option Fault) (plan : Plan ℕ) → (f ≡ None → HasInputs (numbered schema parsed)) → unless_told f (Ok (numbered schema parsed)) ≡ Ok plan → HasInputs plan
 inputs_of schema parsed None plan inputs e = let P : Plan ℕ → Type 0 = HasInputs in subst P (cc) (inputs refl)
@@ -203,5 +206,5 @@ module _ (pairs : List IdPair) (like : AllLike pairs) (schema : SchemaView) wher
 
   pub twin_requests : {call sent : Call} → AreTwinCalls schema pairs call sent → AreTwinRequests pairs (request_of schema call) (request_of schema sent)
   twin_requests ends = disconnecting
-  twin_requests (asks t binds sent given) = read_twins binds sent given (statement_of t)
+  twin_requests (asks t binds sent given) = read_twins binds sent given (statement_in schema.version t)
   twin_requests (connects service other e) = connecting (rights_of schema.services service) (rights_of schema.services other) e

@@ -37,7 +37,7 @@ use Rattle.law_server.specs.Renaming.Replies.{IsRenamedMade}
 use Rattle.law_server.proofs.Renaming.Longer.{values_longer}
 use Rattle.law_server.proofs.Renaming.Keys.{key_of_image, key_of_values, same_lock, same_repeats}
 use Rattle.law_server.proofs.Renaming.Found.{sound_twin}
-use Rattle.law_server.proofs.Renaming.Writing.{same_column, same_length, same_null, same_range}
+use Rattle.law_server.proofs.Renaming.Writing.{stored_renamed, same_column, same_length, same_null, same_range}
 use Rattle.desk_schema.proofs.Members.{Contains-here}
 
 -- ---- draws of two servers
@@ -121,7 +121,7 @@ module _ (pairs : List IdPair) where
 
       inputs_renamed : (entries : List (Entry ℕ)) → AllByRecursion IsInput entries → AreRenamed pairs (inputs_for one draws entries) (inputs_for two others entries)
       inputs_renamed [] s = tt
-      inputs_renamed (entry ∷ entries) s = (renamed_of (sound_twin (input_part entry s.0)), inputs_renamed entries s.1)
+      inputs_renamed (entry ∷ entries) s = (stored_renamed pairs level _ _ (renamed_of (sound_twin (input_part entry s.0))), inputs_renamed entries s.1)
 
       any_input : (test : Result Value Fault → Bool) → ((r q : Result Value Fault) → TwinPart pairs r q → test r ≡ test q) → (entries : List (Entry ℕ)) → AllByRecursion IsInput entries → list_any (λ entry. test (input_value one draws entry)) entries ≡ list_any (λ entry. test (input_value two others entry)) entries
       any_input test alike [] s = refl

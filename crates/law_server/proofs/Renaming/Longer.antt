@@ -3,13 +3,14 @@ use Rattle.std.proofs.Common.{List, [], ◌∷◌, Option, None, Some}
 use Rattle.std.specs.List.{AllZip, Contains}
 use Rattle.desk_values.specs.declared.value.Value.{Value}
 use Rattle.desk_values.specs.declared.value.Image.{Image}
+use Rattle.machine_model.specs.declared.session.Savepoint.{Savepoint}
 use Rattle.machine_model.specs.View.{View}
 use Rattle.id_pairs.specs.Pairs.{IdPair}
 use Rattle.id_pairs.specs.Renaming.{AreRenamed, IsRenamed}
 use Rattle.law_server.specs.Rows.Bags.{AreBags}
 use Rattle.law_server.specs.Rows.Images.{IsRenamedImage, IsRenamedLeft}
 use Rattle.law_server.proofs.Rows.Expressions.{Twin, null, int, text, row, draw, renamed_of, twin_of}
-use Rattle.law_server.specs.Renaming.Twins.{AreSets, IsRenamedKey, IsRenamedRow}
+use Rattle.law_server.specs.Renaming.Twins.{AreSets, AreTwinSavepoints, IsRenamedKey, IsRenamedRow}
 use Rattle.law_server.proofs.Renaming.Matched.{AreMatched}
 
 module _ {A B : Type 0} (R S : A → B → Type 0) (carried : (x : A) (y : B) → R x y → S x y) where
@@ -54,6 +55,14 @@ module _ (pairs more : List IdPair) (within : (p : IdPair) → Contains pairs p 
   image_longer : (image other : Image) → IsRenamedImage pairs image other → IsRenamedImage more image other
   image_longer image other t = record { row = within _ t.row; table = t.table; left = left_longer image.left other.left t.left }
 
+  savepoint_longer : (savepoint other : Savepoint) → AreTwinSavepoints pairs savepoint other → AreTwinSavepoints more savepoint other
+  savepoint_longer savepoint other t = record {
+    name = t.name;
+    changes = sets_so (IsRenamedImage pairs) (IsRenamedImage more) image_longer t.changes;
+    own_rows = sets_so (IsRenamedRow pairs) (IsRenamedRow more) (λ m n c. within _ c) t.own_rows;
+    own_keys = sets_so (IsRenamedKey pairs) (IsRenamedKey more) (λ h k s. record { table = s.table; key = value_longer h.key k.key s.key }) t.own_keys;
+  }
+
   pub views_longer : (view other : View) → AreMatched pairs view other → AreMatched more view other
   views_longer view other t = record {
     rights = t.rights;
@@ -61,6 +70,7 @@ module _ (pairs more : List IdPair) (within : (p : IdPair) → Contains pairs p 
     changes = bags_so (IsRenamedImage pairs) (IsRenamedImage more) image_longer t.changes;
     own_rows = sets_so (IsRenamedRow pairs) (IsRenamedRow more) (λ m n c. within _ c) t.own_rows;
     own_keys = sets_so (IsRenamedKey pairs) (IsRenamedKey more) (λ h k s. record { table = s.table; key = value_longer h.key k.key s.key }) t.own_keys;
+    savepoints = zipped_so (AreTwinSavepoints pairs) (AreTwinSavepoints more) savepoint_longer view.savepoints other.savepoints t.savepoints;
     rows = bags_so (IsRenamedImage pairs) (IsRenamedImage more) image_longer t.rows;
     locked = sets_so (IsRenamedImage pairs) (IsRenamedImage more) image_longer t.locked;
     locked_keys = sets_so (IsRenamed pairs) (IsRenamed more) value_longer t.locked_keys;

@@ -1,7 +1,7 @@
 -- Twin views that rise are matched one to one.
 use Rattle.std.proofs.Common.{◌≡◌, ℕ, zero, suc, List, [], ◌∷◌, map, Option, None, Some}
 use Rattle.std.specs.Prelude.{slice_index_or}
-use Rattle.std.specs.List.{AllByRecursion}
+use Rattle.std.specs.List.{AllByRecursion, AllZip}
 use Rattle.machine_model.specs.Rows.{lay_all, of_table}
 use Rattle.machine_model.specs.Sound.{HasSoundChanges, IsSoundState}
 use Rattle.machine_model.specs.State.{State, disconnected, session_at}
@@ -16,7 +16,7 @@ use Rattle.id_pairs.specs.Renaming.{IsRenamed}
 use Rattle.law_server.specs.Rows.Bags.{AreBags}
 use Rattle.law_server.specs.Rows.Images.{IsRenamedImage}
 use Rattle.law_server.specs.Renaming.Laws.{ViewsRise}
-use Rattle.law_server.specs.Renaming.Twins.{AreSets, AreTwinViews, IsRenamedKey, IsRenamedRow, IsRisingView}
+use Rattle.law_server.specs.Renaming.Twins.{AreSets, AreTwinSavepoints, AreTwinViews, IsRenamedKey, IsRenamedRow, IsRisingView}
 use Rattle.law_server.proofs.Renaming.Rising.{rising_bags}
 
 -- own changes and rows one to one
@@ -26,6 +26,7 @@ pub record AreMatched (pairs : List IdPair) (view other : View) : Type 0 where
   pub changes : AreBags (IsRenamedImage pairs) view.own.changes other.own.changes
   pub own_rows : AreSets (IsRenamedRow pairs) view.own.rows other.own.rows
   pub own_keys : AreSets (IsRenamedKey pairs) view.own.keys other.own.keys
+  pub savepoints : AllZip (AreTwinSavepoints pairs) view.savepoints other.savepoints
   pub rows : AreBags (IsRenamedImage pairs) view.rows other.rows
   pub locked : AreSets (IsRenamedImage pairs) view.locked other.locked
   pub locked_keys : AreSets (IsRenamed pairs) view.locked_keys other.locked_keys
@@ -37,6 +38,7 @@ matched pairs view other once rises more t = record {
   changes = rising_bags pairs once view.own.changes other.own.changes rises.changes more.changes t.changes;
   own_rows = t.own_rows;
   own_keys = t.own_keys;
+  savepoints = t.savepoints;
   rows = rising_bags pairs once view.rows other.rows rises.rows more.rows t.rows;
   locked = t.locked;
   locked_keys = t.locked_keys;
@@ -50,13 +52,13 @@ one_at P (x ∷ xs) zero d p all = all.0
 one_at P (x ∷ xs) (suc n) d p all = one_at P xs n d p all.1
 
 view_rises : (state : State) (session : ℕ) (table : Option ℕ) → IsSoundState state → IsRisingView (view_of state session table)
-view_rises state session None sound = record { changes = (one_at HasSoundChanges state.sessions session disconnected sound_none sound.sessions).rising; rows = tt }
+view_rises state session None sound = record { changes = (one_at HasSoundChanges state.sessions session disconnected (record { own = sound_none; kept = tt }) sound.sessions).own.rising; rows = tt }
 view_rises state session (Some table) sound =
     let mine = session_at state session in
     let start = of_table table state.start.rows in
     let commits = map (of_table table) (commits_seen mine.snapshot state.commits) in
     record {
-      changes = (one_at HasSoundChanges state.sessions session disconnected sound_none sound.sessions).rising;
+      changes = (one_at HasSoundChanges state.sessions session disconnected (record { own = sound_none; kept = tt }) sound.sessions).own.rising;
       rows = rising_lay (lay_all start commits) (of_table table mine.own.changes) (rising_lay_all start commits (rising_of_table table state.start.rows (tables_stand state 0 sound).rising));
     }
 

@@ -1,7 +1,8 @@
 -- UPDATE and DELETE at renamed rows, and what new images are tested for.
-use Rattle.std.proofs.Common.{◌≡◌, ℕ, zero, suc, ◌+◌, Bool, true, false, ◌||◌, ◌&&◌, not, List, [], ◌∷◌, length, if◌then◌else◌, slice_set, Option, refl, ap}
-use Rattle.std.specs.Prelude.{nat_eq}
+use Rattle.std.proofs.Common.{◌≡◌, ℕ, zero, suc, ◌+◌, Bool, true, false, ◌||◌, ◌&&◌, not, List, [], ◌∷◌, length, map, if◌then◌else◌, slice_set, Option, refl, ap}
+use Rattle.std.specs.Prelude.{◌==◌, nat_eq}
 use Rattle.desk_values.specs.declared.value.Value.{Value}
+use Rattle.desk_values.specs.declared.value.Value.TheVariants.{Null}
 use Rattle.desk_values.specs.declared.value.Image.{Image}
 use Rattle.desk_schema.specs.declared.schema.Column.{Column}
 use Rattle.desk_schema.specs.declared.schema.Kind.{Kind}
@@ -13,7 +14,7 @@ use Rattle.machine_model.specs.Rows.{row_key}
 use Rattle.machine_model.specs.Found.{Environment, matches, matching}
 use Rattle.machine_model.specs.Causes.{no_cause}
 use Rattle.machine_model.specs.View.{View}
-use Rattle.machine_model.specs.Writes.{any_column, any_value, assigned, changed_rows, exceeds, exceeds_length, is_among, leaves, leaves_range, moves_key, sources, targets, updated, violates_not_null}
+use Rattle.machine_model.specs.Writes.{any_column, any_value, assigned, changed_rows, exceeds, exceeds_length, is_among, is_empty_text, leaves, leaves_range, moves_key, sources, stored, targets, updated, violates_not_null}
 use Rattle.machine_model.specs.Answer.{delete_causes, is_over, meets_lock, rows_after, update_causes, with_faults}
 use Rattle.id_pairs.specs.declared.Id.TheVariants.{Row}
 use Rattle.id_pairs.specs.Pairs.{HasNoIdTwice, IdPair}
@@ -59,6 +60,26 @@ module _ (pairs : List IdPair) where
     same_any_value : (cs : List Column) {images others : List Image} → AreBags (IsRenamedImage pairs) images others → any_value fails cs images ≡ any_value fails cs others
     same_any_value cs bags = bags_any (IsRenamedImage pairs) (λ image. any_column fails cs (values_in image)) (λ image. any_column fails cs (values_in image)) (λ x y t. same_column cs (values_in x) (values_in y) (image_values pairs x y t)) bags
 
+  twin_empty : {v w : Value} → Twin pairs v w → is_empty_text v ≡ is_empty_text w
+  twin_empty (text t) = refl
+  twin_empty t = refl
+
+  -- what a row keeps of two values
+  pub stored_renamed : (level : ℕ) (v w : Value) → IsRenamed pairs v w → IsRenamed pairs (stored level v) (stored level w)
+  stored_renamed level v w t = kept (is_empty_text v && level == 2) (is_empty_text w && level == 2) (ap (λ b. b && level == 2) (twin_empty (twin_of pairs v w t)))
+    where
+      kept : (b c : Bool) → b ≡ c → IsRenamed pairs (if b then Null else v) (if c then Null else w)
+      kept true true e = tt
+      kept false false e = t
+      kept true false e = absurd (cc)
+      kept false true e = absurd (cc)
+
+  pub all_stored : (level : ℕ) (values others : List Value) → AreRenamed pairs values others → AreRenamed pairs (map (stored level) values) (map (stored level) others)
+  all_stored level [] [] t = tt
+  all_stored level (v ∷ vs) (w ∷ ws) t = (stored_renamed level v w t.0, all_stored level vs ws t.1)
+  all_stored level [] (w ∷ ws) t = absurd t
+  all_stored level (v ∷ vs) [] t = absurd t
+
   -- ---- new images
 
   set_renamed : (values others : List Value) (n : ℕ) (v w : Value) → AreRenamed pairs values others → IsRenamed pairs v w → AreRenamed pairs (slice_set values n v) (slice_set others n w)
@@ -98,7 +119,7 @@ module _ (pairs : List IdPair) (once : HasNoIdTwice pairs) (level : ℕ) where
     two = record { level = level; binds = sent }
 
     pub updated_renamed : (changes : List (Change ℕ)) (image other : Image) → IsRenamedImage pairs image other → IsRenamedImage pairs (updated one changes image) (updated two changes other)
-    updated_renamed changes image other t = record { row = t.row; table = t.table; left = assigned_renamed pairs (targets changes) (values_in image) (values_in other) _ _ (image_values pairs image other t) (renamed_items pairs once level binds sent given (sources changes) image other t) }
+    updated_renamed changes image other t = record { row = t.row; table = t.table; left = assigned_renamed pairs (targets changes) (values_in image) (values_in other) _ _ (image_values pairs image other t) (all_stored pairs level _ _ (renamed_items pairs once level binds sent given (sources changes) image other t)) }
 
     same_moves : (changes : List (Change ℕ)) (image other : Image) → IsRenamedImage pairs image other → moves_key one changes image ≡ moves_key two changes other
     same_moves changes image other t = ap not (same_keys pairs once level (row_key image) (row_key (updated one changes image)) (row_key other) (row_key (updated two changes other)) (key_of_image pairs image other t) (key_of_image pairs _ _ (updated_renamed changes image other t)))

@@ -24,6 +24,7 @@ use Rattle.law_server.specs.Renaming.Twins.{AreTwinViews, IsRisingView}
 -- a table with a drawn key and a number
 abbrev pub schema : SchemaView
 schema = record {
+  version = 2;
   level = 1;
   sequences = codes "s" ∷ [];
   services = [];
@@ -39,7 +40,7 @@ abbrev pub row_with : ℕ → ℕ → ℕ → Image
 row_with row key n = record { row = row; table = 0; left = Some (Draw 0 key ∷ Int (pos n) ∷ []) }
 
 abbrev pub view_with : List Image → View
-view_with rows = record { rights = Some ReadWrite; reads_only = false; own = nothing; rows = rows; locked = []; locked_keys = [] }
+view_with rows = record { rights = Some ReadWrite; reads_only = false; own = nothing; savepoints = []; rows = rows; locked = []; locked_keys = [] }
 
 abbrev pub reply_of_plan : View → ℕ → ℕ → Plan ℕ → List Value → Reply
 reply_of_plan view next_value row plan binds = (answer schema view (next_value ∷ []) row (statement plan binds)).reply

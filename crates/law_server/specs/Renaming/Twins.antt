@@ -1,10 +1,11 @@
 -- Twins: views and calls that differ in ids and in the order of rows alone.
 use Rattle.std.specs.Prelude.{◌≡◌, ℕ, List, is_some}
-use Rattle.std.specs.List.{Contains}
+use Rattle.std.specs.List.{AllZip, Contains}
 use Rattle.desk_values.specs.declared.value.Value.{Value}
 use Rattle.desk_values.specs.declared.call.Call.{Call}
 use Rattle.desk_values.specs.declared.call.Call.TheVariants.{Connect, Sql, Disconnect}
 use Rattle.desk_schema.specs.Schema.{SchemaView, rights_of}
+use Rattle.machine_model.specs.declared.session.Savepoint.{Savepoint}
 use Rattle.machine_model.specs.declared.session.HeldKey.{HeldKey}
 use Rattle.machine_model.specs.Rows.{IsRising}
 use Rattle.machine_model.specs.View.{View}
@@ -25,14 +26,22 @@ pub record IsRenamedKey (pairs : List IdPair) (held other : HeldKey) : Type 0 wh
   pub table : held.table ≡ other.table
   pub key : IsRenamed pairs held.key other.key
 
+-- of one name; and what was kept differs in ids and in order alone
+pub record AreTwinSavepoints (pairs : List IdPair) (savepoint other : Savepoint) : Type 0 where
+  pub name : savepoint.name ≡ other.name
+  pub changes : AreSets (IsRenamedImage pairs) savepoint.own.changes other.own.changes
+  pub own_rows : AreSets (IsRenamedRow pairs) savepoint.own.rows other.own.rows
+  pub own_keys : AreSets (IsRenamedKey pairs) savepoint.own.keys other.own.keys
+
 -- rights and whether it only reads agree; each id of the first view has an image, and with the images in their places it is
--- the second: own changes, rows, and all that is held, by whomever, as sets
+-- the second: own changes, rows, and all that is held, by whomever, as sets, and savepoints one by one
 pub record AreTwinViews (pairs : List IdPair) (view other : View) : Type 0 where
   pub rights : view.rights ≡ other.rights
   pub reads_only : view.reads_only ≡ other.reads_only
   pub changes : AreSets (IsRenamedImage pairs) view.own.changes other.own.changes
   pub own_rows : AreSets (IsRenamedRow pairs) view.own.rows other.own.rows
   pub own_keys : AreSets (IsRenamedKey pairs) view.own.keys other.own.keys
+  pub savepoints : AllZip (AreTwinSavepoints pairs) view.savepoints other.savepoints
   pub rows : AreSets (IsRenamedImage pairs) view.rows other.rows
   pub locked : AreSets (IsRenamedImage pairs) view.locked other.locked
   pub locked_keys : AreSets (IsRenamed pairs) view.locked_keys other.locked_keys

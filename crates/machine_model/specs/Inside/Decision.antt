@@ -1,10 +1,10 @@
 -- What a decision comes to: the same answer, without its parts that stay in the session.
-use Rattle.std.specs.Prelude.{◌≡◌, ℕ, Bool, false, true, List, [], ◌++◌, Option, None, Some}
+use Rattle.std.specs.Prelude.{◌≡◌, ℕ, ◌+◌, take, Bool, false, true, List, [], ◌++◌, Option, None, Some}
 use Rattle.desk_values.specs.declared.value.Image.{Image}
 use Rattle.desk_values.specs.declared.call.Reply.{Reply}
 use Rattle.sql_eval.specs.Totals.{looked_at}
 use Rattle.machine_model.specs.declared.effect.Deed.{Deed}
-use Rattle.machine_model.specs.declared.effect.Deed.TheVariants.{Nothing, Connects, Disconnects, Commits, RollsBack, ReadsOnly, Writes}
+use Rattle.machine_model.specs.declared.effect.Deed.TheVariants.{Nothing, Connects, Disconnects, Commits, RollsBack, ReadsOnly, Writes, Marks, RollsBackTo}
 use Rattle.machine_model.specs.declared.effect.Decision.{Decision}
 use Rattle.machine_model.specs.declared.seen.Seen.{Seen}
 use Rattle.machine_model.specs.declared.basis.Basis.{Basis}
@@ -13,6 +13,8 @@ use Rattle.sql_tree.specs.Plain.{Plan}
 use Rattle.desk_values.specs.declared.value.Value.{Value}
 use Rattle.machine_model.specs.declared.session.Session.{Session}
 use Rattle.machine_model.specs.declared.session.Transaction.{Transaction}
+use Rattle.machine_model.specs.declared.session.Savepoint.{Savepoint}
+use Rattle.machine_model.specs.Savepoints.{with_savepoint}
 use Rattle.machine_model.specs.State.{State, nothing}
 use Rattle.machine_model.specs.View.{View, plain_view, rows_seen, with_table}
 use Rattle.machine_model.specs.Step.{committed_in, snapshot_after, view_for}
@@ -46,6 +48,8 @@ reads_only_left view Commits = false
 reads_only_left view RollsBack = false
 reads_only_left view ReadsOnly = true
 reads_only_left view (Writes table writing) = view.reads_only
+reads_only_left view (Marks savepoint) = view.reads_only
+reads_only_left view (RollsBackTo count own) = view.reads_only
 
 abbrev pub own_left : View → Deed → Transaction
 own_left view Nothing = view.own
@@ -55,11 +59,30 @@ own_left view Commits = nothing
 own_left view RollsBack = nothing
 own_left view ReadsOnly = view.own
 own_left view (Writes table writing) = holding table view.own writing
+own_left view (Marks savepoint) = view.own
+own_left view (RollsBackTo count own) = own
+
+abbrev pub savepoints_left : View → Deed → List Savepoint
+savepoints_left view Nothing = view.savepoints
+savepoints_left view (Connects rights) = view.savepoints
+savepoints_left view Disconnects = []
+savepoints_left view Commits = []
+savepoints_left view RollsBack = []
+savepoints_left view ReadsOnly = view.savepoints
+savepoints_left view (Writes table writing) = view.savepoints
+savepoints_left view (Marks savepoint) = with_savepoint view.savepoints savepoint
+savepoints_left view (RollsBackTo count own) = take count view.savepoints
 
 -- the answer that a reply and a deed come to
 abbrev pub done_so : View → Reply → Deed → Answer
 done_so view reply deed =
-    record { reply = reply; rights = rights_left view deed; reads_only = reads_only_left view deed; own = own_left view deed }
+    record {
+      reply = reply;
+      rights = rights_left view deed;
+      reads_only = reads_only_left view deed;
+      own = own_left view deed;
+      savepoints = savepoints_left view deed;
+    }
 
 -- the session afterwards, where there were so many commits before
 abbrev pub session_left : Session → ℕ → Deed → Session
@@ -67,6 +90,7 @@ session_left session commits deed = record {
   rights = rights_left (plain_view session) deed;
   snapshot = snapshot_after (reads_only_left (plain_view session) deed) session.snapshot commits;
   own = own_left (plain_view session) deed;
+  savepoints = savepoints_left (plain_view session) deed;
 }
 
 -- what a deed commits

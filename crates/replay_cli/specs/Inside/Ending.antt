@@ -18,7 +18,7 @@ abbrev pub RunSays : (Result Task Failure → Type 0) → FileMap → FileMap �
 RunSays wanted before after fb fa h (Ok plan) = (task : Task) × wanted (Ok task) × IsDone task plan h.before h.after × HasNoFault h × (after ≡ with_all plan.writes before)
 RunSays wanted before after fb fa h (Err BadCommand) = wanted (Err BadCommand) × (after ≡ before) × IsUnasked h
 RunSays wanted before after fb fa h (Err (Refused refusal)) = wanted (Err (Refused refusal)) × (after ≡ before) × IsUnasked h
-RunSays wanted before after fb fa h (Err (Differs finding)) = (task : Task) × wanted (Ok task) × IsFoundOf task finding × (after ≡ before)
+RunSays wanted before after fb fa h (Err (Differs finding)) = (task : Task) × wanted (Ok task) × IsFoundOf task finding h × (after ≡ before)
 RunSays wanted before after fb fa h (Err DeviceFault) = LeftOver wanted before after fb fa h
 RunSays wanted before after fb fa h (Err OutOfMemory) = LeftOver wanted before after fb fa h
 

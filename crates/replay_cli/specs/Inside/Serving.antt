@@ -8,12 +8,12 @@ use Rattle.replay_cli.specs.Decision.{Task, ToServe}
 use Rattle.replay_cli.specs.Ending.{Hosting, IsFoundOf, IsUnasked}
 
 -- how the work of a task may fail: something is found to differ of what was served, the host fails, or memory is short
-abbrev pub PlanFails : Task → Failure → Type 0
-PlanFails task BadCommand = ⊥
-PlanFails task (Refused refusal) = ⊥
-PlanFails task (Differs finding) = IsFoundOf task finding
-PlanFails task DeviceFault = ⊤
-PlanFails task OutOfMemory = ⊤
+abbrev pub PlanFails : Task → Hosting → Failure → Type 0
+PlanFails task h BadCommand = ⊥
+PlanFails task h (Refused refusal) = ⊥
+PlanFails task h (Differs finding) = IsFoundOf task finding h
+PlanFails task h DeviceFault = ⊤
+PlanFails task h OutOfMemory = ⊤
 
 -- the count rises where the host failed, and stands otherwise
 abbrev pub HostFaults : Result Plan Failure → ℕ → ℕ → Type 0

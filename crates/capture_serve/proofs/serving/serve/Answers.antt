@@ -1,7 +1,7 @@
 use Rattle.std.proofs.Common.{arith}
 use Rattle.std.proofs.lemmas.Result.{IfOk-weaker}
 use Rattle.capture_serve.specs.Seen.{capture_of}
-use Rattle.capture_serve.proofs.Whole.{few_said, given_back, if_differs, service}
+use Rattle.capture_serve.proofs.Whole.{few_said, given_back, gives_back, service}
 use Rattle.capture_serve.proofs.serving.serve.Goals as goal
 
 pub captured-requires-after_bounds : goal.captured-requires-after_bounds
@@ -11,4 +11,4 @@ pub returns-clause-service : goal.returns-clause-service
 returns-clause-service g c = IfOk-weaker c.captured.result _ _ (λ capture of. service c.args.start.now c.args.most c.in_ok-notes.notes (capture_of capture) _ _ c.in_ok-notes.ensures.connected of) c.captured.ensures.captured
 
 pub returns-clause-back : goal.returns-clause-back
-returns-clause-back g c = if_differs c.captured.result _ (given_back c.args.most c.in_ok-notes.notes _ _ c.in_ok-notes.ensures.connected)
+returns-clause-back g c = gives_back c.args.most _ _ c.captured.result (given_back c.args.most c.in_ok-notes.notes _ _ c.in_ok-notes.ensures.connected)

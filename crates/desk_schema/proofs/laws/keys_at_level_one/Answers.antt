@@ -1,10 +1,10 @@
-use Rattle.std.proofs.Common.{◌≡◌, true, sym, subst}
-use Rattle.desk_values.specs.Comparison.{same_key}
-use Rattle.desk_values.specs.declared.value.Value.{Value}
-use Rattle.desk_schema.proofs.Drafting.{same_is, is_same}
+use Rattle.std.proofs.Common.{ap, sym, ◌∙◌}
+use Rattle.desk_schema.specs.Rules.{counted}
+use Rattle.desk_schema.proofs.Drafting.{same_counts, counts_same, counted_as_is}
 use Rattle.desk_schema.proofs.laws.keys_at_level_one.Goals as goal
 
 pub returns : goal.returns
-returns c = λ key other there.
-    let P : Value → Type 0 = λ v. same_key 1 v other ≡ true in
-    (same_is key other, λ is. subst P (sym is) (is_same other there))
+returns c = λ key other there. (
+  λ same. sym (counted_as_is key) ∙ same_counts 1 key other same ∙ counted_as_is other,
+  λ is. counts_same 1 key other there (ap (counted 1) is),
+)

@@ -2,11 +2,10 @@ use Rattle.std.proofs.Common.{◌≡◌, drop, map}
 use Rattle.sql_tree.specs.Plain.{change_of}
 use Rattle.sql_eval.specs.Totals.{values_in}
 use Rattle.machine_model.specs.Inside.Evaluation.{env_of}
-use Rattle.machine_model.specs.Found.{values_for}
-use Rattle.machine_model.specs.Writes.{assigned, sources, targets}
+use Rattle.machine_model.specs.Writes.{assigned, set_values, targets}
 use Rattle.machine_model.proofs.updating.updated.Given as goal
 
 abbrev pub invariant-loop-setting : goal.invariant-loop-setting
 invariant-loop-setting l =
-    assigned l.values.items (targets (map change_of (drop l.setting-index l.settings))) (values_for (env_of l.with) (sources (map change_of (drop l.setting-index l.settings))) l.image)
-    ≡ assigned (values_in l.image) (targets (map change_of l.settings)) (values_for (env_of l.with) (sources (map change_of l.settings)) l.image)
+    assigned l.values.items (targets (map change_of (drop l.setting-index l.settings))) (set_values (env_of l.with) (map change_of (drop l.setting-index l.settings)) l.image)
+    ≡ assigned (values_in l.image) (targets (map change_of l.settings)) (set_values (env_of l.with) (map change_of l.settings) l.image)

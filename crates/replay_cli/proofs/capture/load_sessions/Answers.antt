@@ -7,8 +7,8 @@ use Rattle.replay_cli.proofs.Refusals.{fails_weaker, one_in}
 use Rattle.replay_cli.proofs.Sessions.{count_names, few_lists}
 use Rattle.replay_cli.proofs.capture.load_sessions.Goals as goal
 
-pub read_sessions-requires : goal.read_sessions-requires
-read_sessions-requires g c =
+pub read_sessions-requires-clause-names : goal.read_sessions-requires-clause-names
+read_sessions-requires-clause-names g c =
     let same = ap (λ names. length names) (c.as_slice.ensures ∙ c.in_ok-names.ensures) ∙ count_names c.args.capture.now c.args.opened.now.file.sessions in
     omega (arith, same, c.requires.sessions)
 

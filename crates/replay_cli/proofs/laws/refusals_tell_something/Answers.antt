@@ -1,4 +1,4 @@
-use Rattle.replay_cli.proofs.Causes.{causes_have_text, lines_from_one, rows_from_one}
+use Rattle.replay_cli.proofs.Causes.{causes_have_text, changes_from_one, lines_from_one, rows_from_one}
 use Rattle.replay_cli.proofs.laws.refusals_tell_something.Goals as goal
 
 pub returns-clause-line : goal.returns-clause-line
@@ -9,3 +9,6 @@ returns-clause-row c = rows_from_one
 
 pub returns-clause-cause : goal.returns-clause-cause
 returns-clause-cause c = causes_have_text
+
+pub returns-clause-change : goal.returns-clause-change
+returns-clause-change c = changes_from_one

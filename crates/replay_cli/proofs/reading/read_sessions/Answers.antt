@@ -15,8 +15,8 @@ returns-in_err-parse_session-clause-step g c =
     let p = err_from_is_err_and c.from_residual-in_err-parse_session.result c.from_residual-in_err-parse_session.ensures.1 in
     let l = c.loop-name in
     let failure = c.in_err-parse_session.field-0.0 in
-    let stops : Stops (SessionOf l.name-index c.name-item.result c.in_ok-bytes.bytes) failure = subst (λ (k : ℕ). Stops (SessionOf k c.name-item.result c.in_ok-bytes.bytes) failure) l.invariant.session_is c.in_err-parse_session.ensures.says in
-    rw (p.1, p.2) (parse_stop SessionOf c.args.names.now c.args.room l.left l.name-index (lists_of l.sessions) _ _ _ _ _ _ c.name-item.result (omega arith) c.name-item.is l.invariant.read c.in_ok-bytes.bytes failure c.in_ok-bytes.ensures.step stops (free_error (Room Captured) (List Captured) failure c.in_err-parse_session.ensures.free))
+    let stops : Stops (SessionOf c.args.version l.name-index c.name-item.result c.in_ok-bytes.bytes) failure = subst (λ (k : ℕ). Stops (SessionOf c.args.version k c.name-item.result c.in_ok-bytes.bytes) failure) l.invariant.session_is c.in_err-parse_session.ensures.says in
+    rw (p.1, p.2) (parse_stop (SessionOf c.args.version) c.args.names.now c.args.room l.left l.name-index (lists_of l.sessions) _ _ _ _ _ _ c.name-item.result (omega arith) c.name-item.is l.invariant.read c.in_ok-bytes.bytes failure c.in_ok-bytes.ensures.step stops (free_error (Room Captured) (List Captured) failure c.in_err-parse_session.ensures.free))
 
 pub returns-in_err-bytes-clause-kind : goal.returns-in_err-bytes-clause-kind
 returns-in_err-bytes-clause-kind g c =
@@ -28,15 +28,15 @@ pub returns-in_err-parse_session-clause-kind : goal.returns-in_err-parse_session
 returns-in_err-parse_session-clause-kind g c =
     let l = c.loop-name in
     let p = err_from_is_err_and c.from_residual-in_err-parse_session.result c.from_residual-in_err-parse_session.ensures.1 in
-    rw (p.1, p.2) (bad_among c.args.names.now l.name-index l.session c.name-item.result c.in_ok-bytes.bytes (omega arith) c.name-item.is c.in_err-parse_session.field-0.0 c.in_err-parse_session.ensures.says)
+    rw (p.1, p.2) (bad_among c.args.version c.requires.version c.args.names.now l.name-index l.session c.name-item.result c.in_ok-bytes.bytes (omega arith) c.name-item.is c.in_err-parse_session.field-0.0 c.in_err-parse_session.ensures.says)
 
 pub loop-name-preserved : goal.loop-name-preserved
 loop-name-preserved g c =
     let l = c.loop-name in
     let calls = c.in_ok-parse_session.field-0 in
-    let read : SessionOf l.name-index c.name-item.result c.in_ok-bytes.bytes (Ok calls.items) = subst (λ (k : ℕ). SessionOf k c.name-item.result c.in_ok-bytes.bytes (Ok calls.items)) l.invariant.session_is c.in_ok-parse_session.ensures.says in
+    let read : SessionOf c.args.version l.name-index c.name-item.result c.in_ok-bytes.bytes (Ok calls.items) = subst (λ (k : ℕ). SessionOf c.args.version k c.name-item.result c.in_ok-bytes.bytes (Ok calls.items)) l.invariant.session_is c.in_ok-parse_session.ensures.says in
     record {
-      read = rw (c.in_ok-push.ensures.ok, lists_more l.sessions calls, c.len.ensures) (read_on SessionOf c.args.names.now c.args.room l.left l.name-index (lists_of l.sessions) _ _ _ _ _ _ c.name-item.result (omega arith) c.name-item.is l.invariant.read c.in_ok-bytes.bytes calls.items c.in_ok-bytes.ensures.step read);
+      read = rw (c.in_ok-push.ensures.ok, lists_more l.sessions calls, c.len.ensures) (read_on (SessionOf c.args.version) c.args.names.now c.args.room l.left l.name-index (lists_of l.sessions) _ _ _ _ _ _ c.name-item.result (omega arith) c.name-item.is l.invariant.read c.in_ok-bytes.bytes calls.items c.in_ok-bytes.ensures.step read);
       session_is = omega (arith, l.invariant.session_is);
       count = rw c.in_ok-push.ensures.ok (length-append l.sessions (calls ∷ []) ∙ omega (arith, l.invariant.count));
       lists = rw (c.in_ok-push.ensures.ok, lists_more l.sessions calls) (are_more 0 (lists_of l.sessions) l.name-index calls.items (let a = l.invariant.count in let b = count_lists l.sessions in omega (arith, a, b)) l.invariant.lists read.calls_are);

@@ -1,0 +1,2 @@
+pub mod ReportFile
+pub mod Inside

@@ -1,0 +1,19 @@
+use Rattle.std.proofs.Common.{refl}
+use Rattle.desk_files.proofs.DeviceLaws.{Counts-of}
+use Rattle.run_register.specs.Register.{keeper_ending}
+use Rattle.sqlite_keeper.proofs.file.RegisterFileKeeper.TheImpl.Goals as goal
+
+pub get-tells : goal.get-tells
+get-tells g c = record { says = tt; runs = refl; divergences = refl; faults = Counts-of (keeper_ending c.result) c.args.self.now c.new.self.now c.ensures }
+
+pub add-tells : goal.add-tells
+add-tells g c = record { says = tt; runs = refl; divergences = refl; faults = Counts-of (keeper_ending c.result) c.args.self.now c.new.self.now c.ensures }
+
+pub all-tells : goal.all-tells
+all-tells g c = record { says = tt; runs = refl; divergences = refl; faults = Counts-of (keeper_ending c.result) c.args.self.now c.new.self.now c.ensures }
+
+pub accept-tells : goal.accept-tells
+accept-tells g c = record { runs = refl; divergences = refl; faults = Counts-of (keeper_ending c.result) c.args.self.now c.new.self.now c.ensures }
+
+pub accepted-tells : goal.accepted-tells
+accepted-tells g c = record { says = tt; runs = refl; divergences = refl; faults = Counts-of (keeper_ending c.result) c.args.self.now c.new.self.now c.ensures }

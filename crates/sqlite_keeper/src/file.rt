@@ -1,0 +1,146 @@
+ghost use Rattle.std.specs.Prelude.{◌≡◌, None};
+ghost use Rattle.desk_files.specs.Outside.{counted};
+ghost use Rattle.run_register.specs.Register.{keeper_ending};
+
+use crate::keeper::counting;
+use crate::tables;
+use desk_values::{Bytes, Txt};
+use run_register::{AcceptList, KeepErr, Keeper, KeptList};
+use sqlite::{Connection, Error, File, FileStore};
+use std::alloc::Global;
+use std::marker::Model;
+
+/// The file of the register, in the folder where the program runs.
+pub const REGISTER_FILE: &str = "register.db";
+
+/// The register in a file of the system, which it does not tell. The file is opened at the first call that needs it.
+/// Contracts see the count of faults: each refusal other than want of memory is one.
+#[derive(Drop)]
+pub struct RegisterFile<'a> {
+    alloc: Global,
+    opened: Opened<'a>,
+    faults: u64,
+}
+
+impl<'a> Model for RegisterFile<'a> {
+    ghost use Rattle.std.specs.Prelude.{ℕ};
+
+    ghost Value = { ℕ };
+
+    ghost view = { λ a. a.faults };
+}
+
+impl<'a> RegisterFile<'a> {
+    /// The register in the file of this name, with no fault so far. A relative name starts at the folder where the program
+    /// runs.
+    pub fn new(system: &'a HostRuntime, alloc: Global, path: &'a str) -> Self
+        ensures { result ≡ 0 }
+    {
+        RegisterFile {
+            alloc,
+            opened: Opened {
+                system,
+                path,
+                connection: None,
+            },
+            faults: 0,
+        }
+    }
+
+    /// Closes the file where it is open: only then is the whole register in it alone. A later call opens it again.
+    pub fn close(&mut self) -> Result<(), KeepErr>
+        ensures { self.new ≡ counted (keeper_ending result) self.old }
+    {
+        let closed = self.opened.close();
+        counting(&mut self.faults, closed)
+    }
+}
+
+impl Keeper for RegisterFile<'_> {
+    ghost runs = { λ _. None };
+
+    ghost divergences = { λ _. None };
+
+    ghost faults = { λ count. count };
+
+    fn get(&mut self, name: &Txt) -> Result<Option<Bytes>, KeepErr>
+        ensures { self.new ≡ counted (keeper_ending result) self.old }
+    {
+        let found = self.opened.find(name.as_str());
+        counting(&mut self.faults, found)
+    }
+
+    fn add(&mut self, name: &Txt, report: &[u8]) -> Result<Option<Bytes>, KeepErr>
+        ensures { self.new ≡ counted (keeper_ending result) self.old }
+    {
+        let kept = self.opened.keep(name.as_str(), report);
+        counting(&mut self.faults, kept)
+    }
+
+    fn all(&mut self) -> Result<KeptList, KeepErr>
+        ensures { self.new ≡ counted (keeper_ending result) self.old }
+    {
+        let runs = self.opened.all(self.alloc);
+        counting(&mut self.faults, runs)
+    }
+
+    fn accept(&mut self, name: &Txt, stamp: u32, class: u32) -> Result<(), KeepErr>
+        ensures { self.new ≡ counted (keeper_ending result) self.old }
+    {
+        let done = self.opened.accept(name.as_str(), stamp, class);
+        counting(&mut self.faults, done)
+    }
+
+    fn accepted(&mut self, name: &Txt) -> Result<AcceptList, KeepErr>
+        ensures { self.new ≡ counted (keeper_ending result) self.old }
+    {
+        let accepted = self.opened.accepted(self.alloc, name.as_str());
+        counting(&mut self.faults, accepted)
+    }
+}
+
+// A file that is opened at the first call that needs it.
+#[derive(Drop)]
+struct Opened<'a> {
+    system: &'a HostRuntime,
+    path: &'a str,
+    connection: Option<Connection<FileStore<File>>>,
+}
+
+impl Opened<'_> {
+    fn find(&mut self, name: &str) -> Result<Option<Bytes>, Error> {
+        tables::find(self.connection()?, name)
+    }
+
+    fn keep(&mut self, name: &str, report: &[u8]) -> Result<Option<Bytes>, Error> {
+        tables::keep(self.connection()?, name, report)
+    }
+
+    fn all(&mut self, alloc: Global) -> Result<KeptList, Error> {
+        tables::all(alloc, self.connection()?)
+    }
+
+    fn accept(&mut self, name: &str, stamp: u32, class: u32) -> Result<(), Error> {
+        tables::accept(self.connection()?, name, stamp, class)
+    }
+
+    fn accepted(&mut self, alloc: Global, name: &str) -> Result<AcceptList, Error> {
+        tables::accepted(alloc, self.connection()?, name)
+    }
+
+    // Its connection.
+    fn connection(&mut self) -> Result<&mut Connection<FileStore<File>>, Error> {
+        if self.connection.is_none() {
+            self.connection = Some(Connection::open(self.system, self.path)?);
+        }
+        self.connection.as_mut().ok_or(Error::InvalidQuery)
+    }
+
+    // What the log beside the file holds is copied into the file.
+    fn close(&mut self) -> Result<(), Error> {
+        match self.connection.take() {
+            Some(connection) => connection.close(),
+            None => Ok(()),
+        }
+    }
+}
