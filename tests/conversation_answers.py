@@ -8,7 +8,7 @@ import re
 import small_server
 from small_server import GREATEST, LEAST
 
-LONGEST_HEAD, LONGEST_BODY, LONGEST_TEXT = 8192, 65536, 1000
+LONGEST_HEAD, LONGEST_BODY, LONGEST_TEXT, LONGEST_READ = 8192, 65536, 1000, 8192
 MOST_HEADERS, MOST_BINDS = 64, 16
 MOST_ID, MOST_SEQUENCE = 2**64 - 1, 2**32 - 1
 PHRASES = {200: "OK", 400: "Bad Request", 404: "Not Found", 405: "Method Not Allowed", 411: "Length Required",
@@ -294,8 +294,19 @@ def answer_text(answered):
     return "".join(line + "\r\n" for line in lines + [""]).encode() + answered.body
 
 
-def expected_lines(name, conversation):
-    yield f"{name} ended {output_text(conversation.output)}"
+def ending_of(chunking, data):
+    """How a conversation ends that no request closes, and the bytes that come. A number tells which read fails, from 0."""
+    if not chunking.isdigit():
+        return "ended", data
+    came = data[: LONGEST_READ * int(chunking)]
+    ends = int(chunking) > 0 and len(data) <= LONGEST_READ * (int(chunking) - 1)
+    return "ended" if ends else "source", came
+
+
+def expected_lines(name, chunking, data):
+    end, came = ending_of(chunking, data)
+    conversation = Conversation(came)
+    yield f"{name} {end} {output_text(conversation.output)}"
     for call, reply in conversation.said:
         yield f" call {call_text(call)} > {reply_text(reply)}"
     for call in conversation.turned:

@@ -714,9 +714,29 @@ GROUPS = (
 )
 
 
+def broken_everywhere():
+    """The broken requests once more, cut after each byte, and byte by byte."""
+    for name, data in broken_requests():
+        yield f"{name}_cut_everywhere", "every", data
+        yield f"{name}_byte_by_byte", "bytes", data
+
+
+def failing_inputs():
+    """Conversations whose input fails at the read of this number."""
+    yield "input_fails_at_once", "0", HELLO
+    yield "input_fails_behind_a_connect", "1", HELLO
+    yield "input_fails_behind_calls", "1", HELLO + sql("UPDATE acct SET bal = 1") + SESSION
+    yield "input_fails_in_a_request", "1", HELLO + SESSION[:-1]
+    yield "input_fails_in_a_long_request", "1", HELLO + padded("GET /session HTTP/1.1", LONGEST_HEAD) + SESSION
+    yield "input_fails_behind_a_long_request", "2", HELLO + padded("GET /session HTTP/1.1", LONGEST_HEAD) + SESSION
+    yield "input_ends_before_it_fails", "2", HELLO
+
+
 def all_cases():
-    """All conversations. Every second one is cut."""
+    """All conversations. Of those whose chunking does not matter every second one is cut."""
     cases = [case for group in GROUPS for case in group()]
-    names = [name for name, _ in cases]
+    cases = [(name, ("whole", "cut")[number % 2], data) for number, (name, data) in enumerate(cases)]
+    cases += [*broken_everywhere(), *failing_inputs()]
+    names = [name for name, _, _ in cases]
     assert len(set(names)) == len(names), "a name stands twice"
-    return [(name, ("whole", "cut")[number % 2], data) for number, (name, data) in enumerate(cases)]
+    return cases

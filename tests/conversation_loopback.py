@@ -117,7 +117,9 @@ def numbers(conversation):
 
 
 def pieces(data, way, seed):
-    """The writes in which the bytes are sent, each with the pause before it."""
+    """The writes in which the bytes are sent, each with the pause before it. A number tells the only place where they are cut."""
+    if isinstance(way, int):
+        return [(0.0, data[:way]), (0.002, data[way:])]
     if way == "bytes":
         return [(0.0, data[k : k + 1]) for k in range(len(data))]
     places = set()
@@ -156,27 +158,34 @@ def alone(program, ports, name, data, way):
 
 
 def together(program, ports, group):
-    """Conversations at one time, of which none changes or holds anything."""
+    """Conversations at one time, of which none changes or holds anything: of each its name, its bytes and the way in which they are sent."""
     with Served(program, ports, len(group)) as served, ThreadPoolExecutor(len(group)) as pool:
-        wanted = [Conversation(data, session) for session, (_, data) in enumerate(group)]
+        wanted = [Conversation(data, session) for session, (_, data, _) in enumerate(group)]
         streams = [served.connect() for _ in group]
-        answers = [pool.submit(exchanged, stream, data, "cut", name) for stream, (name, data) in zip(streams, group)]
-        for (name, _), conversation, answer in zip(group, wanted, answers):
-            same(f"answers of {name}", answer.result(), conversation.output)
+        answers = [pool.submit(exchanged, stream, data, way, name) for stream, (name, data, way) in zip(streams, group)]
+        for (name, _, way), conversation, answer in zip(group, wanted, answers):
+            same(f"answers of {name}, {way}", answer.result(), conversation.output)
         for stream in streams:
             stream.close()
         served.finish(wanted)
 
 
-def jobs(cases):
-    """What is sent: how many conversations, a name, and the function with its arguments."""
-    short = [case for case in cases if len(case[2]) <= SHORT]
-    for way, sent in (("whole", cases), ("cut", cases), ("bytes", short)):
-        yield from ((1, f"{name}, {way}", alone, (name, data, way)) for name, _, data in sent)
-    quiet = [(name, data) for name, _, data in cases if not Conversation(data).server.touched]
+def in_groups(quiet):
+    """Conversations in groups of as many as a `serve` takes."""
     for first in range(0, len(quiet), TOGETHER):
         group = quiet[first : first + TOGETHER]
         yield len(group), f"together from {group[0][0]}", together, (group,)
+
+
+def jobs(cases):
+    """What is sent: how many conversations, a name, and the function with its arguments."""
+    sent = [(name, data) for name, chunking, data in cases if chunking in ("whole", "cut")]
+    short = [case for case in sent if len(case[1]) <= SHORT]
+    for way, those in (("whole", sent), ("cut", sent), ("bytes", short)):
+        yield from ((1, f"{name}, {way}", alone, (name, data, way)) for name, data in those)
+    yield from in_groups([(name, data, "cut") for name, data in sent if not Conversation(data).server.touched])
+    cut = [(name, data) for name, chunking, data in cases if chunking == "every" and len(data) <= SHORT]
+    yield from in_groups([(name, data, place) for name, data in cut for place in range(1, len(data))])
 
 
 def fault(job, ends, program, ports):

@@ -64,8 +64,8 @@ impl Kept {
     }
 }
 
-// The lines between `/`, with the bytes that codes in them stand for.
-fn lines_of(alloc: Global, text: &str) -> Result<Bytes, Memory> {
+/// The lines between `/`, with the bytes that codes in them stand for.
+pub fn lines_of(alloc: Global, text: &str) -> Result<Bytes, Memory> {
     let mut bytes = List::new(alloc);
     for (place, line) in text.split('/').enumerate() {
         if place > 0 {

@@ -2,6 +2,7 @@
 
 use crate::guests::Guests;
 use crate::kept::Kept;
+use crate::register::Register;
 use crate::watched::{Asked, Watched};
 use crate::words::words_of;
 use case_text::{first_word, stamps_of, txt};
@@ -24,6 +25,7 @@ pub fn append_run<R: Clock + Wait + Threads + Sync>(
     alloc: Global,
     kept: &Kept,
     guests: &mut Guests,
+    register: &mut Register,
     text: &str,
     to: &mut Bytes,
 ) -> Result<(), ReadErr> {
@@ -44,8 +46,10 @@ pub fn append_run<R: Clock + Wait + Threads + Sync>(
         &mut files,
         &mut host,
         &door,
+        register,
         &mut out,
     );
+    register.fail_no_more();
     append_u64(u64::from(status), to)?;
     to.push(b' ')?;
     append_lines(out.held().as_slice(), to)?;

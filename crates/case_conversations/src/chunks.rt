@@ -7,24 +7,33 @@ use desk_values::{Bytes, List, Memory};
 use percent_encoding::percent_decode;
 use std::alloc::Global;
 
-/// How many bytes a read gives at most where the bytes come a few at a time.
-const FEW: usize = 7;
-
-/// The bytes of a client, of which each read gives as many as it may, or a few.
+/// The bytes of a client, which come in parts.
 #[derive(Drop)]
 pub struct Chunks {
     bytes: Bytes,
     taken: usize,
-    cut: bool,
+    cut: usize,
+    most: usize,
 }
 
 impl Chunks {
-    /// These bytes.
-    pub fn new(bytes: Bytes, cut: bool) -> Chunks {
+    /// These bytes, of which a read gives so many at most.
+    pub fn new(bytes: Bytes, most: usize) -> Chunks {
+        Chunks {
+            bytes,
+            taken: 0,
+            cut: 0,
+            most,
+        }
+    }
+
+    /// These bytes, of which the first read gives those before the cut at most, and a later one as many as it may.
+    pub fn cut_at(bytes: Bytes, cut: usize) -> Chunks {
         Chunks {
             bytes,
             taken: 0,
             cut,
+            most: usize::MAX,
         }
     }
 }
@@ -36,7 +45,8 @@ impl Source for Chunks {
 
     fn read(&mut self, buffer: &mut [u8]) -> Result<usize, Failed> {
         let left = &self.bytes.as_slice()[self.taken.min(self.bytes.len())..];
-        let most = if self.cut { FEW } else { usize::MAX };
+        let before = self.cut.saturating_sub(self.taken);
+        let most = if before > 0 { before } else { self.most };
         let n = left.len().min(buffer.len()).min(most);
         buffer[..n].copy_from_slice(&left[..n]);
         self.taken = self.taken.saturating_add(n);

@@ -1,6 +1,8 @@
 //! Cases of connections: what a client sends, one conversation a line, as `NAME CHUNKING BYTES`. Of the bytes a letter or a
 //! digit stands for itself, `%XX` for a byte in hexadecimal digits, `*N(XX)` for N of them, and `-` for none. With the chunking
-//! `whole` a read gives as much as it may, with `cut` a few bytes.
+//! `whole` a read gives as much as it may, with `cut` a few bytes, with `bytes` one. With `every` the conversation is held whole and
+//! once for each place between two of its bytes, where the first read ends there: the lines are those of the whole, or of the
+//! first other one, behind its place. With a number a read gives as much as it may, and the one with this number, from 0, fails.
 //!
 //! Each connection has a recorder of its own, on the start that `start` tells, as session 0, and the clock stands still. For
 //! each there is a line `NAME END BYTES` with how it ended and the bytes that were answered; then a line for each call that was
@@ -16,17 +18,21 @@ mod start;
 
 use capture_http::{ConnEnd, serve_connection};
 use capture_recorder::{LockedDoor, Recorder};
-use case_text::first_word;
+use case_text::{first_word, stamps_of};
 use chunks::{Chunks, bytes_of};
-use desk_files::{MemDoor, MemSink};
+use desk_files::{MemDoor, MemSink, MemSource, Source};
 use desk_schema::Start;
-use desk_values::{Bytes, List, Stamps};
+use desk_values::fields::append_u64;
+use desk_values::{Bytes, List, Memory, Stamps};
 use std::alloc::Global;
 use std::sync::{Mutex, Wait};
 use std::time::Clock;
 
 /// Room for the answers of a connection.
 const ROOM: u32 = 1_000_000;
+
+/// How many bytes a read gives at most where the bytes come a few at a time.
+const FEW: usize = 7;
 
 fn main(rt: HostRuntime) -> Result<(), anyhow::Error> {
     let alloc = rt.alloc();
@@ -47,20 +53,70 @@ fn answer<R: Clock + Wait>(
 ) -> Result<Bytes, anyhow::Error> {
     let (name, rest) = first_word(line);
     let (chunking, text) = first_word(rest);
-    let mut input = Chunks::new(bytes_of(alloc, text)?, chunking == "cut");
+    let sent = bytes_of(alloc, text)?;
+    let came = match chunking {
+        "whole" => came_of(rt, alloc, start, Chunks::new(sent, usize::MAX))?,
+        "cut" => came_of(rt, alloc, start, Chunks::new(sent, FEW))?,
+        "bytes" => came_of(rt, alloc, start, Chunks::new(sent, 1))?,
+        "every" => every_cut(rt, alloc, start, sent.as_slice())?,
+        _ => {
+            let fails = stamps_of(alloc, chunking)?;
+            came_of(rt, alloc, start, MemSource::new(sent, fails))?
+        }
+    };
+    let mut answer = List::new(alloc);
+    answer.append(name.as_bytes())?;
+    answer.append(came.as_slice())?;
+    Ok(answer)
+}
+
+// What these bytes come to where they come whole. Where they come to something else for being cut somewhere, that, behind the
+// first such place.
+fn every_cut<R: Clock + Wait>(
+    rt: &R,
+    alloc: Global,
+    start: &Start,
+    sent: &[u8],
+) -> Result<Bytes, anyhow::Error> {
+    let whole = Bytes::from_slice(alloc, sent)?;
+    let wanted = came_of(rt, alloc, start, Chunks::new(whole, usize::MAX))?;
+    for cut in 1..sent.len() {
+        let again = Bytes::from_slice(alloc, sent)?;
+        let came = came_of(rt, alloc, start, Chunks::cut_at(again, cut))?;
+        if came.as_slice() != wanted.as_slice() {
+            return Ok(told_of_cut(alloc, cut, &came)?);
+        }
+    }
+    Ok(wanted)
+}
+
+fn told_of_cut(alloc: Global, cut: usize, came: &Bytes) -> Result<Bytes, Memory> {
+    let mut told = List::new(alloc);
+    told.append(b" cut at ")?;
+    append_u64(cut as u64, &mut told)?;
+    told.append(came.as_slice())?;
+    Ok(told)
+}
+
+// What a conversation comes to.
+fn came_of<R: Clock + Wait, I: Source + Drop>(
+    rt: &R,
+    alloc: Global,
+    start: &Start,
+    mut input: I,
+) -> Result<Bytes, anyhow::Error> {
     let mut output = MemSink::new(alloc, ROOM, Stamps::new(alloc))?;
     let recorder = Mutex::new(Recorder::load(alloc, start)?);
     let clock = MemDoor::new(alloc);
     let mut door = LockedDoor::new(alloc, 0, &recorder, &clock);
     let end = serve_connection(rt, alloc, &mut door, &mut input, &mut output);
     let (_, turned) = door.into_lists();
-    let mut answer = List::new(alloc);
-    answer.append(name.as_bytes())?;
-    answer.append(end_text(end))?;
-    shown::append_bytes(alloc, output.held().as_slice(), &mut answer)?;
-    shown::append_calls(alloc, recorder.into_inner().calls().as_slice(), &mut answer)?;
-    shown::append_turned(alloc, turned.as_slice(), &mut answer)?;
-    Ok(answer)
+    let mut came = List::new(alloc);
+    came.append(end_text(end))?;
+    shown::append_bytes(alloc, output.held().as_slice(), &mut came)?;
+    shown::append_calls(alloc, recorder.into_inner().calls().as_slice(), &mut came)?;
+    shown::append_turned(alloc, turned.as_slice(), &mut came)?;
+    Ok(came)
 }
 
 fn end_text(end: ConnEnd) -> &'static [u8] {

@@ -3,6 +3,7 @@
 use desk_files::{Door, MemConn, MemConns, MemFiles, MemHost, MemSink};
 use desk_values::{Bytes, List, Memory, ReadErr, Stamps, Txt};
 use replay_cli::replay_main;
+use run_register::{KeptList, MemKeeper};
 use std::alloc::Global;
 use std::sync::Wait;
 use std::thread::Threads;
@@ -101,6 +102,7 @@ pub fn ran<R: Clock + Wait + Threads + Sync, D: Door>(
     let words = words_of(alloc, words)?;
     let mut out = MemSink::new(alloc, LINE_ROOM, Stamps::new(alloc))?;
     let mut host = MemHost::new(alloc, conns, Stamps::new(alloc))?;
+    let mut keeper = MemKeeper::new(alloc, KeptList::new(alloc), Stamps::new(alloc));
     let status = replay_main(
         rt,
         alloc,
@@ -108,6 +110,7 @@ pub fn ran<R: Clock + Wait + Threads + Sync, D: Door>(
         files,
         &mut host,
         door,
+        &mut keeper,
         &mut out,
     );
     let line = str::from_utf8(out.held().as_slice())?.trim_end();

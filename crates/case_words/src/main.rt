@@ -89,6 +89,16 @@ fn shown(alloc: Global, command: &Command) -> Result<String, anyhow::Error> {
         }
         Command::Generate(calls, out) => Ok(format!(in alloc; "generate {calls} {}", Path(out))?),
         Command::Trial(calls) => Ok(format!(in alloc; "trial {calls}")?),
+        Command::Register(out, run) => {
+            Ok(format!(in alloc; "register {} {}", Path(out), run.as_str())?)
+        }
+        Command::Runs => Ok(String::from_str(alloc, "runs")?),
+        Command::Accept(run, stamp, class) => {
+            Ok(format!(in alloc; "accept {} {stamp} {}", run.as_str(), class.word())?)
+        }
+        Command::Compare(base, other) => {
+            Ok(format!(in alloc; "compare {} {}", base.as_str(), other.as_str())?)
+        }
     }
 }
 

@@ -1,15 +1,19 @@
 -- A command is within its limits.
-use Rattle.std.proofs.Common.{◌≡◌, ℕ, Bool, true, false, List, length, Option, Some, None, IfSome, refl, leb-true}
+use Rattle.std.proofs.Common.{◌≡◌, ◌≢◌, ℕ, Bool, true, false, List, length, Option, Some, None, IfSome, refl, leb-true}
 use Rattle.std.specs.Prelude.{◌&&◌, codes, if◌then◌else◌, nat_le, option_map}
 use Rattle.std.specs.Option.{option_map_or}
 use Rattle.std.specs.Str.{bytes_eq}
 use Rattle.clap.specs.Words.{Row, Text, first_of, subcommand_of}
 use Rattle.desk_values.specs.Reading.{◌>>=◌, number_of}
 use Rattle.replay_history.specs.Limits.{percent_limit}
-use Rattle.desk_words.specs.Command.{between, chosen, command_in, command_of, generate_in, is_taken, maybe, number_in, path_in, percent_in, placed, prepare_in, run_in, serve_in, trial_in, ways_in}
+use Rattle.desk_values.specs.Word.{member_with_word}
+use Rattle.replay_history.specs.Class.{all_classes, class_word}
+use Rattle.replay_history.specs.declared.report.Class.{Class}
+use Rattle.replay_history.specs.declared.report.Class.TheVariants.{Same}
+use Rattle.desk_words.specs.Command.{accept_in, between, chosen, class_in, command_in, command_of, compare_in, differing, generate_in, is_run_name, is_taken, maybe, number_in, path_in, percent_in, placed, prepare_in, register_in, run_in, run_name_in, serve_in, trial_in, ways_in}
 use Rattle.desk_words.specs.Desk.{desk}
-use Rattle.desk_words.specs.Limits.{connection_limit, default_port, generated_limit, lane_limit, path_limit, port_limit, whole}
-use Rattle.desk_words.specs.Within.{HasWays, IsBetween, IsCallCount, IsLaneCount, IsPath, IsWithinLimits}
+use Rattle.desk_words.specs.Limits.{connection_limit, default_port, generated_limit, lane_limit, path_limit, port_limit, run_limit, whole}
+use Rattle.desk_words.specs.Within.{HasWays, IsBetween, IsCallCount, IsLaneCount, IsPath, IsRunName, IsWithinLimits}
 use Rattle.desk_words.specs.declared.words.Command.TheVariants.{Trial}
 
 -- ---- what is found by steps
@@ -42,6 +46,20 @@ between_holds P x least most n holds = by_tests (nat_le least n) (nat_le n most)
 
 path_holds : (text : Text) → IfSome (path_in text) IsPath
 path_holds text = between_holds IsPath text 1 path_limit (length text) (λ is. is)
+
+run_name_holds : (text : Text) → IfSome (run_name_in text) IsRunName
+run_name_holds text = by_tests (nat_le (length text) run_limit) (is_run_name text) refl refl where
+  by_tests : (short named : Bool) → nat_le (length text) run_limit ≡ short → is_run_name text ≡ named → IfSome (if short && named then Some text else None) IsRunName
+  by_tests true true short named = (leb-true (length text) run_limit short, named)
+  by_tests true false short named = tt
+  by_tests false true short named = tt
+  by_tests false false short named = tt
+
+class_holds : (text : Text) → IfSome (class_in text) (λ class. class ≢ Same)
+class_holds text = always (λ class. class ≢ Same) (member_with_word class_word all_classes text) differing differs where
+  differs : (class : Class) → IfSome (differing class) (λ differs. differs ≢ Same)
+  differs Same = tt
+  differs _ = λ same. cc same
 
 number_holds : (least most : ℕ) (text : Text) → IfSome (number_in least most text) (IsBetween least most)
 number_holds least most text = always (IsBetween least most) (number_of text) (between least most) (λ n. between_holds (IsBetween least most) n least most n (λ is. is))
@@ -102,13 +120,33 @@ generate_holds values =
 trial_holds : (values : List Row) → IfSome (trial_in values) IsWithinLimits
 trial_holds values = mapped IsCallCount IsWithinLimits _ Trial (calls_placed values) (λ calls is. is)
 
+run_placed : (name : Text) (values : List Row) → IfSome (placed name run_name_in values) IsRunName
+run_placed name values = placed_holds IsRunName name run_name_in values run_name_holds
+
+register_holds : (values : List Row) → IfSome (register_in values) IsWithinLimits
+register_holds values =
+    leads IsPath IsWithinLimits _ _ (path_placed (codes "out") values) (λ out first. leads IsRunName IsWithinLimits _ _ (run_placed (codes "run") values) (λ run second. (first, second)))
+
+accept_holds : (values : List Row) → IfSome (accept_in values) IsWithinLimits
+accept_holds values =
+    leads IsRunName IsWithinLimits _ _ (run_placed (codes "run") values) (λ run first. always IsWithinLimits _ _
+    (λ stamp. leads (λ class. class ≢ Same) IsWithinLimits _ _ (placed_holds (λ class. class ≢ Same) (codes "class") class_in values class_holds) (λ class second. (first, second))))
+
+compare_holds : (values : List Row) → IfSome (compare_in values) IsWithinLimits
+compare_holds values =
+    leads IsRunName IsWithinLimits _ _ (run_placed (codes "base") values) (λ base first. leads IsRunName IsWithinLimits _ _ (run_placed (codes "other") values) (λ other second. (first, second)))
+
 command_holds : (found : Text × List Row) → IfSome (command_in found) IsWithinLimits
 command_holds found =
     either IsWithinLimits (bytes_eq found.0 (codes "run")) _ _ (run_holds found.1)
     (either IsWithinLimits (bytes_eq found.0 (codes "prepare")) _ _ (prepare_holds found.1)
     (either IsWithinLimits (bytes_eq found.0 (codes "serve")) _ _ (serve_holds found.1)
     (either IsWithinLimits (bytes_eq found.0 (codes "generate")) _ _ (generate_holds found.1)
-    (either IsWithinLimits (bytes_eq found.0 (codes "trial")) _ _ (trial_holds found.1) tt))))
+    (either IsWithinLimits (bytes_eq found.0 (codes "trial")) _ _ (trial_holds found.1)
+    (either IsWithinLimits (bytes_eq found.0 (codes "register")) _ _ (register_holds found.1)
+    (either IsWithinLimits (bytes_eq found.0 (codes "runs")) _ _ tt
+    (either IsWithinLimits (bytes_eq found.0 (codes "accept")) _ _ (accept_holds found.1)
+    (either IsWithinLimits (bytes_eq found.0 (codes "compare")) _ _ (compare_holds found.1) tt))))))))
 
 pub within_limits : (words : List Text) → IfSome (command_of words) IsWithinLimits
 unfolding command_of

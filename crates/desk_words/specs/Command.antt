@@ -1,18 +1,23 @@
 -- Which words are a command, and which command.
-use Rattle.std.specs.Prelude.{ℕ, ◌&&◌, nat_le, Bool, if◌then◌else◌, List, length, codes, Option, None, Some, option_map}
+use Rattle.std.specs.Prelude.{ℕ, ◌&&◌, ◌||◌, ◌==◌, nat_le, Bool, false, if◌then◌else◌, List, [], ◌∷◌, length, codes, Option, None, Some, option_map}
+use Rattle.std.specs.List.{list_all}
 use Rattle.std.specs.Option.{option_map_or}
 use Rattle.std.specs.Str.{bytes_eq}
 use Rattle.clap.specs.Words.{Row, Text, fault_of, first_of, subcommand_of}
 use Rattle.clap.specs.Walk.{is_empty}
 use Rattle.desk_values.specs.Reading.{◌>>=◌, number_of}
+use Rattle.desk_values.specs.Word.{member_with_word}
+use Rattle.replay_history.specs.Class.{all_classes, class_word}
+use Rattle.replay_history.specs.declared.report.Class.{Class}
+use Rattle.replay_history.specs.declared.report.Class.TheVariants.{Same}
 use Rattle.replay_history.specs.Limits.{percent_limit}
 use Rattle.replay_history.specs.Mode.{mode_of}
 use Rattle.replay_history.specs.declared.mode.Mode.TheVariants.{Order}
 use Rattle.desk_words.specs.Desk.{desk}
-use Rattle.desk_words.specs.Limits.{connection_limit, default_port, generated_limit, lane_limit, path_limit, port_limit, whole}
+use Rattle.desk_words.specs.Limits.{connection_limit, default_port, generated_limit, lane_limit, path_limit, port_limit, run_limit, whole}
 use Rattle.desk_words.specs.declared.ways.Ways.{Ways}
 use Rattle.desk_words.specs.declared.words.Command.{Command}
-use Rattle.desk_words.specs.declared.words.Command.TheVariants.{Run, Prepare, Serve, Generate, Trial}
+use Rattle.desk_words.specs.declared.words.Command.TheVariants.{Run, Prepare, Serve, Generate, Trial, Register, Runs, Accept, Compare}
 
 -- ---- which values are good
 
@@ -30,6 +35,33 @@ number_in least most text = number_of text >>= between least most
 -- a percentage
 abbrev pub percent_in : Text → Option ℕ
 percent_in text = number_in 0 percent_limit text
+
+abbrev pub is_lower : ℕ → Bool
+is_lower byte = nat_le 97 byte && nat_le byte 122
+
+abbrev pub is_name_byte : ℕ → Bool
+is_name_byte byte = is_lower byte || (nat_le 48 byte && nat_le byte 57) || byte == 95
+
+abbrev pub begins_with_letter : Text → Bool
+begins_with_letter [] = false
+begins_with_letter (first ∷ others) = is_lower first
+
+-- a small letter comes first, and all are small letters, digits and `_`
+abbrev pub is_run_name : Text → Bool
+is_run_name text = begins_with_letter text && list_all is_name_byte text
+
+-- the name of a run: such a text of at most 30 bytes
+abbrev pub run_name_in : Text → Option Text
+run_name_in text = if nat_le (length text) run_limit && is_run_name text then Some text else None
+
+-- how a call may differ: all but the same
+abbrev pub differing : Class → Option Class
+differing Same = None
+differing class = Some class
+
+-- a class by which a call differs, by its word
+abbrev pub class_in : Text → Option Class
+class_in text = member_with_word class_word all_classes text >>= differing
 
 -- ---- where they stand
 
@@ -87,6 +119,26 @@ generate_in values = do
 abbrev pub trial_in : List Row → Option Command
 trial_in values = option_map Trial (placed (codes "calls") (number_in 1 generated_limit) values)
 
+abbrev pub register_in : List Row → Option Command
+register_in values = do
+  out ← placed (codes "out") path_in values
+  run ← placed (codes "run") run_name_in values
+  Some (Register out run)
+
+-- the stamp may be any number: whether the run has such a call is not asked here
+abbrev pub accept_in : List Row → Option Command
+accept_in values = do
+  run ← placed (codes "run") run_name_in values
+  stamp ← placed (codes "stamp") number_of values
+  class ← placed (codes "class") class_in values
+  Some (Accept run stamp class)
+
+abbrev pub compare_in : List Row → Option Command
+compare_in values = do
+  base ← placed (codes "base") run_name_in values
+  other ← placed (codes "other") run_name_in values
+  Some (Compare base other)
+
 -- the command with this first word, by the values that were found behind it
 abbrev pub command_in : Text × List Row → Option Command
 command_in found =
@@ -95,6 +147,10 @@ command_in found =
     else if bytes_eq found.0 (codes "serve") then serve_in found.1
     else if bytes_eq found.0 (codes "generate") then generate_in found.1
     else if bytes_eq found.0 (codes "trial") then trial_in found.1
+    else if bytes_eq found.0 (codes "register") then register_in found.1
+    else if bytes_eq found.0 (codes "runs") then Some Runs
+    else if bytes_eq found.0 (codes "accept") then accept_in found.1
+    else if bytes_eq found.0 (codes "compare") then compare_in found.1
     else None
 
 -- `clap` takes the words: there is no error that it gives for them

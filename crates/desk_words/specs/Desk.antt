@@ -25,6 +25,10 @@ all_forms =
     ∷ form_of (codes "serve") (codes "capture" ∷ codes "start" ∷ codes "connections" ∷ []) (codes "port" ∷ [])
     ∷ form_of (codes "generate") (codes "calls" ∷ codes "out" ∷ []) []
     ∷ form_of (codes "trial") (codes "calls" ∷ []) []
+    ∷ form_of (codes "register") (codes "out" ∷ codes "run" ∷ []) []
+    ∷ form_of (codes "runs") [] []
+    ∷ form_of (codes "accept") (codes "run" ∷ codes "stamp" ∷ codes "class" ∷ []) []
+    ∷ form_of (codes "compare") (codes "base" ∷ codes "other" ∷ []) []
     ∷ []
 
 -- one of the forms, which has to be there, with no program's name before it

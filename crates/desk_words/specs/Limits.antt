@@ -5,6 +5,10 @@ use Rattle.std.specs.Prelude.{ℕ}
 abbrev pub path_limit : ℕ
 path_limit = 900
 
+-- the most bytes of the name of a run
+abbrev pub run_limit : ℕ
+run_limit = 30
+
 -- the most lanes
 abbrev pub lane_limit : ℕ
 lane_limit = 64

@@ -1,17 +1,22 @@
 -- The limits of what a command says.
-use Rattle.std.specs.Prelude.{◌≤◌, IfSome, ℕ, length}
+use Rattle.std.specs.Prelude.{◌≡◌, ◌≢◌, ◌≤◌, IfSome, ℕ, length, true}
 use Rattle.clap.specs.Words.{Text}
+use Rattle.replay_history.specs.declared.report.Class.TheVariants.{Same}
 use Rattle.replay_history.specs.Limits.{percent_limit}
-use Rattle.desk_words.specs.Limits.{connection_limit, generated_limit, lane_limit, path_limit, port_limit}
+use Rattle.desk_words.specs.Limits.{connection_limit, generated_limit, lane_limit, path_limit, port_limit, run_limit}
+use Rattle.desk_words.specs.Command.{is_run_name}
 use Rattle.desk_words.specs.declared.ways.Ways.{Ways}
 use Rattle.desk_words.specs.declared.words.Command.{Command}
-use Rattle.desk_words.specs.declared.words.Command.TheVariants.{Run, Prepare, Serve, Generate, Trial}
+use Rattle.desk_words.specs.declared.words.Command.TheVariants.{Run, Prepare, Serve, Generate, Trial, Register, Runs, Accept, Compare}
 
 abbrev pub IsBetween : ℕ → ℕ → ℕ → Type 0
 IsBetween least most n = (least ≤ n) × (n ≤ most)
 
 abbrev pub IsPath : Text → Type 0
 IsPath text = IsBetween 1 path_limit (length text)
+
+abbrev pub IsRunName : Text → Type 0
+IsRunName text = (length text ≤ run_limit) × (is_run_name text ≡ true)
 
 abbrev pub IsLaneCount : ℕ → Type 0
 IsLaneCount n = IsBetween 1 lane_limit n
@@ -32,3 +37,7 @@ IsWithinLimits (Prepare capture out) = IsPath capture × IsPath out
 IsWithinLimits (Serve capture start connections port) = IsPath capture × IsPath start × IsBetween 1 connection_limit connections × IsBetween 1 port_limit port
 IsWithinLimits (Generate calls out) = IsCallCount calls × IsPath out
 IsWithinLimits (Trial calls) = IsCallCount calls
+IsWithinLimits (Register out run) = IsPath out × IsRunName run
+IsWithinLimits Runs = Unit {0}
+IsWithinLimits (Accept run stamp class) = IsRunName run × (class ≢ Same)
+IsWithinLimits (Compare base other) = IsRunName base × IsRunName other

@@ -15,7 +15,9 @@ mod values;
 mod ways;
 mod words;
 
-pub use limits::{CONNECTION_LIMIT, DEFAULT_PORT, GENERATED_LIMIT, LANE_LIMIT, PATH_LIMIT};
+pub use limits::{
+    CONNECTION_LIMIT, DEFAULT_PORT, GENERATED_LIMIT, LANE_LIMIT, PATH_LIMIT, RUN_LIMIT,
+};
 pub use table::{Form, forms};
 pub use ways::Ways;
 pub use words::{Command, command_of};

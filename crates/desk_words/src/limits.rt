@@ -1,6 +1,9 @@
 /// The longest path, in bytes.
 pub const PATH_LIMIT: usize = 900;
 
+/// The longest name of a run, in bytes.
+pub const RUN_LIMIT: usize = 30;
+
 /// How many lanes there are at most.
 pub const LANE_LIMIT: u32 = 64;
 

@@ -2,11 +2,11 @@
 
 ghost use Rattle.std.specs.Prelude.{◌≡◌};
 ghost use Rattle.desk_values.specs.Reading.{Reads};
-ghost use Rattle.desk_words.specs.Command.{command_in, generate_in, prepare_in, run_in, serve_in, trial_in};
+ghost use Rattle.desk_words.specs.Command.{accept_in, command_in, compare_in, generate_in, prepare_in, register_in, run_in, serve_in, trial_in};
 ghost use Rattle.desk_words.specs.Inside.Finding.{values_in};
 
 use crate::limits::{CONNECTION_LIMIT, GENERATED_LIMIT};
-use crate::values::{number_at, path_at, port_of};
+use crate::values::{class_at, number_at, path_at, port_of, run_at, stamp_at};
 use crate::ways::ways_in;
 use crate::words::Command;
 use clap::ArgMatches;
@@ -27,6 +27,10 @@ pub(crate) fn command_in(
         "serve" => serve_in(alloc, values),
         "generate" => generate_in(alloc, values),
         "trial" => trial_in(values),
+        "register" => register_in(alloc, values),
+        "runs" => Ok(Command::Runs),
+        "accept" => accept_in(alloc, values),
+        "compare" => compare_in(alloc, values),
         _ => Err(ReadErr::Bad),
     }
 }
@@ -67,4 +71,27 @@ fn trial_in(values: &ArgMatches<'_>) -> Result<Command, ReadErr>
     ensures { Reads result (trial_in (values_in values.now)) }
 {
     Ok(Command::Trial(number_at(values, "calls", GENERATED_LIMIT)?))
+}
+
+fn register_in(alloc: Global, values: &ArgMatches<'_>) -> Result<Command, ReadErr>
+    ensures { Reads result (register_in (values_in values.now)) }
+{
+    let out = path_at(alloc, values, "out")?;
+    Ok(Command::Register(out, run_at(alloc, values, "run")?))
+}
+
+fn accept_in(alloc: Global, values: &ArgMatches<'_>) -> Result<Command, ReadErr>
+    ensures { Reads result (accept_in (values_in values.now)) }
+{
+    let run = run_at(alloc, values, "run")?;
+    let stamp = stamp_at(values).ok_or(ReadErr::Bad)?;
+    let class = class_at(values).ok_or(ReadErr::Bad)?;
+    Ok(Command::Accept(run, stamp, class))
+}
+
+fn compare_in(alloc: Global, values: &ArgMatches<'_>) -> Result<Command, ReadErr>
+    ensures { Reads result (compare_in (values_in values.now)) }
+{
+    let base = run_at(alloc, values, "base")?;
+    Ok(Command::Compare(base, run_at(alloc, values, "other")?))
 }

@@ -14,7 +14,7 @@ pub struct Form {
     pub options: &'static [&'static str],
 }
 
-static FORMS: [Form; 5] = [
+static FORMS: [Form; 9] = [
     Form {
         name: "run",
         places: &["capture", "out"],
@@ -38,6 +38,26 @@ static FORMS: [Form; 5] = [
     Form {
         name: "trial",
         places: &["calls"],
+        options: &[],
+    },
+    Form {
+        name: "register",
+        places: &["out", "run"],
+        options: &[],
+    },
+    Form {
+        name: "runs",
+        places: &[],
+        options: &[],
+    },
+    Form {
+        name: "accept",
+        places: &["run", "stamp", "class"],
+        options: &[],
+    },
+    Form {
+        name: "compare",
+        places: &["base", "other"],
         options: &[],
     },
 ];

@@ -15,6 +15,7 @@ use crate::ways::Ways;
 use clap::ArgMatches;
 use clap::error::ErrorKind;
 use desk_values::{Memory, ReadErr, Txt};
+use replay_history::Class;
 use std::alloc::{AllocError, Global};
 
 /// A command.
@@ -30,6 +31,14 @@ pub enum Command {
     Generate(u32, Txt),
     /// `trial N`: makes that capture and replays it without pauses.
     Trial(u32),
+    /// `register OUT RUN`: keeps the report in OUT under the name RUN.
+    Register(Txt, Txt),
+    /// `runs`: lists the runs that are kept.
+    Runs,
+    /// `accept RUN STAMP CLASS`: accepts, where RUN is the first of two, a divergence of that call of that class.
+    Accept(Txt, u64, Class),
+    /// `compare A B`: compares the run B with the run A.
+    Compare(Txt, Txt),
 }
 
 /// The command that the words are. `None` where they are none: where `clap` does not take them, or a value is not good.

@@ -1,4 +1,5 @@
 -- On which words and files a command does its work.
 pub mod Complete
 pub mod Ends
+pub mod Reports
 pub mod Served

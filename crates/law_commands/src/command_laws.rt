@@ -1,7 +1,8 @@
 //! Laws of what the words and the files come to.
 
-ghost use Rattle.law_commands.specs.Commands.Complete.{CapturesAreMade, CapturesArePrepared, CapturesAreReplayed, CapturesAreTried, LegalCapturesArePrepared, LegalCapturesAreReplayed, StartsAreServed};
+ghost use Rattle.law_commands.specs.Commands.Complete.{CapturesAreMade, CapturesArePrepared, CapturesAreReplayed, CapturesAreTried, DivergencesAreAccepted, ErrandsEndSo, LegalCapturesArePrepared, LegalCapturesAreReplayed, ReportsAreRegistered, RunsAreCompared, RunsAreListed, StartsAreServed};
 ghost use Rattle.law_commands.specs.Commands.Ends.{JournalsTellTheirHistory, PlansTellTheirHistory, QuietRunsCarryTables, RunsAgainAreQuiet, TablesAreCarried};
+ghost use Rattle.law_commands.specs.Commands.Reports.{ReportsAreWhole, WrittenReportsAreRegistered};
 ghost use Rattle.law_commands.specs.Commands.Served.{ServedCapturesAreLegal, ServedCapturesAreNotBad, ServedCapturesAreNotBadToPrepare, ServedCapturesArePrepared, ServedCapturesAreReplayed};
 
 /// Completeness of `run`: where the words are its command, the files of the capture are there, each within the limit of one
@@ -35,6 +36,24 @@ pub fn starts_are_served()
 pub fn captures_are_made_and_tried()
     ensures made { CapturesAreMade }
     ensures tried { CapturesAreTried }
+{}
+
+/// The same of the register of runs. Where the report of `register` is there, within the limit of one file, and is one, it is to be
+/// registered; of the other three commands the words alone decide. Where the keeper tells reports alone and no device failed, `register`
+/// gives 0, 6 or 12, `runs` 0 or 6, `accept` 0, 6, 11 or 14, and `compare` 0, 1, 6, 11 or 15.
+pub fn runs_are_asked_for()
+    ensures registered { ReportsAreRegistered }
+    ensures listed { RunsAreListed }
+    ensures accepted { DivergencesAreAccepted }
+    ensures compared { RunsAreCompared }
+    ensures end { ErrandsEndSo }
+{}
+
+/// What `run` writes as its report is the text of a report, with its counts those of its lines, so where the file stands as it was
+/// written and is within the limit of one, `register` takes it, and never tells it as a bad report.
+pub fn reports_of_runs_are_registered()
+    ensures whole { ReportsAreWhole }
+    ensures registered { WrittenReportsAreRegistered }
 {}
 
 /// The journal that is written tells one history: the one that the replay had, that is reported on and that the other files are of.

@@ -1,4 +1,4 @@
--- Sessions whose reads depend on nothing but what is committed.
+-- Sessions that see of each table what is committed.
 use Rattle.std.specs.Prelude.{ℕ, Bool, true, false, ◌&&◌, List, [], ◌∷◌, is_none, is_some}
 use Rattle.desk_values.specs.declared.value.Image.{Image}
 use Rattle.machine_model.specs.State.{State, session_at}

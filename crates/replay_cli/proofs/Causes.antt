@@ -14,9 +14,9 @@ use Rattle.captured_calls.specs.Verdict.{Preparation, fault_of, or_else, verdict
 use Rattle.remap_ids.specs.Services.{ServicePair, goes_on, sent_for, service_pair, services_of, with_pair, with_records}
 use Rattle.remap_ids.specs.declared.remap.RemapErr.{RemapErr}
 use Rattle.remap_ids.specs.declared.remap.RemapErr.TheVariants.{BadRow, TwiceFrom}
-use Rattle.replay_cli.specs.declared.failure.Refusal.TheVariants.{BadChange, BadLine, BadRemap, NotLegal}
+use Rattle.replay_cli.specs.declared.failure.Refusal.TheVariants.{BadChange, BadLine, BadRemap, BadReport, NotLegal}
 use Rattle.desk_words.specs.declared.words.Command.{Command}
-use Rattle.desk_words.specs.declared.words.Command.TheVariants.{Run, Prepare, Serve, Generate, Trial}
+use Rattle.desk_words.specs.declared.words.Command.TheVariants.{Run, Prepare, Serve, Generate, Trial, Register, Runs, Accept, Compare}
 use Rattle.desk_schema.specs.Change.{IsFirstBad, records_in}
 use Rattle.replay_cli.specs.Decision.{IsBadOfSome, MayBeRefused, MayRefuseChange, MayRefuseRemap, record_of, remap_of}
 use Rattle.replay_cli.specs.Lines.{cause_text}
@@ -43,6 +43,31 @@ lines_from_one (Prepare capture out) name line h = bad_line line h.1
 lines_from_one (Serve capture start connections port) name line h = let number = h.1.1.number in omega (arith, number)
 lines_from_one (Generate n out) name line h = absurd h
 lines_from_one (Trial n) name line h = absurd h
+lines_from_one (Register out run) name line h = absurd h
+lines_from_one Runs name line h = absurd h
+lines_from_one (Accept run stamp class) name line h = absurd h
+lines_from_one (Compare base other) name line h = absurd h
+
+no_remap_report : (named : Option (List ℕ)) (name : List ℕ) (line : ℕ) → MayRefuseRemap named (BadReport name line) → 1 ≤ line
+no_remap_report None name line h = absurd h
+no_remap_report (Some other) name line h = absurd h
+
+no_change_report : (named : Option (List ℕ)) (name : List ℕ) (line : ℕ) → MayRefuseChange named (BadReport name line) → 1 ≤ line
+no_change_report None name line h = absurd h
+no_change_report (Some other) name line h = absurd h
+
+pub reports_from_one : (command : Command) (name : List ℕ) (line : ℕ) → MayBeRefused command (BadReport name line) → 1 ≤ line
+reports_from_one (Run capture out ways) name line (inl h) = absurd h
+reports_from_one (Run capture out ways) name line (inr (inl h)) = no_remap_report ways.remap name line h
+reports_from_one (Run capture out ways) name line (inr (inr h)) = no_change_report ways.change name line h
+reports_from_one (Prepare capture out) name line h = absurd h
+reports_from_one (Serve capture start connections port) name line h = absurd h
+reports_from_one (Generate n out) name line h = absurd h
+reports_from_one (Trial n) name line h = absurd h
+reports_from_one (Register out run) name line h = let number = h.1.1.number in omega (arith, number)
+reports_from_one Runs name line h = absurd h
+reports_from_one (Accept run stamp class) name line h = absurd h
+reports_from_one (Compare base other) name line h = absurd h
 
 -- ---- rows
 
@@ -88,6 +113,10 @@ rows_from_one (Prepare capture out) row h = absurd h
 rows_from_one (Serve capture start connections port) row h = absurd h
 rows_from_one (Generate n out) row h = absurd h
 rows_from_one (Trial n) row h = absurd h
+rows_from_one (Register out run) row h = absurd h
+rows_from_one Runs row h = absurd h
+rows_from_one (Accept run stamp class) row h = absurd h
+rows_from_one (Compare base other) row h = absurd h
 
 first_bad_row : (start : StartView) (records : List (List (List ℕ))) (n : ℕ) → IsFirstBad start records n → 1 ≤ n
 first_bad_row start [] n h = absurd h
@@ -110,6 +139,10 @@ changes_from_one (Prepare capture out) row h = absurd h
 changes_from_one (Serve capture start connections port) row h = absurd h
 changes_from_one (Generate n out) row h = absurd h
 changes_from_one (Trial n) row h = absurd h
+changes_from_one (Register out run) row h = absurd h
+changes_from_one Runs row h = absurd h
+changes_from_one (Accept run stamp class) row h = absurd h
+changes_from_one (Compare base other) row h = absurd h
 
 -- ---- causes
 
@@ -186,3 +219,7 @@ causes_have_text (Prepare capture out) cause h = cause_told h.0 h.1 cause h.2
 causes_have_text (Serve capture start connections port) cause h = absurd h
 causes_have_text (Generate n out) cause h = absurd h
 causes_have_text (Trial n) cause h = absurd h
+causes_have_text (Register out run) cause h = absurd h
+causes_have_text Runs cause h = absurd h
+causes_have_text (Accept run stamp class) cause h = absurd h
+causes_have_text (Compare base other) cause h = absurd h

@@ -9,19 +9,24 @@ use Rattle.desk_files.specs.Answers.{write_ending}
 use Rattle.desk_files.specs.Outside.{Appends, Counts, FileMap, Told, HasRisen}
 use Rattle.desk_files.specs.Writes.{LeavesOfWrites, with_all}
 use Rattle.replay_cli.specs.declared.failure.Refusal.{Refusal}
-use Rattle.replay_cli.specs.declared.failure.Refusal.TheVariants.{Missing, TooLong, BadLine, BadRemap, BadChange, NotLegal}
+use Rattle.replay_cli.specs.declared.failure.Refusal.TheVariants.{Missing, TooLong, BadLine, BadReport, BadRemap, BadChange, NotLegal}
 use Rattle.replay_cli.specs.declared.failure.Failure.{Failure}
-use Rattle.replay_cli.specs.declared.failure.Failure.TheVariants.{BadCommand, Refused, Differs, DeviceFault, OutOfMemory}
+use Rattle.replay_cli.specs.declared.failure.Failure.TheVariants.{BadCommand, Refused, Differs, NotDone, DeviceFault, OutOfMemory}
 use Rattle.replay_cli.specs.declared.plan.Plan.{Plan}
 use Rattle.desk_words.specs.declared.words.Command.{Command}
+use Rattle.register_work.specs.declared.unkept.Unkept.{Unkept}
+use Rattle.register_work.specs.declared.unkept.Unkept.TheVariants.{NoRun, OtherRun, BadRun, NoCall, OtherCapture}
+use Rattle.register_work.specs.Lines.{unkept_status}
 use Rattle.replay_cli.specs.Lines.{done_status, refusal_status}
 use Rattle.desk_words.specs.Command.{command_of}
-use Rattle.replay_cli.specs.Decision.{Decides, Task, Verdict, VerdictOf}
+use Rattle.capture_serve.specs.declared.failing.Finding.{Finding}
+use Rattle.replay_cli.specs.Decision.{Decides, Task, ToKeep, ToMake, ToReplay, ToServe, ToTell, ToTry, Verdict, VerdictOf}
 use Rattle.replay_cli.specs.Done.{IsDone}
 use Rattle.replay_cli.specs.Inside.Steps.{Step, Stops}
-use Rattle.replay_cli.specs.Ending.{Causes, Ends, EndsSo, HasNoFault, Hosting, IsOutside, IsUnasked, Reports, Stands, line_of, moves, status_of}
+use Rattle.replay_cli.specs.Hosting.{HasKept, HasNoFault, Hosting, IsUnasked}
+use Rattle.replay_cli.specs.Ending.{Causes, Ends, EndsSo, IsCauseOf, IsFoundOf, IsOutside, Reports, Stands, line_of, moves, status_of}
 use Rattle.replay_cli.specs.Inside.Ending.{LeftOver, OneRose, RunFaults, RunSays}
-use Rattle.replay_cli.specs.Inside.Serving.{HostFaults, PlanFails}
+use Rattle.replay_cli.specs.Inside.Serving.{PlanFails, WorkFaults}
 use Rattle.replay_cli.proofs.StepLaws.{told_both, told_at}
 use Rattle.replay_cli.proofs.Unique.{verdict_one}
 use Rattle.desk_files.proofs.WriteLaws.{told, some_and}
@@ -37,19 +42,19 @@ failure_of Memory = OutOfMemory
 
 module _ (h : Hosting) where
   -- what writing leaves, as a part of the whole
-  of_left : (wanted : Result Task Failure → Type 0) (files after : FileMap) (f0 f1 f2 : ℕ) (task : Task) (plan : Plan) (error : WriteErr) → wanted (Ok task) → IsDone task plan h.before h.after → HasNoFault h → f1 ≡ f0 → LeavesOfWrites plan.writes files (Err error) after → Counts (write_ending (Err error)) f1 f2 → RunSays wanted files after f0 f2 h (Err (failure_of error))
+  of_left : (wanted : Result Task Failure → Type 0) (files after : FileMap) (f0 f1 f2 : ℕ) (task : Task) (plan : Plan) (error : WriteErr) → wanted (Ok task) → IsDone task plan h → HasNoFault h → f1 ≡ f0 → LeavesOfWrites plan.writes files (Err error) after → Counts (write_ending (Err error)) f1 f2 → RunSays wanted files after f0 f2 h (Err (failure_of error))
   of_left wanted files after f0 f1 f2 task plan Failed is done still same left failed = inr (task, is, inr (plan, done, still, inr (left, subst (λ (f : ℕ). HasRisen f f2) same failed.0)))
   of_left wanted files after f0 f1 f2 task plan Memory is done still same left failed = inr (task, is, inr (plan, done, still, inl left))
 
   pub run_cut : (c0 c1 c2 : Option FileMap) (f0 f1 f2 : ℕ) (words : List (List ℕ)) (command : Command) (task : Task) (plan : Plan) (writes : List Write) (error : WriteErr)
-      → command_of words ≡ Some command → Step (λ files. Decides command files) c0 c1 f0 f1 (Ok task) → IsDone task plan h.before h.after → HasNoFault h → writes ≡ plan.writes
+      → command_of words ≡ Some command → Step (λ files. Decides command files) c0 c1 f0 f1 (Ok task) → IsDone task plan h → HasNoFault h → writes ≡ plan.writes
       → Told c1 (λ files. IsSomeAnd c2 (LeavesOfWrites writes files (Err error))) → Counts (write_ending (Err error)) f1 f2
       → Told c0 (λ files. IsSomeAnd c2 (λ after. RunSays (Verdict words files) files after f0 f2 h (Err (failure_of error))))
   run_cut c0 c1 c2 f0 f1 f2 words command task plan writes error is step done still same left counts =
       told_both c0 (λ files decided some. some_and c2 (λ after l. of_left (Verdict words files) files after f0 f1 f2 task plan error (verdict_is words files command task is decided) done still step.faults (subst (λ (ws : List Write). LeavesOfWrites ws files (Err error) after) same l) counts) some) step.says (told_at _ c0 c1 step.content left)
 
   pub run_done : (c0 c1 c2 : Option FileMap) (f0 f1 f2 : ℕ) (words : List (List ℕ)) (command : Command) (task : Task) (plan : Plan) (writes : List Write)
-      → command_of words ≡ Some command → Step (λ files. Decides command files) c0 c1 f0 f1 (Ok task) → IsDone task plan h.before h.after → HasNoFault h → writes ≡ plan.writes → Told c1 (λ files. IsSomeAnd c2 (LeavesOfWrites writes files (Ok tt)))
+      → command_of words ≡ Some command → Step (λ files. Decides command files) c0 c1 f0 f1 (Ok task) → IsDone task plan h → HasNoFault h → writes ≡ plan.writes → Told c1 (λ files. IsSomeAnd c2 (LeavesOfWrites writes files (Ok tt)))
       → Told c0 (λ files. IsSomeAnd c2 (λ after. RunSays (Verdict words files) files after f0 f2 h (Ok plan)))
   run_done c0 c1 c2 f0 f1 f2 words command task plan writes is step done still same left =
       told_both c0 (λ files decided some. some_and c2 (λ after l. (task, verdict_is words files command task is decided, done, still, l ∙ ap (λ ws. with_all ws files) same)) some) step.says (told_at _ c0 c1 step.content left)
@@ -59,6 +64,7 @@ module _ (h : Hosting) where
   stopped words files command f0 f1 BadCommand unasked is stops = absurd stops
   stopped words files command f0 f1 (Refused refusal) unasked is stops = (subst (λ (c : Option Command). VerdictOf c files (Err (Refused refusal))) (sym is) stops, refl, unasked)
   stopped words files command f0 f1 (Differs finding) unasked is stops = absurd stops
+  stopped words files command f0 f1 (NotDone cause) unasked is stops = absurd stops
   stopped words files command f0 f1 DeviceFault unasked is stops = inl (refl, unasked)
   stopped words files command f0 f1 OutOfMemory unasked is stops = inl (refl, unasked)
 
@@ -73,8 +79,9 @@ module _ (h : Hosting) where
   failed wanted files task f0 f1 BadCommand is fails = absurd fails
   failed wanted files task f0 f1 (Refused refusal) is fails = absurd fails
   failed wanted files task f0 f1 (Differs finding) is fails = (task, is, fails, refl)
-  failed wanted files task f0 f1 DeviceFault is fails = inr (task, is, inl refl)
-  failed wanted files task f0 f1 OutOfMemory is fails = inr (task, is, inl refl)
+  failed wanted files task f0 f1 (NotDone cause) is fails = (task, is, fails, refl)
+  failed wanted files task f0 f1 DeviceFault is fails = inr (task, is, inl (refl, fails))
+  failed wanted files task f0 f1 OutOfMemory is fails = inr (task, is, inl (refl, fails))
 
   pub run_failed : (c0 c1 : Option FileMap) (f0 f1 : ℕ) (words : List (List ℕ)) (command : Command) (task : Task) (failure : Failure) → command_of words ≡ Some command → Step (λ files. Decides command files) c0 c1 f0 f1 (Ok task) → PlanFails task h failure
       → Told c0 (λ files. IsSomeAnd c1 (λ after. RunSays (Verdict words files) files after f0 f1 h (Err failure)))
@@ -82,14 +89,15 @@ module _ (h : Hosting) where
   run_failed (Some files) c1 f0 f1 words command task failure is step fails =
       subst (λ (c : Option FileMap). IsSomeAnd c (λ after. RunSays (Verdict words files) files after f0 f1 h (Err failure))) (sym step.content) (failed (Verdict words files) files task f0 f1 failure (verdict_is words files command task is step.says) fails)
 
--- how the counts move where the files' count stood, and then the host's moved so
-pub moved_then : (done : Result Plan Failure) (f0 f1 h0 h1 : ℕ) → f1 ≡ f0 → HostFaults done h0 h1 → RunFaults done f0 f1 h0 h1
-moved_then (Ok plan) f0 f1 h0 h1 files host = (files, host)
-moved_then (Err BadCommand) f0 f1 h0 h1 files host = (files, host)
-moved_then (Err (Refused refusal)) f0 f1 h0 h1 files host = (files, host)
-moved_then (Err (Differs finding)) f0 f1 h0 h1 files host = (files, host)
-moved_then (Err DeviceFault) f0 f1 h0 h1 files host = inr (files, host)
-moved_then (Err OutOfMemory) f0 f1 h0 h1 files host = (files, host)
+-- how the counts move where the files' count stood, and then the others moved so
+pub moved_then : (done : Result Plan Failure) (f0 f1 : ℕ) (h : Hosting) → f1 ≡ f0 → WorkFaults done h → RunFaults done f0 f1 h
+moved_then (Ok plan) f0 f1 h files work = (files, work)
+moved_then (Err BadCommand) f0 f1 h files work = (files, work)
+moved_then (Err (Refused refusal)) f0 f1 h files work = (files, work)
+moved_then (Err (Differs finding)) f0 f1 h files work = (files, work)
+moved_then (Err (NotDone cause)) f0 f1 h files work = (files, work)
+moved_then (Err DeviceFault) f0 f1 h files work = inr (files, work)
+moved_then (Err OutOfMemory) f0 f1 h files work = (files, work)
 
 -- ---- the end
 
@@ -107,18 +115,39 @@ own_or_outside done result b a s0 s1 (inr (inr fault)) = inr (inl fault.0)
 module _ (h : Hosting) where
   left_ends : (wanted : Result Task Failure → Type 0) (files after : FileMap) (f0 f1 result : ℕ) (b a : Option (List ℕ)) → LeftOver wanted files after f0 f1 h → IsOutside result → EndsSo wanted files after f0 f1 h result b a
   left_ends wanted files after f0 f1 result b a (inl same) is = inr (is, same.0, same.1)
-  left_ends wanted files after f0 f1 result b a (inr left) is = inl (Ok left.0, left.1, inr (inr (is, left.2)))
+  left_ends wanted files after f0 f1 result b a (inr left) is = inl (Ok left.0, left.1, inr (inr (inr (is, left.2))))
+
+  -- the keeper tells what it did where something is found to differ, and where an errand is not done
+  kept_found : (task : Task) (finding : Finding) → IsFoundOf task finding h → HasKept h
+  kept_found (ToServe out start most port) finding found = (found.2.runs, found.2.divergences)
+  kept_found (ToReplay out job) finding found = absurd found
+  kept_found (ToTell out facts) finding found = absurd found
+  kept_found (ToMake n out) finding found = absurd found
+  kept_found (ToTry n) finding found = absurd found
+  kept_found (ToKeep errand) finding found = absurd found
+
+  kept_caused : (task : Task) (cause : Unkept) → IsCauseOf task cause h → HasKept h
+  kept_caused (ToKeep errand) cause caused = (caused.1.1.runs, caused.1.1.divergences)
+  kept_caused (ToServe out start most port) cause caused = absurd caused
+  kept_caused (ToReplay out job) cause caused = absurd caused
+  kept_caused (ToTell out facts) cause caused = absurd caused
+  kept_caused (ToMake n out) cause caused = absurd caused
+  kept_caused (ToTry n) cause caused = absurd caused
 
   pub ends : (wanted : Result Task Failure → Type 0) (files after : FileMap) (f0 f1 : ℕ) (done : Result Plan Failure) (result : ℕ) (b a : Option (List ℕ)) (s0 s1 : ℕ) → RunSays wanted files after f0 f1 h done → Reports done result b a s0 s1 → EndsSo wanted files after f0 f1 h result b a
   ends wanted files after f0 f1 (Ok plan) result b a s0 s1 says reports = elim (own_or_outside (Ok plan) result b a s0 s1 reports) [
     | inl own ↦ inl (Ok says.0, says.1, inl (plan, says.2, says.4, own.0, own.1))
-    | inr is ↦ inl (Ok says.0, says.1, inr (inr (is, inr (plan, says.2, says.3, inl (length plan.writes, says.4 ∙ ap (λ ws. with_all ws files) (sym (take-length plan.writes)))))))
+    | inr is ↦ inl (Ok says.0, says.1, inr (inr (inr (is, inr (plan, says.2, says.3, inl (length plan.writes, says.4 ∙ ap (λ ws. with_all ws files) (sym (take-length plan.writes))))))))
   ]
   ends wanted files after f0 f1 (Err BadCommand) result b a s0 s1 says reports = inl (Err BadCommand, says.0, (says.1, says.2, own_or_outside (Err BadCommand) result b a s0 s1 reports))
   ends wanted files after f0 f1 (Err (Refused refusal)) result b a s0 s1 says reports = inl (Err (Refused refusal), says.0, (says.1, says.2, own_or_outside (Err (Refused refusal)) result b a s0 s1 reports))
   ends wanted files after f0 f1 (Err (Differs finding)) result b a s0 s1 says reports = elim (own_or_outside (Err (Differs finding)) result b a s0 s1 reports) [
     | inl own ↦ inl (Ok says.0, says.1, inr (inl (finding, says.2, says.3, own.0, own.1)))
-    | inr is ↦ inl (Ok says.0, says.1, inr (inr (is, inl says.3)))
+    | inr is ↦ inl (Ok says.0, says.1, inr (inr (inr (is, inl (says.3, kept_found says.0 finding says.2)))))
+  ]
+  ends wanted files after f0 f1 (Err (NotDone cause)) result b a s0 s1 says reports = elim (own_or_outside (Err (NotDone cause)) result b a s0 s1 reports) [
+    | inl own ↦ inl (Ok says.0, says.1, inr (inr (inl (cause, says.2, says.3, own.0, own.1))))
+    | inr is ↦ inl (Ok says.0, says.1, inr (inr (inr (is, inl (says.3, kept_caused says.0 cause says.2)))))
   ]
   ends wanted files after f0 f1 (Err DeviceFault) result b a s0 s1 says reports = left_ends wanted files after f0 f1 result b a says (outside (Err DeviceFault) result b a s0 s1 reports (inl refl))
   ends wanted files after f0 f1 (Err OutOfMemory) result b a s0 s1 says reports = left_ends wanted files after f0 f1 result b a says (outside (Err OutOfMemory) result b a s0 s1 reports (inr refl))
@@ -130,7 +159,7 @@ module _ (h : Hosting) where
   -- it ends so with each verdict, since there is one
   each_end : (words : List (List ℕ)) (files after : FileMap) (f0 f1 result : ℕ) (b a : Option (List ℕ)) → EndsSo (Verdict words files) files after f0 f1 h result b a → (verdict : Result Task Failure) → Verdict words files verdict → Ends verdict files after f0 f1 h result b a
   each_end words files after f0 f1 result b a (inl some) verdict is = subst (λ (v : Result Task Failure). Ends v files after f0 f1 h result b a) (verdict_one words files some.0 verdict some.1 is) some.2
-  each_end words files after f0 f1 result b a (inr none) (Ok task) is = inr (inr (none.0, inl none.1))
+  each_end words files after f0 f1 result b a (inr none) (Ok task) is = inr (inr (inr (none.0, inl (none.1, (none.2.1.runs, none.2.1.divergences)))))
   each_end words files after f0 f1 result b a (inr none) (Err failure) is = (none.1, none.2, inr none.0)
 
   pub told_each : (c0 c1 : Option FileMap) (words : List (List ℕ)) (f0 f1 result : ℕ) (b a : Option (List ℕ)) → Told c0 (λ files. IsSomeAnd c1 (λ after. EndsSo (Verdict words files) files after f0 f1 h result b a))
@@ -148,9 +177,17 @@ refused_own : (refusal : Refusal) → IsOwn (refusal_status refusal)
 refused_own (Missing name) = record { no_command = λ e. omega (arith, e); no_fault = λ e. omega (arith, e) }
 refused_own (TooLong name) = record { no_command = λ e. omega (arith, e); no_fault = λ e. omega (arith, e) }
 refused_own (BadLine name line) = record { no_command = λ e. omega (arith, e); no_fault = λ e. omega (arith, e) }
+refused_own (BadReport name line) = record { no_command = λ e. omega (arith, e); no_fault = λ e. omega (arith, e) }
 refused_own (BadRemap n) = record { no_command = λ e. omega (arith, e); no_fault = λ e. omega (arith, e) }
 refused_own (BadChange n) = record { no_command = λ e. omega (arith, e); no_fault = λ e. omega (arith, e) }
 refused_own (NotLegal cause) = record { no_command = λ e. omega (arith, e); no_fault = λ e. omega (arith, e) }
+
+cause_own : (cause : Unkept) → IsOwn (unkept_status cause)
+cause_own (NoRun name) = record { no_command = λ e. omega (arith, e); no_fault = λ e. omega (arith, e) }
+cause_own (OtherRun name) = record { no_command = λ e. omega (arith, e); no_fault = λ e. omega (arith, e) }
+cause_own (BadRun name line) = record { no_command = λ e. omega (arith, e); no_fault = λ e. omega (arith, e) }
+cause_own (NoCall stamp) = record { no_command = λ e. omega (arith, e); no_fault = λ e. omega (arith, e) }
+cause_own (OtherCapture one n other m) = record { no_command = λ e. omega (arith, e); no_fault = λ e. omega (arith, e) }
 
 done_own : (differs : Bool) → IsOwn (done_status differs)
 done_own true = record { no_command = λ e. omega (arith, e); no_fault = λ e. omega (arith, e) }
@@ -161,70 +198,94 @@ two_means (Ok plan) two = absurd ((done_own plan.differs).no_command two)
 two_means (Err BadCommand) two = refl
 two_means (Err (Refused refusal)) two = absurd ((refused_own refusal).no_command two)
 two_means (Err (Differs finding)) two = absurd (omega (arith, two))
+two_means (Err (NotDone cause)) two = absurd ((cause_own cause).no_command two)
 two_means (Err DeviceFault) two = absurd (omega (arith, two))
 two_means (Err OutOfMemory) two = absurd (omega (arith, two))
 
--- one of the two counts rose
-one_rose : (f0 f1 h0 h1 : ℕ) → OneRose f0 f1 h0 h1 → HasRisen f0 f1 ⊎ HasRisen h0 h1
-one_rose f0 f1 h0 h1 (inl files) = inl files.0.0
-one_rose f0 f1 h0 h1 (inr host) = inr host.1.0
+-- one of the three counts rose
+SomeRose : ℕ → ℕ → Hosting → Type 0
+SomeRose f0 f1 h = HasRisen f0 f1 ⊎ (HasRisen h.faults_before h.faults_after ⊎ HasRisen h.keeper.faults_before h.keeper.faults_after)
 
-five_means : (done : Result Plan Failure) (f0 f1 h0 h1 : ℕ) → RunFaults done f0 f1 h0 h1 → status_of done ≡ 5 → HasRisen f0 f1 ⊎ HasRisen h0 h1
-five_means (Ok plan) f0 f1 h0 h1 faults five = absurd ((done_own plan.differs).no_fault five)
-five_means (Err BadCommand) f0 f1 h0 h1 faults five = absurd (omega (arith, five))
-five_means (Err (Refused refusal)) f0 f1 h0 h1 faults five = absurd ((refused_own refusal).no_fault five)
-five_means (Err (Differs finding)) f0 f1 h0 h1 faults five = absurd (omega (arith, five))
-five_means (Err DeviceFault) f0 f1 h0 h1 faults five = one_rose f0 f1 h0 h1 faults
-five_means (Err OutOfMemory) f0 f1 h0 h1 faults five = absurd (omega (arith, five))
+one_rose : (f0 f1 : ℕ) (h : Hosting) → OneRose f0 f1 h → SomeRose f0 f1 h
+unfolding SomeRose
+one_rose f0 f1 h (inl files) = inl files.0.0
+one_rose f0 f1 h (inr (same, inl host)) = inr (inl host.0.0)
+one_rose f0 f1 h (inr (same, inr keeper)) = inr (inr keeper.1.0)
 
-both_stand : (done : Result Plan Failure) (f0 f1 h0 h1 : ℕ) → RunFaults done f0 f1 h0 h1 → ¬ IsErrOf done DeviceFault → (f1 ≡ f0) × (h1 ≡ h0)
-both_stand (Ok plan) f0 f1 h0 h1 faults other = faults
-both_stand (Err BadCommand) f0 f1 h0 h1 faults other = faults
-both_stand (Err (Refused refusal)) f0 f1 h0 h1 faults other = faults
-both_stand (Err (Differs finding)) f0 f1 h0 h1 faults other = faults
-both_stand (Err DeviceFault) f0 f1 h0 h1 faults other = absurd (other refl)
-both_stand (Err OutOfMemory) f0 f1 h0 h1 faults other = faults
+five_means : (done : Result Plan Failure) (f0 f1 : ℕ) (h : Hosting) → RunFaults done f0 f1 h → status_of done ≡ 5 → SomeRose f0 f1 h
+five_means (Ok plan) f0 f1 h faults five = absurd ((done_own plan.differs).no_fault five)
+five_means (Err BadCommand) f0 f1 h faults five = absurd (omega (arith, five))
+five_means (Err (Refused refusal)) f0 f1 h faults five = absurd ((refused_own refusal).no_fault five)
+five_means (Err (Differs finding)) f0 f1 h faults five = absurd (omega (arith, five))
+five_means (Err (NotDone cause)) f0 f1 h faults five = absurd ((cause_own cause).no_fault five)
+five_means (Err DeviceFault) f0 f1 h faults five = one_rose f0 f1 h faults
+five_means (Err OutOfMemory) f0 f1 h faults five = absurd (omega (arith, five))
 
-both_grow : (done : Result Plan Failure) (f0 f1 h0 h1 : ℕ) → RunFaults done f0 f1 h0 h1 → (f0 ≤ f1) × (h0 ≤ h1)
-both_grow (Ok plan) f0 f1 h0 h1 faults = (omega (arith, faults.0), omega (arith, faults.1))
-both_grow (Err BadCommand) f0 f1 h0 h1 faults = (omega (arith, faults.0), omega (arith, faults.1))
-both_grow (Err (Refused refusal)) f0 f1 h0 h1 faults = (omega (arith, faults.0), omega (arith, faults.1))
-both_grow (Err (Differs finding)) f0 f1 h0 h1 faults = (omega (arith, faults.0), omega (arith, faults.1))
-both_grow (Err DeviceFault) f0 f1 h0 h1 (inl files) = (files.0.1, omega (arith, files.1))
-both_grow (Err DeviceFault) f0 f1 h0 h1 (inr host) = (omega (arith, host.0), host.1.1)
-both_grow (Err OutOfMemory) f0 f1 h0 h1 faults = (omega (arith, faults.0), omega (arith, faults.1))
+both_stand : (done : Result Plan Failure) (f0 f1 : ℕ) (h : Hosting) → RunFaults done f0 f1 h → ¬ IsErrOf done DeviceFault → (f1 ≡ f0) × HasNoFault h
+both_stand (Ok plan) f0 f1 h faults other = faults
+both_stand (Err BadCommand) f0 f1 h faults other = faults
+both_stand (Err (Refused refusal)) f0 f1 h faults other = faults
+both_stand (Err (Differs finding)) f0 f1 h faults other = faults
+both_stand (Err (NotDone cause)) f0 f1 h faults other = faults
+both_stand (Err DeviceFault) f0 f1 h faults other = absurd (other refl)
+both_stand (Err OutOfMemory) f0 f1 h faults other = faults
 
-some_rose : (f0 f1 h0 h1 s0 s1 : ℕ) → HasRisen f0 f1 ⊎ HasRisen h0 h1 → HasRisen f0 f1 ⊎ (HasRisen h0 h1 ⊎ HasRisen s0 s1)
-some_rose f0 f1 h0 h1 s0 s1 (inl files) = inl files
-some_rose f0 f1 h0 h1 s0 s1 (inr host) = inr (inl host)
+-- no count falls
+record Grow (f0 f1 : ℕ) (h : Hosting) : Type 0 where
+  files : f0 ≤ f1
+  host : h.faults_before ≤ h.faults_after
+  keeper : h.keeper.faults_before ≤ h.keeper.faults_after
 
-fault_of : (done : Result Plan Failure) (result : ℕ) (b a : Option (List ℕ)) (f0 f1 h0 h1 s0 s1 : ℕ) → RunFaults done f0 f1 h0 h1 → Reports done result b a s0 s1 → result ≡ 5 → HasRisen f0 f1 ⊎ (HasRisen h0 h1 ⊎ HasRisen s0 s1)
-fault_of done result b a f0 f1 h0 h1 s0 s1 faults (inl own) five = some_rose f0 f1 h0 h1 s0 s1 (five_means done f0 f1 h0 h1 faults (sym own.0 ∙ five))
-fault_of done result b a f0 f1 h0 h1 s0 s1 faults (inr (inl short)) five = absurd (omega (arith, short.0, five))
-fault_of done result b a f0 f1 h0 h1 s0 s1 faults (inr (inr fault)) five = inr (inr fault.1)
+grow_still : (f0 f1 : ℕ) (h : Hosting) → (f1 ≡ f0) × HasNoFault h → Grow f0 f1 h
+grow_still f0 f1 h still = record { files = omega (arith, still.0); host = omega (arith, still.1.0); keeper = omega (arith, still.1.1) }
 
-all_stand : (done : Result Plan Failure) (result : ℕ) (b a : Option (List ℕ)) (f0 f1 h0 h1 s0 s1 : ℕ) → RunFaults done f0 f1 h0 h1 → Reports done result b a s0 s1 → result ≢ 5 → Stands (moves f0 f1 h0 h1 s0 s1)
-all_stand done result b a f0 f1 h0 h1 s0 s1 faults (inl own) other =
-    let both = both_stand done f0 f1 h0 h1 faults (λ e. other (own.0 ∙ ap status_of e)) in
-    record { files = both.0; host = both.1; out = own.2 }
-all_stand done result b a f0 f1 h0 h1 s0 s1 faults (inr (inl short)) other =
-    let both = both_stand done f0 f1 h0 h1 faults short.3 in
-    record { files = both.0; host = both.1; out = short.2 }
-all_stand done result b a f0 f1 h0 h1 s0 s1 faults (inr (inr fault)) other = absurd (other fault.0)
+all_grow : (done : Result Plan Failure) (f0 f1 : ℕ) (h : Hosting) → RunFaults done f0 f1 h → Grow f0 f1 h
+all_grow (Ok plan) f0 f1 h faults = grow_still f0 f1 h faults
+all_grow (Err BadCommand) f0 f1 h faults = grow_still f0 f1 h faults
+all_grow (Err (Refused refusal)) f0 f1 h faults = grow_still f0 f1 h faults
+all_grow (Err (Differs finding)) f0 f1 h faults = grow_still f0 f1 h faults
+all_grow (Err (NotDone cause)) f0 f1 h faults = grow_still f0 f1 h faults
+all_grow (Err DeviceFault) f0 f1 h (inl files) = record { files = files.0.1; host = omega (arith, files.1.0); keeper = omega (arith, files.1.1) }
+all_grow (Err DeviceFault) f0 f1 h (inr (same, inl host)) = record { files = omega (arith, same); host = host.0.1; keeper = omega (arith, host.1) }
+all_grow (Err DeviceFault) f0 f1 h (inr (same, inr keeper)) = record { files = omega (arith, same); host = omega (arith, keeper.0); keeper = keeper.1.1 }
+all_grow (Err OutOfMemory) f0 f1 h faults = grow_still f0 f1 h faults
+
+some_rose : (f0 f1 : ℕ) (h : Hosting) (s0 s1 : ℕ) → SomeRose f0 f1 h → HasRisen f0 f1 ⊎ (HasRisen h.faults_before h.faults_after ⊎ (HasRisen h.keeper.faults_before h.keeper.faults_after ⊎ HasRisen s0 s1))
+unfolding SomeRose
+some_rose f0 f1 h s0 s1 (inl files) = inl files
+some_rose f0 f1 h s0 s1 (inr (inl host)) = inr (inl host)
+some_rose f0 f1 h s0 s1 (inr (inr keeper)) = inr (inr (inl keeper))
+
+fault_of : (done : Result Plan Failure) (result : ℕ) (b a : Option (List ℕ)) (f0 f1 : ℕ) (h : Hosting) (s0 s1 : ℕ) → RunFaults done f0 f1 h → Reports done result b a s0 s1 → result ≡ 5 → HasRisen f0 f1 ⊎ (HasRisen h.faults_before h.faults_after ⊎ (HasRisen h.keeper.faults_before h.keeper.faults_after ⊎ HasRisen s0 s1))
+fault_of done result b a f0 f1 h s0 s1 faults (inl own) five = some_rose f0 f1 h s0 s1 (five_means done f0 f1 h faults (sym own.0 ∙ five))
+fault_of done result b a f0 f1 h s0 s1 faults (inr (inl short)) five = absurd (omega (arith, short.0, five))
+fault_of done result b a f0 f1 h s0 s1 faults (inr (inr fault)) five = inr (inr (inr fault.1))
+
+module _ (f0 f1 : ℕ) (h : Hosting) (s0 s1 : ℕ) where
+  all_stand : (done : Result Plan Failure) (result : ℕ) (b a : Option (List ℕ)) → RunFaults done f0 f1 h → Reports done result b a s0 s1 → result ≢ 5 → Stands (moves f0 f1 h.faults_before h.faults_after h.keeper.faults_before h.keeper.faults_after s0 s1)
+  all_stand done result b a faults (inl own) other =
+      let both = both_stand done f0 f1 h faults (λ e. other (own.0 ∙ ap status_of e)) in
+      record { files = both.0; host = both.1.0; keeper = both.1.1; out = own.2 }
+  all_stand done result b a faults (inr (inl short)) other =
+      let both = both_stand done f0 f1 h faults short.3 in
+      record { files = both.0; host = both.1.0; keeper = both.1.1; out = short.2 }
+  all_stand done result b a faults (inr (inr fault)) other = absurd (other fault.0)
 
 command_of_two : (words : List (List ℕ)) (done : Result Plan Failure) (result : ℕ) (b a : Option (List ℕ)) (s0 s1 : ℕ) → (IsErrOf done BadCommand → IsNone (command_of words)) → Reports done result b a s0 s1 → result ≡ 2 → IsNone (command_of words)
 command_of_two words done result b a s0 s1 only (inl own) two = only (two_means done (sym own.0 ∙ two))
 command_of_two words done result b a s0 s1 only (inr (inl short)) two = absurd (omega (arith, short.0, two))
 command_of_two words done result b a s0 s1 only (inr (inr fault)) two = absurd (omega (arith, fault.0, two))
 
-pub causes : (words : List (List ℕ)) (done : Result Plan Failure) (result : ℕ) (b a : Option (List ℕ)) (f0 f1 h0 h1 s0 s1 : ℕ) → (IsErrOf done BadCommand → IsNone (command_of words)) → RunFaults done f0 f1 h0 h1 → Reports done result b a s0 s1 → s0 ≤ s1 → Causes words result (moves f0 f1 h0 h1 s0 s1)
-causes words done result b a f0 f1 h0 h1 s0 s1 only faults reports out =
-    let grown = both_grow done f0 f1 h0 h1 faults in
+pub causes : (words : List (List ℕ)) (done : Result Plan Failure) (result : ℕ) (b a : Option (List ℕ)) (f0 f1 : ℕ) (h : Hosting) (s0 s1 : ℕ) → (IsErrOf done BadCommand → IsNone (command_of words)) → RunFaults done f0 f1 h → Reports done result b a s0 s1 → s0 ≤ s1
+    → Causes words result (moves f0 f1 h.faults_before h.faults_after h.keeper.faults_before h.keeper.faults_after s0 s1)
+causes words done result b a f0 f1 h s0 s1 only faults reports out =
+    let grown = all_grow done f0 f1 h faults in
     record {
       command = command_of_two words done result b a s0 s1 only reports;
-      fault = fault_of done result b a f0 f1 h0 h1 s0 s1 faults reports;
-      stands = all_stand done result b a f0 f1 h0 h1 s0 s1 faults reports;
-      files = grown.0;
-      host = grown.1;
+      fault = fault_of done result b a f0 f1 h s0 s1 faults reports;
+      stands = all_stand f0 f1 h s0 s1 done result b a faults reports;
+      files = grown.files;
+      host = grown.host;
+      keeper = grown.keeper;
       out = out;
     }

@@ -11,3 +11,5 @@ pub mod Causes
 pub mod TheWords
 pub mod Telling
 pub mod Targets
+pub mod Asked
+pub mod Unwritten

@@ -10,13 +10,14 @@ use Rattle.desk_schema.specs.Start.{StartView}
 use Rattle.captured_calls.specs.declared.refusal.Refusal.{Refusal as Illegal}
 use Rattle.captured_calls.specs.Verdict.{Preparation as Planned, verdict}
 use Rattle.replay_cli.specs.declared.failure.Refusal.{Refusal}
-use Rattle.replay_cli.specs.declared.failure.Refusal.TheVariants.{Missing, TooLong, BadLine, BadRemap, BadChange, NotLegal}
+use Rattle.replay_cli.specs.declared.failure.Refusal.TheVariants.{Missing, TooLong, BadLine, BadReport, BadRemap, BadChange, NotLegal}
 use Rattle.replay_cli.specs.declared.failure.Failure.{Failure}
-use Rattle.replay_cli.specs.declared.failure.Failure.TheVariants.{BadCommand, Refused, Differs, DeviceFault, OutOfMemory}
+use Rattle.replay_cli.specs.declared.failure.Failure.TheVariants.{BadCommand, Refused, Differs, NotDone, DeviceFault, OutOfMemory}
 use Rattle.replay_cli.specs.declared.plan.Plan.{Plan}
 use Rattle.desk_words.specs.declared.words.Command.{Command}
-use Rattle.replay_cli.specs.Decision.{IsFileIn, MayRefuseCapture, MayRefuseStart, SessionOf, StartOf, legal_from}
-use Rattle.replay_cli.specs.Ending.{Hosting, MayComeTo}
+use Rattle.replay_cli.specs.Decision.{IsFileIn, MayRefuseCapture, MayRefuseReport, MayRefuseStart, ReportOf, SessionOf, StartOf, legal_from}
+use Rattle.replay_cli.specs.Hosting.{Hosting}
+use Rattle.replay_cli.specs.Ending.{MayComeTo}
 use Rattle.replay_cli.specs.FileNames.{session_name, session_names, start_name}
 use Rattle.replay_cli.specs.Steps.{Is}
 use Rattle.replay_cli.specs.Inside.Steps.{IsAmong, IsUntaken, MayFail, RefusesOne, Stops}
@@ -26,6 +27,7 @@ pub fails_weaker : (may more : Refusal → Type 0) → ((refusal : Refusal) → 
 fails_weaker may more f BadCommand h = absurd h
 fails_weaker may more f (Refused refusal) h = f refusal h
 fails_weaker may more f (Differs finding) h = absurd h
+fails_weaker may more f (NotDone cause) h = absurd h
 fails_weaker may more f DeviceFault h = tt
 fails_weaker may more f OutOfMemory h = tt
 
@@ -37,12 +39,14 @@ untaken_in folder name is (TooLong other) e = subst (IsFileIn folder) (sym e) is
 untaken_in folder name is (BadLine other line) e = absurd e
 untaken_in folder name is (BadRemap row) e = absurd e
 untaken_in folder name is (BadChange row) e = absurd e
+untaken_in folder name is (BadReport other line) e = absurd e
 untaken_in folder name is (NotLegal cause) e = absurd e
 
 pub bad_start : (folder name bytes : List ℕ) → name ≡ start_name folder → (failure : Failure) → Stops (StartOf name bytes) failure → MayFail (MayRefuseCapture folder) failure
 bad_start folder name bytes is BadCommand h = absurd h
 bad_start folder name bytes is (Refused refusal) h = subst (MayRefuseCapture folder) (sym h.2) (inl is, (bytes, inl h.1.0))
 bad_start folder name bytes is (Differs finding) h = absurd h
+bad_start folder name bytes is (NotDone cause) h = absurd h
 bad_start folder name bytes is DeviceFault h = tt
 bad_start folder name bytes is OutOfMemory h = tt
 
@@ -52,12 +56,14 @@ untaken_among names place name within is (TooLong other) e = subst (IsAmong name
 untaken_among names place name within is (BadLine other line) e = absurd e
 untaken_among names place name within is (BadRemap row) e = absurd e
 untaken_among names place name within is (BadChange row) e = absurd e
+untaken_among names place name within is (BadReport other line) e = absurd e
 untaken_among names place name within is (NotLegal cause) e = absurd e
 
 pub bad_among : (version : ℕ) → IsVersion version → (names : List (List ℕ)) (place session : ℕ) (name bytes : List ℕ) → place < length names → name ≡ get_or names place name → (failure : Failure) → Stops (SessionOf version session name bytes) failure → MayFail (RefusesOne names) failure
 bad_among version known names place session name bytes within is BadCommand h = absurd h
 bad_among version known names place session name bytes within is (Refused refusal) h = subst (RefusesOne names) (sym h.2) ((place, within, is), (bytes, inr (session, version, known, h.1.0)))
 bad_among version known names place session name bytes within is (Differs finding) h = absurd h
+bad_among version known names place session name bytes within is (NotDone cause) h = absurd h
 bad_among version known names place session name bytes within is DeviceFault h = tt
 bad_among version known names place session name bytes within is OutOfMemory h = tt
 
@@ -88,6 +94,7 @@ one_in folder n few (TooLong name) among = among_in folder n name few among
 one_in folder n few (BadLine name line) bad = (among_in folder n name few bad.0, bad.1)
 one_in folder n few (BadRemap row) none = absurd none
 one_in folder n few (BadChange row) none = absurd none
+one_in folder n few (BadReport name line) none = absurd none
 one_in folder n few (NotLegal cause) none = absurd none
 
 legal_refused : (start : StartView) (answer : Result Planned Illegal) (refusal : Refusal) → legal_from start answer ≡ Err refusal → (cause : Illegal) × (answer ≡ Err cause) × (refusal ≡ NotLegal cause)
@@ -98,6 +105,7 @@ pub tested : (folder : List ℕ) (start : StartView) (lists : List (List Capture
 tested folder start lists BadCommand h = absurd h
 tested folder start lists (Refused refusal) h = let found = legal_refused start (verdict start lists) refusal h in subst (MayRefuseCapture folder) (sym found.2) (start, lists, found.1)
 tested folder start lists (Differs finding) h = absurd h
+tested folder start lists (NotDone cause) h = absurd h
 tested folder start lists DeviceFault h = tt
 tested folder start lists OutOfMemory h = tt
 
@@ -109,14 +117,35 @@ untaken_start name (TooLong other) e = e
 untaken_start name (BadLine other line) e = absurd e
 untaken_start name (BadRemap row) e = absurd e
 untaken_start name (BadChange row) e = absurd e
+untaken_start name (BadReport other line) e = absurd e
 untaken_start name (NotLegal cause) e = absurd e
 
 pub bad_file : (name bytes : List ℕ) (failure : Failure) → Stops (StartOf name bytes) failure → MayFail (MayRefuseStart name) failure
 bad_file name bytes BadCommand h = absurd h
 bad_file name bytes (Refused refusal) h = subst (MayRefuseStart name) (sym h.2) (refl, (bytes, h.1.0))
 bad_file name bytes (Differs finding) h = absurd h
+bad_file name bytes (NotDone cause) h = absurd h
 bad_file name bytes DeviceFault h = tt
 bad_file name bytes OutOfMemory h = tt
+
+-- ---- the file of a report
+
+pub untaken_report : (name : List ℕ) (refusal : Refusal) → IsUntaken name refusal → MayRefuseReport name refusal
+untaken_report name (Missing other) e = e
+untaken_report name (TooLong other) e = e
+untaken_report name (BadLine other line) e = absurd e
+untaken_report name (BadRemap row) e = absurd e
+untaken_report name (BadChange row) e = absurd e
+untaken_report name (BadReport other line) e = absurd e
+untaken_report name (NotLegal cause) e = absurd e
+
+pub bad_report : (name bytes : List ℕ) (failure : Failure) → Stops (ReportOf name bytes) failure → MayFail (MayRefuseReport name) failure
+bad_report name bytes BadCommand h = absurd h
+bad_report name bytes (Refused refusal) h = subst (MayRefuseReport name) (sym h.2) (refl, (bytes, h.1.0))
+bad_report name bytes (Differs finding) h = absurd h
+bad_report name bytes (NotDone cause) h = absurd h
+bad_report name bytes DeviceFault h = tt
+bad_report name bytes OutOfMemory h = tt
 
 -- ---- what words may come to
 
@@ -126,5 +155,6 @@ only_no_command (Some command) h (Ok plan) may is = absurd (cc is)
 only_no_command (Some command) h (Err BadCommand) may is = absurd may
 only_no_command (Some command) h (Err (Refused refusal)) may is = absurd (cc is)
 only_no_command (Some command) h (Err (Differs finding)) may is = absurd (cc is)
+only_no_command (Some command) h (Err (NotDone cause)) may is = absurd (cc is)
 only_no_command (Some command) h (Err DeviceFault) may is = absurd (cc is)
 only_no_command (Some command) h (Err OutOfMemory) may is = absurd (cc is)

@@ -22,7 +22,7 @@ use Rattle.desk_words.specs.Command.{command_of}
 use Rattle.desk_words.specs.Within.{HasWays, IsWithinLimits}
 use Rattle.desk_words.specs.declared.ways.Ways.{Ways}
 use Rattle.desk_words.specs.declared.words.Command.{Command}
-use Rattle.desk_words.specs.declared.words.Command.TheVariants.{Run, Prepare, Serve, Generate, Trial}
+use Rattle.desk_words.specs.declared.words.Command.TheVariants.{Run, Prepare, Serve, Generate, Trial, Register, Runs, Accept, Compare}
 use Rattle.desk_words.proofs.Limiting.{within_limits}
 use Rattle.replay_cli.specs.FileNames.{session_names}
 use Rattle.replay_cli.specs.Decision.{Legal, Read, ReadIn, RunIn, SessionOf, Task, ToReplay, Verdict, VerdictOf, legal_from, run_job}
@@ -108,6 +108,10 @@ decided_sound files (Some (Prepare capture folder)) out job within is = absurd (
 decided_sound files (Some (Serve capture start connections port)) out job within is = absurd (let e = is.2 in cc)
 decided_sound files (Some (Generate n folder)) out job within is = absurd (cc is)
 decided_sound files (Some (Trial n)) out job within is = absurd (cc is)
+decided_sound files (Some (Register folder run)) out job within is = absurd (let e = is.2.2 in cc)
+decided_sound files (Some Runs) out job within is = absurd (cc is)
+decided_sound files (Some (Accept run stamp class)) out job within is = absurd (cc is)
+decided_sound files (Some (Compare base other)) out job within is = absurd (cc is)
 
 pub verdict_sound : (words : List (List ℕ)) (files : FileMap) (out : List ℕ) (job : JobView) → Verdict words files (Ok (ToReplay out job)) → IsSoundJob job
 verdict_sound words files out job is = decided_sound files (command_of words) out job (within_limits words) is

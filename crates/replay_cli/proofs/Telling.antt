@@ -1,17 +1,36 @@
 -- What words may come to, from how deciding and doing their task may fail.
-use Rattle.std.proofs.Common.{◌≡◌, ℕ, Option, Some, None, Result, Ok, Err, inr, refl, sym, subst}
+use Rattle.std.proofs.Common.{◌≡◌, ◌≢◌, ℕ, [], Option, Some, None, Result, Ok, Err, inr, refl, sym, subst}
+use Rattle.desk_files.specs.declared.fault.WriteErr.{WriteErr}
+use Rattle.desk_files.specs.declared.fault.WriteErr.TheVariants.{Failed, Memory}
 use Rattle.desk_words.specs.declared.words.Command.{Command}
-use Rattle.desk_words.specs.declared.words.Command.TheVariants.{Run, Prepare, Serve, Generate, Trial}
+use Rattle.desk_words.specs.declared.words.Command.TheVariants.{Run, Prepare, Serve, Generate, Trial, Register, Runs, Accept, Compare}
 use Rattle.capture_serve.specs.declared.failing.Finding.{Finding}
 use Rattle.capture_serve.specs.Service.{HasGivenBackAll}
 use Rattle.replay_cli.specs.declared.failure.Failure.{Failure}
-use Rattle.replay_cli.specs.declared.failure.Failure.TheVariants.{BadCommand, Refused, Differs, DeviceFault, OutOfMemory}
+use Rattle.replay_cli.specs.declared.failure.Failure.TheVariants.{BadCommand, Refused, Differs, NotDone, DeviceFault, OutOfMemory}
 use Rattle.replay_cli.specs.declared.plan.Plan.{Plan}
-use Rattle.replay_cli.specs.Decision.{IsTaskOf, MayBeRefused, Task, ToMake, ToReplay, ToServe, ToTell, ToTry}
+use Rattle.register_work.specs.declared.errand.Errand.{Errand}
+use Rattle.register_work.specs.declared.unkept.Unkept.{Unkept}
+use Rattle.replay_cli.specs.Decision.{IsErrandOf, IsTaskOf, MayBeRefused, Task, ToKeep, ToMake, ToReplay, ToServe, ToTell, ToTry}
 use Rattle.replay_cli.specs.Done.{IsDone}
-use Rattle.replay_cli.specs.Ending.{Hosting, IsFoundOf, IsUnasked, MayAsk, MayComeTo, MayDiffer}
+use Rattle.replay_cli.specs.Hosting.{HasKept, Hosting, IsUnasked}
+use Rattle.replay_cli.specs.Ending.{IsCauseOf, IsFoundOf, MayAsk, MayComeTo, MayDiffer}
 use Rattle.replay_cli.specs.Inside.Serving.{AsksFor, PlanFails}
 use Rattle.replay_cli.specs.Inside.Steps.{MayFail}
+use Rattle.replay_cli.proofs.Endings.{failure_of}
+
+-- where the keeper was not asked, it has what it had
+kept_unasked : (h : Hosting) → IsUnasked h → HasKept h
+kept_unasked h unasked = (unasked.1.runs, unasked.1.divergences)
+
+-- and so where a file is written: no errand writes one
+kept_writing : (task : Task) (h : Hosting) (plan : Plan) → IsDone task plan h → plan.writes ≢ [] → HasKept h
+kept_writing (ToServe out start most port) h plan done some = (done.1.runs, done.1.divergences)
+kept_writing (ToKeep errand) h plan done some = absurd (some done.0.1)
+kept_writing (ToReplay out job) h plan done some = kept_unasked h done.1
+kept_writing (ToTell out facts) h plan done some = kept_unasked h done.1
+kept_writing (ToMake n out) h plan done some = kept_unasked h done.1
+kept_writing (ToTry n) h plan done some = kept_unasked h done.1
 
 -- the command is one of these words
 told_of : (found : Option Command) (command : Command) (h : Hosting) (done : Result Plan Failure) → found ≡ Some command → MayComeTo (Some command) h done → MayComeTo found h done
@@ -21,26 +40,52 @@ refused_told : (command : Command) (h : Hosting) (failure : Failure) → IsUnask
 refused_told command h BadCommand unasked may = absurd may
 refused_told command h (Refused refusal) unasked may = (may, unasked)
 refused_told command h (Differs finding) unasked may = absurd may
-refused_told command h DeviceFault unasked may = tt
-refused_told command h OutOfMemory unasked may = tt
+refused_told command h (NotDone cause) unasked may = absurd may
+refused_told command h DeviceFault unasked may = kept_unasked h unasked
+refused_told command h OutOfMemory unasked may = kept_unasked h unasked
 
 differs_told : (command : Command) (task : Task) (finding : Finding) (h : Hosting) → IsTaskOf command task → IsFoundOf task finding h → MayDiffer command finding h
 differs_told command (ToReplay out job) finding h is found = absurd found
 differs_told command (ToTell out facts) finding h is found = absurd found
 differs_told command (ToMake n out) finding h is found = absurd found
 differs_told command (ToTry n) finding h is found = absurd found
+differs_told command (ToKeep errand) finding h is found = absurd found
 differs_told (Run capture out ways) (ToServe folder start most port) finding h is found = absurd is
 differs_told (Prepare capture out) (ToServe folder start most port) finding h is found = absurd is
-differs_told (Serve capture name connections door) (ToServe folder start most port) finding h is found = ((start, found.0), subst (λ (n : ℕ). HasGivenBackAll n h.before h.after) is.1 found.1)
+differs_told (Serve capture name connections door) (ToServe folder start most port) finding h is found = ((start, found.0), subst (λ (n : ℕ). HasGivenBackAll n h.before h.after) is.1 found.1, found.2)
 differs_told (Generate n out) (ToServe folder start most port) finding h is found = absurd is
 differs_told (Trial n) (ToServe folder start most port) finding h is found = absurd is
+differs_told (Register out run) (ToServe folder start most port) finding h is found = absurd is
+differs_told Runs (ToServe folder start most port) finding h is found = absurd is
+differs_told (Accept run stamp class) (ToServe folder start most port) finding h is found = absurd is
+differs_told (Compare base other) (ToServe folder start most port) finding h is found = absurd is
+
+errand_of : (command : Command) (errand : Errand) → IsTaskOf command (ToKeep errand) → IsErrandOf command errand
+errand_of (Run capture out ways) errand is = absurd is
+errand_of (Prepare capture out) errand is = absurd is
+errand_of (Serve capture name connections door) errand is = absurd is
+errand_of (Generate n out) errand is = absurd is
+errand_of (Trial n) errand is = absurd is
+errand_of (Register out run) errand is = is
+errand_of Runs errand is = is
+errand_of (Accept run stamp class) errand is = is
+errand_of (Compare base other) errand is = is
+
+cause_told : (command : Command) (task : Task) (cause : Unkept) (h : Hosting) → IsTaskOf command task → IsCauseOf task cause h → MayComeTo (Some command) h (Err (NotDone cause))
+cause_told command (ToReplay out job) cause h is caused = absurd caused
+cause_told command (ToTell out facts) cause h is caused = absurd caused
+cause_told command (ToServe folder start most port) cause h is caused = absurd caused
+cause_told command (ToMake n out) cause h is caused = absurd caused
+cause_told command (ToTry n) cause h is caused = absurd caused
+cause_told command (ToKeep errand) cause h is caused = (errand, errand_of command errand is, caused)
 
 failed_told : (command : Command) (task : Task) (h : Hosting) (failure : Failure) → IsTaskOf command task → PlanFails task h failure → MayComeTo (Some command) h (Err failure)
 failed_told command task h BadCommand is fails = absurd fails
 failed_told command task h (Refused refusal) is fails = absurd fails
 failed_told command task h (Differs finding) is fails = differs_told command task finding h is fails
-failed_told command task h DeviceFault is fails = tt
-failed_told command task h OutOfMemory is fails = tt
+failed_told command task h (NotDone cause) is fails = cause_told command task cause h is fails
+failed_told command task h DeviceFault is fails = fails
+failed_told command task h OutOfMemory is fails = fails
 
 pub told_refused : (found : Option Command) (command : Command) (h : Hosting) (failure : Failure) → found ≡ Some command → IsUnasked h → MayFail (MayBeRefused command) failure → MayComeTo found h (Err failure)
 told_refused found command h failure is unasked may = told_of found command h (Err failure) is (refused_told command h failure unasked may)
@@ -48,25 +93,33 @@ told_refused found command h failure is unasked may = told_of found command h (E
 pub told_failed : (found : Option Command) (command : Command) (task : Task) (h : Hosting) (failure : Failure) → found ≡ Some command → IsTaskOf command task → PlanFails task h failure → MayComeTo found h (Err failure)
 told_failed found command task h failure is of fails = told_of found command h (Err failure) is (failed_told command task h failure of fails)
 
-pub told_done : (found : Option Command) (command : Command) (task : Task) (h : Hosting) (plan : Plan) → found ≡ Some command → IsTaskOf command task → IsDone task plan h.before h.after → MayComeTo found h (Ok plan)
+pub told_done : (found : Option Command) (command : Command) (task : Task) (h : Hosting) (plan : Plan) → found ≡ Some command → IsTaskOf command task → IsDone task plan h → MayComeTo found h (Ok plan)
 told_done found command task h plan is of done = told_of found command h (Ok plan) is (task, of, done)
 
-pub told_unwritten : (found : Option Command) (command : Command) (h : Hosting) → found ≡ Some command → MayComeTo found h (Err DeviceFault)
-told_unwritten found command h is = told_of found command h (Err DeviceFault) is tt
+unwritten : (command : Command) (h : Hosting) (error : WriteErr) → HasKept h → MayComeTo (Some command) h (Err (failure_of error))
+unwritten command h Failed kept = kept
+unwritten command h Memory kept = kept
+
+pub told_unwritten : (found : Option Command) (command : Command) (task : Task) (h : Hosting) (plan : Plan) (error : WriteErr) → found ≡ Some command → IsDone task plan h → plan.writes ≢ [] → MayComeTo found h (Err (failure_of error))
+told_unwritten found command task h plan error is done some = told_of found command h (Err (failure_of error)) is (unwritten command h error (kept_writing task h plan done some))
 
 pub told_short : (found : Option Command) (h : Hosting) → IsUnasked h → MayComeTo found h (Err OutOfMemory)
 told_short None h unasked = (inr refl, unasked)
-told_short (Some command) h unasked = tt
+told_short (Some command) h unasked = kept_unasked h unasked
 
--- ---- who asks the host
+-- ---- who asks the host and the keeper
 
 pub unasked_may : (found : Option Command) (h : Hosting) → IsUnasked h → MayAsk found h
 unasked_may None h unasked = unasked
 unasked_may (Some (Run capture out ways)) h unasked = unasked
 unasked_may (Some (Prepare capture out)) h unasked = unasked
-unasked_may (Some (Serve capture start connections port)) h unasked = tt
+unasked_may (Some (Serve capture start connections port)) h unasked = unasked.1
 unasked_may (Some (Generate n out)) h unasked = unasked
 unasked_may (Some (Trial n)) h unasked = unasked
+unasked_may (Some (Register out run)) h unasked = unasked.0
+unasked_may (Some Runs) h unasked = unasked.0
+unasked_may (Some (Accept run stamp class)) h unasked = unasked.0
+unasked_may (Some (Compare base other)) h unasked = unasked.0
 
 task_may : (command : Command) (task : Task) (h : Hosting) → IsTaskOf command task → AsksFor task h → MayAsk (Some command) h
 task_may command (ToReplay out job) h is asks = unasked_may (Some command) h asks
@@ -75,9 +128,22 @@ task_may command (ToMake n out) h is asks = unasked_may (Some command) h asks
 task_may command (ToTry n) h is asks = unasked_may (Some command) h asks
 task_may (Run capture out ways) (ToServe folder start most port) h is asks = absurd is
 task_may (Prepare capture out) (ToServe folder start most port) h is asks = absurd is
-task_may (Serve capture name connections door) (ToServe folder start most port) h is asks = tt
+task_may (Serve capture name connections door) (ToServe folder start most port) h is asks = asks
 task_may (Generate n out) (ToServe folder start most port) h is asks = absurd is
 task_may (Trial n) (ToServe folder start most port) h is asks = absurd is
+task_may (Register out run) (ToServe folder start most port) h is asks = absurd is
+task_may Runs (ToServe folder start most port) h is asks = absurd is
+task_may (Accept run stamp class) (ToServe folder start most port) h is asks = absurd is
+task_may (Compare base other) (ToServe folder start most port) h is asks = absurd is
+task_may (Run capture out ways) (ToKeep errand) h is asks = absurd is
+task_may (Prepare capture out) (ToKeep errand) h is asks = absurd is
+task_may (Serve capture name connections door) (ToKeep errand) h is asks = absurd is
+task_may (Generate n out) (ToKeep errand) h is asks = absurd is
+task_may (Trial n) (ToKeep errand) h is asks = absurd is
+task_may (Register out run) (ToKeep errand) h is asks = asks
+task_may Runs (ToKeep errand) h is asks = asks
+task_may (Accept run stamp class) (ToKeep errand) h is asks = asks
+task_may (Compare base other) (ToKeep errand) h is asks = asks
 
 pub may_ask : (found : Option Command) (command : Command) (task : Task) (h : Hosting) → found ≡ Some command → IsTaskOf command task → AsksFor task h → MayAsk found h
 may_ask found command task h is of asks = subst (λ (c : Option Command). MayAsk c h) (sym is) (task_may command task h of asks)

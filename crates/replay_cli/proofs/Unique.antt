@@ -11,20 +11,24 @@ use Rattle.capture_format.specs.SessionFile.{IsBadSession, IsSessionFile}
 use Rattle.capture_format.proofs.StartFiles as start
 use Rattle.capture_format.proofs.SessionFiles as session
 use Rattle.captured_calls.specs.Verdict.{verdict}
+use Rattle.replay_history.specs.declared.report.Report.{Report}
+use Rattle.report_format.specs.ReportFile.{IsBadReport, IsReport}
+use Rattle.report_format.proofs.Files as report
+use Rattle.register_work.specs.declared.errand.Errand.TheVariants as errand
 use Rattle.replay_cli.specs.declared.capture.Opened.{Opened}
 use Rattle.replay_cli.specs.Limits.{capture_limit}
 use Rattle.replay_cli.specs.declared.failure.Refusal.{Refusal}
-use Rattle.replay_cli.specs.declared.failure.Refusal.TheVariants.{BadChange, BadLine}
+use Rattle.replay_cli.specs.declared.failure.Refusal.TheVariants.{BadChange, BadLine, BadReport}
 use Rattle.replay_cli.specs.declared.failure.Failure.{Failure}
-use Rattle.replay_cli.specs.declared.failure.Failure.TheVariants.{BadCommand, Refused, Differs, DeviceFault, OutOfMemory}
+use Rattle.replay_cli.specs.declared.failure.Failure.TheVariants.{BadCommand, Refused, Differs, NotDone, DeviceFault, OutOfMemory}
 use Rattle.desk_words.specs.declared.words.Command.{Command}
-use Rattle.desk_words.specs.declared.words.Command.TheVariants.{Run, Prepare, Serve, Generate, Trial}
+use Rattle.desk_words.specs.declared.words.Command.TheVariants.{Run, Prepare, Serve, Generate, Trial, Register, Runs, Accept, Compare}
 use Rattle.desk_words.specs.Command.{command_of}
-use Rattle.replay_cli.specs.FileNames.{session_names, start_name}
+use Rattle.replay_cli.specs.FileNames.{report_name, session_names, start_name}
 use Rattle.desk_files.specs.Limits.{file_limit}
 use Rattle.remap_ids.specs.Services.{ServicePair, services_of}
 use Rattle.desk_words.specs.declared.ways.Ways.{Ways}
-use Rattle.replay_cli.specs.Decision.{Decides, Failing, Legal, OpenedIn, PrepareIn, Read, ReadIn, Reads, RemapIn, RunIn, ServeIn, SessionOf, StartIn, StartOf, TargetIn, TargetOf, Task, ToMake, ToReplay, ToServe, ToTell, ToTry, Verdict, VerdictOf, legal_from, remap_of, run_job}
+use Rattle.replay_cli.specs.Decision.{Decides, Failing, Legal, OpenedIn, PrepareIn, Read, ReadIn, Reads, RegisterIn, RemapIn, ReportOf, RunIn, ServeIn, SessionOf, StartIn, StartOf, TargetIn, TargetOf, Task, ToKeep, ToMake, ToReplay, ToServe, ToTell, ToTry, Verdict, VerdictOf, legal_from, remap_of, run_job}
 use Rattle.replay_cli.specs.Steps.{Is, Reading, Then, file_in}
 
 abbrev pub IsOne : {X : Type 0} → (Result X Refusal → Type 0) → Type 0
@@ -61,23 +65,26 @@ then_one first next one more (Err r) (Err s) (inr h) (inr k) =
 
 -- ---- the files
 
-reads_one : {X : Type 0} (name : List ℕ) (IsFileOf : X → Type 0) (IsFirstBad : ℕ → Type 0) → ((a b : X) → IsFileOf a → IsFileOf b → a ≡ b) → ((m n : ℕ) → IsFirstBad m → IsFirstBad n → m ≡ n) → IsOne (Reads name IsFileOf IsFirstBad)
-reads_one name IsFileOf IsFirstBad one_file one_bad (Ok a) (Ok b) h k = ap (λ x. Ok x) (one_file a b h k)
-reads_one name IsFileOf IsFirstBad one_file one_bad (Ok a) (Err s) h k = absurd (k.1.1 a h)
-reads_one name IsFileOf IsFirstBad one_file one_bad (Err r) (Ok b) h k = absurd (h.1.1 b k)
-reads_one name IsFileOf IsFirstBad one_file one_bad (Err r) (Err s) h k = ap (λ e. Err e) (h.2 ∙ ap (BadLine name) (one_bad h.0 k.0 h.1.0 k.1.0) ∙ sym k.2)
+reads_one : {X : Type 0} (refused : ℕ → Refusal) (IsFileOf : X → Type 0) (IsFirstBad : ℕ → Type 0) → ((a b : X) → IsFileOf a → IsFileOf b → a ≡ b) → ((m n : ℕ) → IsFirstBad m → IsFirstBad n → m ≡ n) → IsOne (Reads refused IsFileOf IsFirstBad)
+reads_one refused IsFileOf IsFirstBad one_file one_bad (Ok a) (Ok b) h k = ap (λ x. Ok x) (one_file a b h k)
+reads_one refused IsFileOf IsFirstBad one_file one_bad (Ok a) (Err s) h k = absurd (k.1.1 a h)
+reads_one refused IsFileOf IsFirstBad one_file one_bad (Err r) (Ok b) h k = absurd (h.1.1 b k)
+reads_one refused IsFileOf IsFirstBad one_file one_bad (Err r) (Err s) h k = ap (λ e. Err e) (h.2 ∙ ap refused (one_bad h.0 k.0 h.1.0 k.1.0) ∙ sym k.2)
 
 start_one : (name bytes : List ℕ) → IsOne (StartOf name bytes)
-start_one name bytes = reads_one name (IsStartFile bytes) (IsBadStart bytes) (start.one_file bytes) (start.one_bad bytes)
+start_one name bytes = reads_one (BadLine name) (IsStartFile bytes) (IsBadStart bytes) (start.one_file bytes) (start.one_bad bytes)
 
 session_one : (version place : ℕ) (name bytes : List ℕ) → IsOne (SessionOf version place name bytes)
-session_one version place name bytes = reads_one name (IsSessionFile place version bytes) (IsBadSession place version bytes) (session.one_file place version bytes) (session.one_bad place version bytes)
+session_one version place name bytes = reads_one (BadLine name) (IsSessionFile place version bytes) (IsBadSession place version bytes) (session.one_file place version bytes) (session.one_bad place version bytes)
 
 reading_one : (version : ℕ) (files : FileMap) (room place : ℕ) (names : List (List ℕ)) → IsOne (Reading (SessionOf version) files room place names)
 reading_one version files room place [] = is_one (Ok [])
 reading_one version files room place (name ∷ names) =
     then_one (Is (file_in files room name)) (λ bytes. Then (SessionOf version place name bytes) (λ item. Then (Reading (SessionOf version) files (room - length bytes) (place + 1) names) (λ items. Is (Ok (item ∷ items))))) (is_one (file_in files room name)) (λ bytes held. then_one (SessionOf version place name bytes) (λ item. Then (Reading (SessionOf version) files (room - length bytes) (place + 1) names) (λ items. Is (Ok (item ∷ items)))) (session_one version place name bytes) (λ item read.
     then_one (Reading (SessionOf version) files (room - length bytes) (place + 1) names) (λ items. Is (Ok (item ∷ items))) (reading_one version files (room - length bytes) (place + 1) names) (λ items all. is_one (Ok (item ∷ items)))))
+
+report_one : (name bytes : List ℕ) → IsOne (ReportOf name bytes)
+report_one name bytes = reads_one (BadReport name) (IsReport bytes) (IsBadReport bytes) (report.one_file bytes) (report.one_bad bytes)
 
 -- ---- a capture
 
@@ -157,12 +164,27 @@ serve_one : (files : FileMap) (capture name : List ℕ) (connections port : ℕ)
 serve_one files capture name connections port =
     then_one (StartIn files name) (λ file. Is (Ok (ToServe capture file.start connections port))) (start_in_one files name) (λ file read. is_one (Ok (ToServe capture file.start connections port)))
 
+abbrev registered_of : List ℕ → List ℕ → Report → Result Task Refusal → Type 0
+registered_of run bytes read = Is (Ok (ToKeep (errand.Register run bytes read)))
+
+abbrev report_in : List ℕ → List ℕ → List ℕ → Result Task Refusal → Type 0
+report_in out run bytes = Then (ReportOf (report_name out) bytes) (registered_of run bytes)
+
+register_one : (files : FileMap) (out run : List ℕ) → IsOne (RegisterIn files out run)
+register_one files out run =
+    then_one (Is (file_in files file_limit (report_name out))) (report_in out run) (is_one (file_in files file_limit (report_name out))) (λ bytes held.
+    then_one (ReportOf (report_name out) bytes) (registered_of run bytes) (report_one (report_name out) bytes) (λ read is. is_one (Ok (ToKeep (errand.Register run bytes read)))))
+
 decides_one : (command : Command) (files : FileMap) → IsOne (Decides command files)
 decides_one (Run capture out ways) files = run_one files capture out ways
 decides_one (Prepare capture out) files = prepare_one files capture out
 decides_one (Serve capture start connections port) files = serve_one files capture start connections port
 decides_one (Generate n out) files = is_one (Ok (ToMake n out))
 decides_one (Trial n) files = is_one (Ok (ToTry n))
+decides_one (Register out run) files = register_one files out run
+decides_one Runs files = is_one (Ok (ToKeep errand.Runs))
+decides_one (Accept run stamp class) files = is_one (Ok (ToKeep (errand.Accept run stamp class)))
+decides_one (Compare base other) files = is_one (Ok (ToKeep (errand.Compare base other)))
 
 abbrev failed_of : {X : Type 0} → Result X Refusal → Result X Failure
 failed_of (Ok x) = Ok x
@@ -175,14 +197,17 @@ failing_one want one (Err (Refused r)) (Ok y) h k = ap failed_of (one (Err r) (O
 failing_one want one (Err (Refused r)) (Err (Refused s)) h k = ap failed_of (one (Err r) (Err s) h k)
 failing_one want one (Ok x) (Err BadCommand) h k = absurd k
 failing_one want one (Ok x) (Err (Differs finding)) h k = absurd k
+failing_one want one (Ok x) (Err (NotDone cause)) h k = absurd k
 failing_one want one (Ok x) (Err DeviceFault) h k = absurd k
 failing_one want one (Ok x) (Err OutOfMemory) h k = absurd k
 failing_one want one (Err (Refused r)) (Err BadCommand) h k = absurd k
 failing_one want one (Err (Refused r)) (Err (Differs finding)) h k = absurd k
+failing_one want one (Err (Refused r)) (Err (NotDone cause)) h k = absurd k
 failing_one want one (Err (Refused r)) (Err DeviceFault) h k = absurd k
 failing_one want one (Err (Refused r)) (Err OutOfMemory) h k = absurd k
 failing_one want one (Err BadCommand) b h k = absurd h
 failing_one want one (Err (Differs finding)) b h k = absurd h
+failing_one want one (Err (NotDone cause)) b h k = absurd h
 failing_one want one (Err DeviceFault) b h k = absurd h
 failing_one want one (Err OutOfMemory) b h k = absurd h
 

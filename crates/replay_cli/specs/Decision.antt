@@ -17,34 +17,38 @@ use Rattle.captured_calls.specs.Verdict.{Preparation, verdict}
 use Rattle.replay_cli.specs.declared.capture.Opened.{Opened}
 use Rattle.replay_cli.specs.Limits.{capture_limit}
 use Rattle.replay_cli.specs.declared.failure.Refusal.{Refusal}
-use Rattle.replay_cli.specs.declared.failure.Refusal.TheVariants.{Missing, TooLong, BadLine, BadRemap, BadChange, NotLegal}
+use Rattle.replay_cli.specs.declared.failure.Refusal.TheVariants.{Missing, TooLong, BadLine, BadReport, BadRemap, BadChange, NotLegal}
 use Rattle.replay_cli.specs.declared.failure.Failure.{Failure}
-use Rattle.replay_cli.specs.declared.failure.Failure.TheVariants.{BadCommand, Refused, Differs, DeviceFault, OutOfMemory}
+use Rattle.replay_cli.specs.declared.failure.Failure.TheVariants.{BadCommand, Refused, Differs, NotDone, DeviceFault, OutOfMemory}
 use Rattle.desk_words.specs.declared.words.Command.{Command}
-use Rattle.desk_words.specs.declared.words.Command.TheVariants.{Run, Prepare, Serve, Generate, Trial}
+use Rattle.desk_words.specs.declared.words.Command.TheVariants.{Run, Prepare, Serve, Generate, Trial, Register, Runs, Accept, Compare}
 use Rattle.remap_ids.specs.Services.{ServicePair, services_of}
 use Rattle.remap_ids.specs.declared.remap.RemapErr.{RemapErr}
 use Rattle.remap_ids.specs.declared.remap.RemapErr.TheVariants.{BadRow, TwiceFrom, Memory}
 use Rattle.desk_schema.specs.Change.{ChangesTo, IsFirstBad, records_in}
+use Rattle.replay_history.specs.declared.report.Report.{Report}
+use Rattle.report_format.specs.ReportFile.{IsBadReport, IsReport}
+use Rattle.register_work.specs.declared.errand.Errand.{Errand}
+use Rattle.register_work.specs.declared.errand.Errand.TheVariants as errand
 use Rattle.replay_job.specs.Job.{JobView}
 use Rattle.replay_job.specs.Jobs.{job_of}
 use Rattle.desk_words.specs.declared.ways.Ways.{Ways}
 use Rattle.desk_words.specs.Command.{command_of}
-use Rattle.replay_cli.specs.FileNames.{session_name, session_names, start_name}
+use Rattle.replay_cli.specs.FileNames.{report_name, session_name, session_names, start_name}
 use Rattle.replay_cli.specs.Steps.{Is, Reading, Then, file_in}
 
 -- ---- a capture
 
--- the bytes of the file of this name as a reader takes them: what they are the file of, or their first bad line
-abbrev pub Reads : {X : Type 0} → List ℕ → (X → Type 0) → (ℕ → Type 0) → Result X Refusal → Type 0
-Reads name IsFileOf IsFirstBad (Ok value) = IsFileOf value
-Reads {X} name IsFileOf IsFirstBad (Err refusal) = (line : ℕ) × ReadsFile {X = X} (Err (Bad line)) IsFileOf IsFirstBad × (refusal ≡ BadLine name line)
+-- the bytes of a file as a reader takes them: what they are the file of, or their first bad line, which is refused so
+abbrev pub Reads : {X : Type 0} → (ℕ → Refusal) → (X → Type 0) → (ℕ → Type 0) → Result X Refusal → Type 0
+Reads refused IsFileOf IsFirstBad (Ok value) = IsFileOf value
+Reads {X} refused IsFileOf IsFirstBad (Err refusal) = (line : ℕ) × ReadsFile {X = X} (Err (Bad line)) IsFileOf IsFirstBad × (refusal ≡ refused line)
 
 abbrev pub StartOf : List ℕ → List ℕ → Result StartFile Refusal → Type 0
-StartOf name bytes = Reads name (IsStartFile bytes) (IsBadStart bytes)
+StartOf name bytes = Reads (BadLine name) (IsStartFile bytes) (IsBadStart bytes)
 
 abbrev pub SessionOf : ℕ → ℕ → List ℕ → List ℕ → Result (List Captured) Refusal → Type 0
-SessionOf version session name bytes = Reads name (IsSessionFile session version bytes) (IsBadSession session version bytes)
+SessionOf version session name bytes = Reads (BadLine name) (IsSessionFile session version bytes) (IsBadSession session version bytes)
 
 -- the start of a capture, and how many bytes its other files may have
 abbrev pub OpenedIn : FileMap → List ℕ → Result Opened Refusal → Type 0
@@ -93,6 +97,11 @@ abbrev pub RemapIn : FileMap → Option (List ℕ) → Result (List ServicePair)
 RemapIn files None = Is (Ok [])
 RemapIn files (Some name) = Then (Is (file_in files file_limit name)) (λ bytes. Is (remap_of (services_of bytes)))
 
+-- what services a replay may send others as: none, or what some remap file of the name says
+abbrev pub MaySend : Option (List ℕ) → List ServicePair → Type 0
+MaySend None remap = remap ≡ []
+MaySend (Some name) remap = (bytes : List ℕ) × (services_of bytes ≡ Ok remap)
+
 -- ---- the target
 
 -- what the bytes of a change file make of the captured start
@@ -110,6 +119,11 @@ abbrev pub MayRunOn : Option (List ℕ) → StartView → StartView → Type 0
 MayRunOn None start target = target ≡ start
 MayRunOn (Some name) start target = (bytes : List ℕ) × ChangesTo start (records_in bytes) target
 
+-- ---- a report
+
+abbrev pub ReportOf : List ℕ → List ℕ → Result Report Refusal → Type 0
+ReportOf name bytes = Reads (BadReport name) (IsReport bytes) (IsBadReport bytes)
+
 -- ---- a command
 
 -- what is to be done, and what it takes
@@ -120,6 +134,8 @@ pub data Task : Type 0 where
   ToServe : List ℕ → StartView → ℕ → ℕ → Task
   ToMake : ℕ → List ℕ → Task
   ToTry : ℕ → Task
+  -- of the keeper
+  ToKeep : Errand → Task
 
 -- a legal capture that is replayed so, on this target
 abbrev pub run_job : Legal → StartView → List ServicePair → Ways → JobView
@@ -149,12 +165,23 @@ ServeIn files capture start connections port =
     Then (StartIn files start) (λ file.
     Is (Ok (ToServe capture file.start connections port)))
 
+-- the report in a folder is to be registered under this name
+abbrev pub RegisterIn : FileMap → List ℕ → List ℕ → Result Task Refusal → Type 0
+RegisterIn files out run =
+    Then (Is (file_in files file_limit (report_name out))) (λ bytes.
+    Then (ReportOf (report_name out) bytes) (λ report.
+    Is (Ok (ToKeep (errand.Register run bytes report)))))
+
 abbrev pub Decides : Command → FileMap → Result Task Refusal → Type 0
 Decides (Run capture out ways) files = RunIn files capture out ways
 Decides (Prepare capture out) files = PrepareIn files capture out
 Decides (Serve capture start connections port) files = ServeIn files capture start connections port
 Decides (Generate n out) files = Is (Ok (ToMake n out))
 Decides (Trial n) files = Is (Ok (ToTry n))
+Decides (Register out run) files = RegisterIn files out run
+Decides Runs files = Is (Ok (ToKeep errand.Runs))
+Decides (Accept run stamp class) files = Is (Ok (ToKeep (errand.Accept run stamp class)))
+Decides (Compare base other) files = Is (Ok (ToKeep (errand.Compare base other)))
 
 -- ---- by the words alone
 
@@ -172,6 +199,7 @@ abbrev pub MayRefuseCapture : List ℕ → Refusal → Type 0
 MayRefuseCapture folder (Missing name) = IsFileIn folder name
 MayRefuseCapture folder (TooLong name) = IsFileIn folder name
 MayRefuseCapture folder (BadLine name line) = IsFileIn folder name × IsBadOfSome line
+MayRefuseCapture folder (BadReport name line) = ⊥
 MayRefuseCapture folder (BadRemap row) = ⊥
 MayRefuseCapture folder (BadChange row) = ⊥
 MayRefuseCapture folder (NotLegal cause) = (start : StartView) × (lists : List (List Captured)) × (verdict start lists ≡ Err cause)
@@ -197,6 +225,13 @@ MayRefuseStart name (TooLong other) = other ≡ name
 MayRefuseStart name (BadLine other line) = (other ≡ name) × ((bytes : List ℕ) × IsBadStart bytes line)
 MayRefuseStart name refusal = ⊥
 
+-- how the file of a report may be
+abbrev pub MayRefuseReport : List ℕ → Refusal → Type 0
+MayRefuseReport name (Missing other) = other ≡ name
+MayRefuseReport name (TooLong other) = other ≡ name
+MayRefuseReport name (BadReport other line) = (other ≡ name) × ((bytes : List ℕ) × IsBadReport bytes line)
+MayRefuseReport name refusal = ⊥
+
 -- how a command may be
 abbrev pub MayBeRefused : Command → Refusal → Type 0
 MayBeRefused (Run capture out ways) refusal = MayRefuseCapture capture refusal ⊎ (MayRefuseRemap ways.remap refusal ⊎ MayRefuseChange ways.change refusal)
@@ -204,14 +239,30 @@ MayBeRefused (Prepare capture out) refusal = MayRefuseCapture capture refusal
 MayBeRefused (Serve capture start connections port) refusal = MayRefuseStart start refusal
 MayBeRefused (Generate n out) refusal = ⊥
 MayBeRefused (Trial n) refusal = ⊥
+MayBeRefused (Register out run) refusal = MayRefuseReport (report_name out) refusal
+MayBeRefused Runs refusal = ⊥
+MayBeRefused (Accept run stamp class) refusal = ⊥
+MayBeRefused (Compare base other) refusal = ⊥
+
+-- the errand is one of this command: that of registering some report, and so on
+abbrev pub IsErrandOf : Command → Errand → Type 0
+IsErrandOf (Register out run) (errand.Register name bytes report) = (name ≡ run) × IsReport bytes report
+IsErrandOf Runs errand.Runs = Unit {0}
+IsErrandOf (Accept run stamp class) (errand.Accept name call kind) = (name ≡ run) × (call ≡ stamp) × (kind ≡ class)
+IsErrandOf (Compare base other) (errand.Compare a b) = (a ≡ base) × (b ≡ other)
+IsErrandOf command other = ⊥
 
 -- the task is one of this command: a replay of some capture in these ways on what it may run on, into this folder, and so on
 abbrev pub IsTaskOf : Command → Task → Type 0
-IsTaskOf (Run capture out ways) (ToReplay folder job) = (folder ≡ out) × ((legal : Legal) × (target : StartView) × (remap : List ServicePair) × MayRunOn ways.change legal.start target × (job ≡ run_job legal target remap ways))
+IsTaskOf (Run capture out ways) (ToReplay folder job) = (folder ≡ out) × ((legal : Legal) × (target : StartView) × (remap : List ServicePair) × MayRunOn ways.change legal.start target × MaySend ways.remap remap × (job ≡ run_job legal target remap ways))
 IsTaskOf (Prepare capture out) (ToTell folder facts) = folder ≡ out
 IsTaskOf (Serve capture start connections port) (ToServe folder begins most door) = (folder ≡ capture) × (most ≡ connections) × (door ≡ port)
 IsTaskOf (Generate n out) (ToMake calls folder) = (calls ≡ n) × (folder ≡ out)
 IsTaskOf (Trial n) (ToTry calls) = calls ≡ n
+IsTaskOf (Register out run) (ToKeep asked) = IsErrandOf (Register out run) asked
+IsTaskOf Runs (ToKeep asked) = IsErrandOf Runs asked
+IsTaskOf (Accept run stamp class) (ToKeep asked) = IsErrandOf (Accept run stamp class) asked
+IsTaskOf (Compare base other) (ToKeep asked) = IsErrandOf (Compare base other) asked
 IsTaskOf command other = ⊥
 
 -- ---- by the words and the files
@@ -222,6 +273,7 @@ Failing want (Ok x) = want (Ok x)
 Failing want (Err BadCommand) = ⊥
 Failing want (Err (Refused refusal)) = want (Err refusal)
 Failing want (Err (Differs finding)) = ⊥
+Failing want (Err (NotDone cause)) = ⊥
 Failing want (Err DeviceFault) = ⊥
 Failing want (Err OutOfMemory) = ⊥
 

@@ -23,10 +23,14 @@ use Rattle.capture_recorder.specs.Limits.{generated_sessions}
 use Rattle.capture_recorder.specs.Generated.{generated}
 use Rattle.captured_calls.specs.Sessions.{session_lists}
 use Rattle.replay_cli.specs.declared.plan.Plan.{Plan}
-use Rattle.replay_cli.specs.Decision.{Task, ToReplay, ToTell, ToServe, ToMake, ToTry}
+use Rattle.replay_cli.specs.Decision.{Task, ToReplay, ToTell, ToServe, ToMake, ToTry, ToKeep}
 use Rattle.desk_files.specs.Hosts.{Connections}
 use Rattle.capture_serve.specs.Service.{AreReadFrom, CaptureView, IsService}
 use Rattle.replay_cli.specs.Lines.{generated_line, prepared_line, replayed_line, served_line, trial_line}
+use Rattle.register_work.specs.declared.errand.Errand.{Errand}
+use Rattle.register_work.specs.Errand.{IsAnswered}
+use Rattle.register_work.specs.Keeping.{Keeping}
+use Rattle.replay_cli.specs.Hosting.{Hosting, IsHostUnasked, IsKeeperUntouched, IsUnasked}
 use Rattle.replay_job.specs.Jobs.{job_of}
 use Rattle.replay_cli.specs.FileNames.{journal_name, maps_name, report_name, requires_name, session_name, start_name, table_of_report_name, tables_name}
 
@@ -100,18 +104,24 @@ pub record IsServed (out : List ℕ) (start : StartView) (most : ℕ) (plan : Pl
   pub start_read : IsStartFile (start_text start capture.connections) (record { start = start; sessions = capture.connections })
   pub sessions_read : AreReadFrom start.schema.version 0 capture.sessions
 
--- the files and the line that a task may end with which asks no host
+-- an errand is done: what is printed is its answer, and no file is written
+abbrev pub IsKept : Errand → Keeping → Plan → Type 0
+IsKept errand k plan = IsAnswered errand k (record { text = plan.line; news = plan.differs }) × (plan.writes ≡ [])
+
+-- the files and the line that a task may end with which asks neither the host nor the keeper
 abbrev pub IsDoneAlone : Task → Plan → Type 0
 IsDoneAlone (ToReplay out job) plan = (history : List Event) × (last : Stage) × IsDoneBy out job plan history last
 IsDoneAlone (ToTell out facts) plan =
     (plan.line ≡ prepared_line (length facts)) × IsQuiet plan × (plan.writes ≡ record { name = requires_name out; bytes = requires_text facts } ∷ [])
 IsDoneAlone (ToServe out start most port) plan = ⊥
+IsDoneAlone (ToKeep errand) plan = ⊥
 IsDoneAlone (ToMake n out) plan = (plan.line ≡ generated_line n) × IsQuiet plan × (plan.writes ≡ made_files out n)
 IsDoneAlone (ToTry n) plan =
     (plan.line ≡ trial_line n (length (made_calls n)) (commits_in (made_calls n)))
     × IsTried (made_start n) (made_calls n) × IsQuiet plan × (plan.writes ≡ [])
 
--- the files and the line that a task may end with, between these connections of the host; others than those that are served leave the host
-abbrev pub IsDone : Task → Plan → Option Connections → Option Connections → Type 0
-IsDone (ToServe out start most port) plan before after = IsServed out start most plan before after
-IsDone task plan before after = IsDoneAlone task plan × (after ≡ before)
+-- the files and the line that a task may end with, and what it leaves of the host and of the keeper
+abbrev pub IsDone : Task → Plan → Hosting → Type 0
+IsDone (ToServe out start most port) plan h = IsServed out start most plan h.before h.after × IsKeeperUntouched h
+IsDone (ToKeep errand) plan h = IsKept errand h.keeper plan × IsHostUnasked h
+IsDone task plan h = IsDoneAlone task plan × IsUnasked h

@@ -1,45 +1,35 @@
 -- How a command ends: its status, its line and its files.
-use Rattle.std.specs.Prelude.{◌≡◌, ◌≢◌, ℕ, ◌≤◌, ◌⊎◌, List, Option, None, Some, IsErrOf, IsNone, Result, Ok, Err}
+use Rattle.std.specs.Prelude.{◌≡◌, ◌≢◌, ℕ, ◌≤◌, ◌⊎◌, List, Option, None, Some, IsErr, IsErrOf, IsNone, Result, Ok, Err}
 use Rattle.desk_files.specs.Outside.{Appends, AppendsPart, FileMap, HasRisen}
-use Rattle.desk_files.specs.Hosts.{Connections}
 use Rattle.desk_files.specs.Writes.{CutShort, WrittenSoFar, with_all}
 use Rattle.desk_schema.specs.Start.{StartView}
 use Rattle.desk_words.specs.declared.words.Command.{Command}
-use Rattle.desk_words.specs.declared.words.Command.TheVariants.{Serve}
+use Rattle.desk_words.specs.declared.words.Command.TheVariants.{Serve, Register, Runs, Accept, Compare}
 use Rattle.desk_words.specs.Command.{command_of}
 use Rattle.capture_serve.specs.declared.failing.Finding.{Finding}
 use Rattle.capture_serve.specs.Failing.{IsFinding}
 use Rattle.capture_serve.specs.Service.{HasGivenBackAll}
 use Rattle.replay_cli.specs.declared.failure.Failure.{Failure}
-use Rattle.replay_cli.specs.declared.failure.Failure.TheVariants.{BadCommand, Refused, Differs, DeviceFault, OutOfMemory}
+use Rattle.replay_cli.specs.declared.failure.Failure.TheVariants.{BadCommand, Refused, Differs, NotDone, DeviceFault, OutOfMemory}
 use Rattle.replay_cli.specs.declared.plan.Plan.{Plan}
-use Rattle.replay_cli.specs.Decision.{IsTaskOf, MayBeRefused, Task, ToServe}
+use Rattle.register_work.specs.declared.errand.Errand.{Errand}
+use Rattle.register_work.specs.declared.unkept.Unkept.{Unkept}
+use Rattle.register_work.specs.Errand.{IsCause}
+use Rattle.register_work.specs.Lines.{unkept_line, unkept_status}
+use Rattle.replay_cli.specs.Decision.{IsErrandOf, IsTaskOf, MayBeRefused, Task, ToKeep, ToServe}
+use Rattle.replay_cli.specs.Hosting.{HasKept, HasNoFault, Hosting, IsHostUnasked, IsKeeperUntouched, IsUnasked}
 use Rattle.replay_cli.specs.Done.{IsDone}
 use Rattle.replay_cli.specs.Lines.{done_status, failure_line, failure_status, finding_line}
 
--- ---- the host
+-- ---- who is asked
 
--- what became of a host in a command: its connections, where they are told, and its count of faults
-pub record Hosting : Type 0 where
-  pub before : Option Connections
-  pub after : Option Connections
-  pub faults_before : ℕ
-  pub faults_after : ℕ
-
-abbrev pub hosting : Option Connections → Option Connections → ℕ → ℕ → Hosting
-hosting before after faults_before faults_after = record { before = before; after = after; faults_before = faults_before; faults_after = faults_after }
-
--- no call of it failed
-abbrev pub HasNoFault : Hosting → Type 0
-HasNoFault h = h.faults_after ≡ h.faults_before
-
--- it was not asked
-abbrev pub IsUnasked : Hosting → Type 0
-IsUnasked h = (h.after ≡ h.before) × HasNoFault h
-
--- none asks it but a command that serves
+-- none asks the host but a command that serves, and none the keeper but those of runs
 abbrev pub MayAsk : Option Command → Hosting → Type 0
-MayAsk (Some (Serve capture start connections port)) h = Unit {0}
+MayAsk (Some (Serve capture start connections port)) h = IsKeeperUntouched h
+MayAsk (Some (Register out run)) h = IsHostUnasked h
+MayAsk (Some Runs) h = IsHostUnasked h
+MayAsk (Some (Accept run stamp class)) h = IsHostUnasked h
+MayAsk (Some (Compare base other)) h = IsHostUnasked h
 MayAsk other h = IsUnasked h
 
 -- ---- doing the work
@@ -49,22 +39,30 @@ abbrev pub WrittenInPart : Plan → FileMap → FileMap → ℕ → ℕ → Type
 WrittenInPart plan before after faults_before faults_after =
     WrittenSoFar plan.writes before after ⊎ (CutShort plan.writes before after × HasRisen faults_before faults_after)
 
--- what is left of a task that was not done, or not told; nothing is written where the host failed
+-- what is left of a task that was not done, or not told; nothing is written where the host failed, and nothing kept where the
+-- keeper did
 abbrev pub LeftOf : Task → FileMap → FileMap → ℕ → ℕ → Hosting → Type 0
 LeftOf task before after faults_before faults_after h =
-    (after ≡ before) ⊎ ((plan : Plan) × IsDone task plan h.before h.after × HasNoFault h × WrittenInPart plan before after faults_before faults_after)
+    ((after ≡ before) × HasKept h) ⊎ ((plan : Plan) × IsDone task plan h × HasNoFault h × WrittenInPart plan before after faults_before faults_after)
 
 -- ---- what was served and differs
 
 -- this was found to differ of what was served for this task, and all connections were given back
 abbrev pub IsFoundOf : Task → Finding → Hosting → Type 0
-IsFoundOf (ToServe out start most port) finding h = IsFinding start finding × HasGivenBackAll most h.before h.after
+IsFoundOf (ToServe out start most port) finding h = IsFinding start finding × HasGivenBackAll most h.before h.after × IsKeeperUntouched h
 IsFoundOf other finding h = ⊥
 
 -- this command is one that serves, this may be found in what is served from some start, and all connections were given back
 abbrev pub MayDiffer : Command → Finding → Hosting → Type 0
-MayDiffer (Serve capture start connections port) finding h = ((begins : StartView) × IsFinding begins finding) × HasGivenBackAll connections h.before h.after
+MayDiffer (Serve capture start connections port) finding h = ((begins : StartView) × IsFinding begins finding) × HasGivenBackAll connections h.before h.after × IsKeeperUntouched h
 MayDiffer other finding h = ⊥
+
+-- ---- what is not done of runs
+
+-- this is the cause why the errand of this task is not done, and all is left as it was
+abbrev pub IsCauseOf : Task → Unkept → Hosting → Type 0
+IsCauseOf (ToKeep errand) cause h = IsCause errand h.keeper.runs_before cause × IsUnasked h
+IsCauseOf other cause h = ⊥
 
 -- ---- the line and the status
 
@@ -81,12 +79,12 @@ abbrev pub Prints : List ℕ → ℕ → ℕ → Option (List ℕ) → Option (L
 Prints line status result before after faults_before faults_after =
     ((result ≡ status) × Appends line before after × (faults_after ≡ faults_before)) ⊎ ((result ≡ 5) × HasRisen faults_before faults_after × AppendsPart line before after)
 
--- the line and the status of this outcome; or the line could not be made, which that of a fault always can; or a line was
--- not printed whole
+-- the line and the status of this outcome; or the line of a failure could not be made, which that of a fault always can; or a line
+-- was not printed whole
 abbrev pub Reports : Result Plan Failure → ℕ → Option (List ℕ) → Option (List ℕ) → ℕ → ℕ → Type 0
 Reports done result before after faults_before faults_after =
     ((result ≡ status_of done) × Appends (line_of done) before after × (faults_after ≡ faults_before))
-    ⊎ (((result ≡ 6) × Appends (failure_line OutOfMemory) before after × (faults_after ≡ faults_before) × ¬ IsErrOf done DeviceFault)
+    ⊎ (((result ≡ 6) × Appends (failure_line OutOfMemory) before after × (faults_after ≡ faults_before) × ¬ IsErrOf done DeviceFault × IsErr done)
     ⊎ ((result ≡ 5) × HasRisen faults_before faults_after × (AppendsPart (line_of done) before after ⊎ AppendsPart (failure_line OutOfMemory) before after)))
 
 -- ---- the top call
@@ -94,17 +92,22 @@ Reports done result before after faults_before faults_after =
 abbrev pub IsOutside : ℕ → Type 0
 IsOutside result = (result ≡ 5) ⊎ (result ≡ 6)
 
--- a task that is done has status 0, or 1 where calls differ, its line and its files
+-- a task that is done has status 0, or 1 where calls differ or a comparison found something new, its line and its files
 abbrev pub EndsDone : Task → FileMap → FileMap → Hosting → ℕ → Option (List ℕ) → Option (List ℕ) → Type 0
 EndsDone task files files_after h result before after =
-    (plan : Plan) × IsDone task plan h.before h.after × (files_after ≡ with_all plan.writes files) × (result ≡ done_status plan.differs) × Appends plan.line before after
+    (plan : Plan) × IsDone task plan h × (files_after ≡ with_all plan.writes files) × (result ≡ done_status plan.differs) × Appends plan.line before after
 
 -- one of which something was found to differ has status 9 and its line, and changes no file
 abbrev pub EndsFound : Task → FileMap → FileMap → Hosting → ℕ → Option (List ℕ) → Option (List ℕ) → Type 0
 EndsFound task files files_after h result before after =
     (finding : Finding) × IsFoundOf task finding h × (files_after ≡ files) × (result ≡ 9) × Appends (finding_line finding) before after
 
--- The end that a verdict has: a failure has its status and its line, changes no file and asks no host; a task that is done has those of what it
+-- one of which the errand is not done has the status and the line of the cause, and changes no file
+abbrev pub EndsNotDone : Task → FileMap → FileMap → Hosting → ℕ → Option (List ℕ) → Option (List ℕ) → Type 0
+EndsNotDone task files files_after h result before after =
+    (cause : Unkept) × IsCauseOf task cause h × (files_after ≡ files) × (result ≡ unkept_status cause) × Appends (unkept_line cause) before after
+
+-- The end that a verdict has: a failure has its status and its line, changes no file and asks neither host nor keeper; a task that is done has those of what it
 -- came to. Or else a device failed or memory was short, and the task is done in part.
 abbrev pub Ends : Result Task Failure → FileMap → FileMap → ℕ → ℕ → Hosting → ℕ → Option (List ℕ) → Option (List ℕ) → Type 0
 Ends (Err failure) files files_after fb fa h result before after =
@@ -112,7 +115,8 @@ Ends (Err failure) files files_after fb fa h result before after =
 Ends (Ok task) files files_after fb fa h result before after =
     EndsDone task files files_after h result before after
     ⊎ (EndsFound task files files_after h result before after
-    ⊎ (IsOutside result × LeftOf task files files_after fb fa h))
+    ⊎ (EndsNotDone task files files_after h result before after
+    ⊎ (IsOutside result × LeftOf task files files_after fb fa h)))
 
 -- the end that some verdict has; or a device failed or memory was short before there was one
 abbrev pub EndsSo : (Result Task Failure → Type 0) → FileMap → FileMap → ℕ → ℕ → Hosting → ℕ → Option (List ℕ) → Option (List ℕ) → Type 0
@@ -121,44 +125,51 @@ EndsSo wanted files files_after fb fa h result before after =
     ⊎ (IsOutside result × (files_after ≡ files) × IsUnasked h)
 
 -- what words may come to, whatever the files are: where they are no command, that; where they are one, a task of it that is done, what may
--- differ of what it serves, or a failure that it may have; and memory may be short
+-- differ of what it serves, a cause why its errand is not done, or a failure that it may have; and memory may be short. Where a device
+-- failed or memory was short, nothing is kept that was not kept before.
 abbrev pub MayComeTo : Option Command → Hosting → Result Plan Failure → Type 0
 MayComeTo None h done = (IsErrOf done BadCommand ⊎ IsErrOf done OutOfMemory) × IsUnasked h
-MayComeTo (Some command) h (Ok plan) = (task : Task) × IsTaskOf command task × IsDone task plan h.before h.after
+MayComeTo (Some command) h (Ok plan) = (task : Task) × IsTaskOf command task × IsDone task plan h
 MayComeTo (Some command) h (Err BadCommand) = ⊥
 MayComeTo (Some command) h (Err (Refused refusal)) = MayBeRefused command refusal × IsUnasked h
 MayComeTo (Some command) h (Err (Differs finding)) = MayDiffer command finding h
-MayComeTo (Some command) h (Err DeviceFault) = Unit {0}
-MayComeTo (Some command) h (Err OutOfMemory) = Unit {0}
+MayComeTo (Some command) h (Err (NotDone cause)) = (errand : Errand) × IsErrandOf command errand × IsCauseOf (ToKeep errand) cause h
+MayComeTo (Some command) h (Err DeviceFault) = HasKept h
+MayComeTo (Some command) h (Err OutOfMemory) = HasKept h
 
 -- what is printed, also where the files are not told: the line of what the words may come to
 abbrev pub PrintsLine : List (List ℕ) → Hosting → ℕ → Option (List ℕ) → Option (List ℕ) → ℕ → ℕ → Type 0
 PrintsLine words h result before after faults_before faults_after =
     (done : Result Plan Failure) × MayComeTo (command_of words) h done × Reports done result before after faults_before faults_after
 
--- how three counts of faults move: of the files, of the host and of the sink
+-- how four counts of faults move: of the files, of the host, of the keeper and of the sink
 pub record Moves : Type 0 where
   pub files_before : ℕ
   pub files_after : ℕ
   pub host_before : ℕ
   pub host_after : ℕ
+  pub keeper_before : ℕ
+  pub keeper_after : ℕ
   pub out_before : ℕ
   pub out_after : ℕ
 
-abbrev pub moves : ℕ → ℕ → ℕ → ℕ → ℕ → ℕ → Moves
-moves fb fa hb ha sb sa = record { files_before = fb; files_after = fa; host_before = hb; host_after = ha; out_before = sb; out_after = sa }
+abbrev pub moves : ℕ → ℕ → ℕ → ℕ → ℕ → ℕ → ℕ → ℕ → Moves
+moves fb fa hb ha kb ka sb sa =
+    record { files_before = fb; files_after = fa; host_before = hb; host_after = ha; keeper_before = kb; keeper_after = ka; out_before = sb; out_after = sa }
 
 -- none rose
 pub record Stands (m : Moves) : Type 0 where
   pub files : m.files_after ≡ m.files_before
   pub host : m.host_after ≡ m.host_before
+  pub keeper : m.keeper_after ≡ m.keeper_before
   pub out : m.out_after ≡ m.out_before
 
 -- 2 comes only where the words are no command, 5 only where a count rose, with any other status all counts stand, and none falls
 pub record Causes (words : List (List ℕ)) (result : ℕ) (m : Moves) : Type 0 where
   pub command : result ≡ 2 → IsNone (command_of words)
-  pub fault : result ≡ 5 → HasRisen m.files_before m.files_after ⊎ (HasRisen m.host_before m.host_after ⊎ HasRisen m.out_before m.out_after)
+  pub fault : result ≡ 5 → HasRisen m.files_before m.files_after ⊎ (HasRisen m.host_before m.host_after ⊎ (HasRisen m.keeper_before m.keeper_after ⊎ HasRisen m.out_before m.out_after))
   pub stands : result ≢ 5 → Stands m
   pub files : m.files_before ≤ m.files_after
   pub host : m.host_before ≤ m.host_after
+  pub keeper : m.keeper_before ≤ m.keeper_after
   pub out : m.out_before ≤ m.out_after

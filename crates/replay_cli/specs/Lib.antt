@@ -3,6 +3,7 @@ pub mod FileNames
 pub mod Steps
 pub mod Lines
 pub mod Decision
+pub mod Hosting
 pub mod Done
 pub mod Ending
 pub mod Called

@@ -6,17 +6,19 @@ use Rattle.capture_format.specs.SessionFile.{number_text}
 use Rattle.captured_calls.specs.declared.refusal.Refusal.{Refusal as Illegal}
 use Rattle.captured_calls.specs.declared.refusal.Refusal.TheVariants.{TooMany, Stamp, Number, Seen, Times, Stranger, Reply, Memory}
 use Rattle.replay_cli.specs.declared.failure.Refusal.{Refusal}
-use Rattle.replay_cli.specs.declared.failure.Refusal.TheVariants.{Missing, TooLong, BadLine, BadRemap, BadChange, NotLegal}
+use Rattle.replay_cli.specs.declared.failure.Refusal.TheVariants.{Missing, TooLong, BadLine, BadReport, BadRemap, BadChange, NotLegal}
 use Rattle.capture_recorder.specs.declared.door.Said.{Said}
 use Rattle.capture_serve.specs.declared.failing.Finding.{Finding}
 use Rattle.capture_serve.specs.declared.failing.Finding.TheVariants as found
 use Rattle.replay_cli.specs.declared.failure.Failure.{Failure}
-use Rattle.replay_cli.specs.declared.failure.Failure.TheVariants.{BadCommand, Refused, Differs, DeviceFault, OutOfMemory}
+use Rattle.replay_cli.specs.declared.failure.Failure.TheVariants.{BadCommand, Refused, Differs, NotDone, DeviceFault, OutOfMemory}
+use Rattle.register_work.specs.Lines.{bad_report_line, unkept_line, unkept_status}
 
 abbrev pub refusal_status : Refusal → ℕ
 refusal_status (Missing name) = 4
 refusal_status (TooLong name) = 8
 refusal_status (BadLine name line) = 3
+refusal_status (BadReport name line) = 13
 refusal_status (BadRemap n) = 7
 refusal_status (BadChange n) = 7
 refusal_status (NotLegal cause) = 3
@@ -25,6 +27,7 @@ abbrev pub failure_status : Failure → ℕ
 failure_status BadCommand = 2
 failure_status (Refused refusal) = refusal_status refusal
 failure_status (Differs finding) = 9
+failure_status (NotDone cause) = unkept_status cause
 failure_status DeviceFault = 5
 failure_status OutOfMemory = 6
 
@@ -44,6 +47,7 @@ abbrev pub refusal_line : Refusal → List ℕ
 refusal_line (Missing name) = codes "missing: " ++ (name ++ 10 ∷ [])
 refusal_line (TooLong name) = codes "too long: " ++ (name ++ 10 ∷ [])
 refusal_line (BadLine name line) = codes "bad capture: " ++ (name ++ (codes " line " ++ (decimal line ++ 10 ∷ [])))
+refusal_line (BadReport name line) = bad_report_line name line
 refusal_line (BadRemap n) = codes "bad remap: row " ++ (decimal n ++ 10 ∷ [])
 refusal_line (BadChange n) = codes "bad change: row " ++ (decimal n ++ 10 ∷ [])
 refusal_line (NotLegal cause) = codes "bad capture: " ++ (cause_text cause ++ 10 ∷ [])
@@ -64,12 +68,13 @@ abbrev pub failure_line : Failure → List ℕ
 failure_line BadCommand = codes "bad command" ++ 10 ∷ []
 failure_line (Refused refusal) = refusal_line refusal
 failure_line (Differs finding) = finding_line finding
+failure_line (NotDone cause) = unkept_line cause
 failure_line DeviceFault = codes "device fault" ++ 10 ∷ []
 failure_line OutOfMemory = codes "out of memory" ++ 10 ∷ []
 
 -- ---- what is printed of a command that was done
 
--- 1 where calls differ
+-- 1 where calls differ, or a comparison found something new or changed
 abbrev pub done_status : Bool → ℕ
 done_status true = 1
 done_status false = 0

@@ -15,6 +15,7 @@ use capture_serve::Finding;
 use desk_values::fields::append_u64;
 use desk_values::{Bytes, List, Memory, Reply, Txt};
 use prepare_plan::Refusal as Illegal;
+use register_work::{Unkept, bad_report_line};
 use std::alloc::Global;
 
 /// Why a command is refused, by its words and the files alone.
@@ -26,6 +27,8 @@ pub enum Refusal {
     TooLong(Txt),
     /// The file of this name has this first line that may not stand there.
     BadLine(Txt, u64),
+    /// The report of this name has this first line that may not stand there.
+    BadReport(Txt, u64),
     /// The remap file's record of this number, from 1, is refused.
     BadRemap(u64),
     /// The change file's record of this number, from 1, is refused.
@@ -43,6 +46,8 @@ pub enum Failure {
     Refused(Refusal),
     /// What was served was compared, and this differs.
     Differs(Finding),
+    /// What is asked of the keeper is not done, for this cause.
+    NotDone(Unkept),
     /// A device failed.
     DeviceFault,
     /// Want of memory.
@@ -66,6 +71,7 @@ impl Refusal {
             Refusal::Missing(_) => 4,
             Refusal::TooLong(_) => 8,
             Refusal::BadLine(_, _) => 3,
+            Refusal::BadReport(_, _) => 13,
             Refusal::BadRemap(_) | Refusal::BadChange(_) => 7,
             Refusal::NotLegal(_) => 3,
         }
@@ -79,6 +85,7 @@ impl Refusal {
             Refusal::Missing(name) => line_of(alloc, "missing: ", name.as_str()),
             Refusal::TooLong(name) => line_of(alloc, "too long: ", name.as_str()),
             Refusal::BadLine(name, line) => bad_line(alloc, name, *line),
+            Refusal::BadReport(name, line) => bad_report_line(alloc, name, *line),
             Refusal::BadRemap(row) => bad_row(alloc, "bad remap: row ", *row),
             Refusal::BadChange(row) => bad_row(alloc, "bad change: row ", *row),
             Refusal::NotLegal(cause) => illegal_line(alloc, cause),
@@ -95,6 +102,7 @@ impl Failure {
             Failure::BadCommand => 2,
             Failure::Refused(refusal) => refusal.status(),
             Failure::Differs(_) => 9,
+            Failure::NotDone(cause) => cause.status(),
             Failure::DeviceFault => 5,
             Failure::OutOfMemory => 6,
         }
@@ -108,6 +116,7 @@ impl Failure {
             Failure::BadCommand => line_of(alloc, "bad command", ""),
             Failure::Refused(refusal) => refusal.line(alloc),
             Failure::Differs(finding) => finding_line(alloc, finding),
+            Failure::NotDone(cause) => cause.line(alloc),
             Failure::DeviceFault => line_of(alloc, "device fault", ""),
             Failure::OutOfMemory => line_of(alloc, "out of memory", ""),
         }

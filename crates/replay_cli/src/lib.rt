@@ -1,12 +1,13 @@
 //! The commands of the desk: words and files to a replay, its texts and a status.
 //!
-//! Enters: the words of a command, and the outside as traits. Leaves: files, one line and a status. It touches the
-//! files, the host, the threads, the clock and the sink that it is handed, and nothing else. What a server answers is the
+//! Enters: the words of a command, and the outside as traits. Leaves: files, what is printed, and a status. It touches the
+//! files, the host, the keeper, the threads, the clock and the sink that it is handed, and nothing else. What a server answers is the
 //! engine's alone.
 #![tactic(auto)]
 
 mod arguments;
 mod capture;
+mod errands;
 mod failure;
 mod file_names;
 pub mod laws;

@@ -7,19 +7,23 @@ ghost use Rattle.replay_cli.specs.declared.failure.Failure.{Failure as Outcome};
 ghost use Rattle.replay_cli.specs.declared.failure.Failure.TheVariants.{DeviceFault, OutOfMemory};
 ghost use Rattle.replay_cli.specs.Decision.{Task, Verdict};
 ghost use Rattle.replay_cli.specs.Lines.{failure_line};
-ghost use Rattle.replay_cli.specs.Ending.{Causes, Ends, EndsSo, MayAsk, Prints, PrintsLine, Reports, hosting, moves};
+ghost use Rattle.register_work.specs.Keeping.{keeping};
+ghost use Rattle.replay_cli.specs.Ending.{Causes, Ends, EndsSo, MayAsk, Prints, PrintsLine, Reports, moves};
+ghost use Rattle.replay_cli.specs.Hosting.{hosting};
 
 use crate::failure::Failure;
 use crate::plan::Plan;
 use crate::running::run;
 use desk_files::{Door, Files, Host, Sink};
 use desk_values::{Memory, Txt};
+use run_register::Keeper;
 use std::alloc::Global;
 use std::sync::Wait;
 use std::thread::Threads;
 use std::time::Clock;
 
-/// Does what the words after the program's name say, prints one line on `out`, and gives the status to end with.
+/// Does what the words after the program's name say, prints one line on `out`, or several of the register of runs, and gives the
+/// status to end with.
 ///
 /// | words | what they do | line |
 /// |---|---|---|
@@ -28,55 +32,77 @@ use std::time::Clock;
 /// | `serve CAPTURE START N` | serve N connections, each a session of the start in the file START, and write what they say as a capture into the folder CAPTURE | `served C connections, N calls`, and with `, M short of memory` behind it where there were such connections |
 /// | `generate N OUT` | write a capture of N calls into OUT | `generated N calls` |
 /// | `trial N` | make that capture and replay it without pauses | `trial N: N calls, 0 divergent, K commits` |
+/// | `register OUT RUN` | keep `report.txt` of OUT under the name RUN | `registered RUN: N calls, D divergent` |
+/// | `runs` | list the runs that are kept | `runs R`, and behind it `RUN N D` for each, by name |
+/// | `accept RUN STAMP CLASS` | accept, in comparisons with RUN, a divergence of that call of that class | `accepted RUN STAMP CLASS` |
+/// | `compare A B` | compare the run B with the run A, less what is accepted of A | `compare A B`, behind it `new STAMP SESSION PLACE CLASS`, `gone STAMP SESSION PLACE CLASS` and `changed STAMP SESSION PLACE CLASSA CLASSB`, by stamp, and `end` |
 ///
 /// Anywhere behind `run` there may stand `--mode off`, `scn`, `object`, `order` or `fence`, `--think P`, `--connect P`, `--remap FILE`,
 /// `--change FILE` and `--lanes N`, and behind `serve` `--port P`, each at most once. Which words are a command, `desk_words` says.
 ///
 /// | status | where | line |
 /// |---|---|---|
-/// | 0 | the work is done, and no call differs | the command's own |
-/// | 1 | `run` found calls that differ | its own |
+/// | 0 | the work is done, no call differs, and nothing is new or changed | the command's own |
+/// | 1 | `run` found calls that differ, `compare` something new or changed | its own |
 /// | 2 | the words are no command | `bad command` |
 /// | 3 | a file of the capture, or START, has a bad line | `bad capture: NAME line L` |
 /// | 3 | the capture is not legal | `bad capture: ` and what is wrong |
 /// | 4 | there is no such file | `missing: NAME` |
-/// | 5 | `files`, `host` or `out` failed | `device fault` |
+/// | 5 | `files`, `host`, `keeper` or `out` failed | `device fault` |
 /// | 6 | want of memory, where nothing failed | `out of memory` |
 /// | 7 | the remap file's record N is bad, or repeats a service | `bad remap: row N` |
 /// | 7 | the change file's record N is bad, or the start that it leads to breaks a rule | `bad change: row N` |
 /// | 8 | a file is too long, or all of the capture are together | `too long: NAME` |
 /// | 9 | `serve` compared what was recorded with what the connections were answered, and something differs | `mismatch: ` and what differs |
+/// | 11 | there is no run of that name | `no such run: RUN` |
+/// | 12 | another report is kept under that name | `other run: RUN` |
+/// | 13 | `report.txt`, or what is kept of a run, is no report | `bad report: NAME line L` |
+/// | 14 | the run has no call of that stamp | `no such call: stamp K` |
+/// | 15 | the two runs have different numbers of calls | `other capture: A N, B M` |
 ///
 /// What the words and the files come to is their verdict, of which there is at most one: `ends` says that the call ends as some
 /// verdict does, or outside of it by 5 or 6, and `each` that it ends so with whatever verdict there is.
-pub fn replay_main<R: Clock + Wait + Threads + Sync, F: Files, H: Host, D: Door, S: Sink>(
+pub fn replay_main<
+    R: Clock + Wait + Threads + Sync,
+    F: Files,
+    H: Host,
+    D: Door,
+    K: Keeper,
+    S: Sink,
+>(
     rt: &R,
     alloc: Global,
     words: &[Txt],
     files: &mut F,
     host: &mut H,
     door: &D,
+    keeper: &mut K,
     out: &mut S,
 ) -> u8
     ensures ends { Told (F.content files.old) (λ before. IsSomeAnd (F.content files.new) (λ after.
         EndsSo (Verdict words.now before) before after
         (F.faults files.old) (F.faults files.new)
-        (hosting (H.content host.old) (H.content host.new) (H.faults host.old) (H.faults host.new))
+        (hosting (H.content host.old) (H.content host.new) (H.faults host.old) (H.faults host.new)
+        (keeping (K.runs keeper.old) (K.runs keeper.new) (K.divergences keeper.old) (K.divergences keeper.new) (K.faults keeper.old) (K.faults keeper.new)))
         result (S.content out.old) (S.content out.new))) }
     ensures each { Told (F.content files.old) (λ before. IsSomeAnd (F.content files.new) (λ after.
         (verdict : Result Task Outcome) → Verdict words.now before verdict
         → Ends verdict before after
         (F.faults files.old) (F.faults files.new)
-        (hosting (H.content host.old) (H.content host.new) (H.faults host.old) (H.faults host.new))
+        (hosting (H.content host.old) (H.content host.new) (H.faults host.old) (H.faults host.new)
+        (keeping (K.runs keeper.old) (K.runs keeper.new) (K.divergences keeper.old) (K.divergences keeper.new) (K.faults keeper.old) (K.faults keeper.new)))
         result (S.content out.old) (S.content out.new))) }
     ensures line { PrintsLine words.now
-        (hosting (H.content host.old) (H.content host.new) (H.faults host.old) (H.faults host.new))
+        (hosting (H.content host.old) (H.content host.new) (H.faults host.old) (H.faults host.new)
+        (keeping (K.runs keeper.old) (K.runs keeper.new) (K.divergences keeper.old) (K.divergences keeper.new) (K.faults keeper.old) (K.faults keeper.new)))
         result (S.content out.old) (S.content out.new) (S.faults out.old) (S.faults out.new) }
-    ensures asks { MayAsk (command_of words.now) (hosting (H.content host.old) (H.content host.new) (H.faults host.old) (H.faults host.new)) }
+    ensures asks { MayAsk (command_of words.now) (hosting (H.content host.old) (H.content host.new) (H.faults host.old) (H.faults host.new)
+        (keeping (K.runs keeper.old) (K.runs keeper.new) (K.divergences keeper.old) (K.divergences keeper.new) (K.faults keeper.old) (K.faults keeper.new))) }
     ensures causes { Causes words.now result
-        (moves (F.faults files.old) (F.faults files.new) (H.faults host.old) (H.faults host.new) (S.faults out.old) (S.faults out.new)) }
+        (moves (F.faults files.old) (F.faults files.new) (H.faults host.old) (H.faults host.new)
+        (K.faults keeper.old) (K.faults keeper.new) (S.faults out.old) (S.faults out.new)) }
 {
-    let done = run(rt, alloc, words, files, host, door);
+    let done = run(rt, alloc, words, files, host, door, keeper);
     report(alloc, &done, out)
 }
 
@@ -100,6 +126,7 @@ fn report_failure<S: Sink>(alloc: Global, failure: &Failure, out: &mut S) -> u8
         Failure::BadCommand => report_refusal(alloc, failure, out),
         Failure::Refused(_) => report_refusal(alloc, failure, out),
         Failure::Differs(_) => report_refusal(alloc, failure, out),
+        Failure::NotDone(_) => report_refusal(alloc, failure, out),
         Failure::OutOfMemory => report_want_of_memory(out),
     }
 }

@@ -11,8 +11,9 @@ ghost use Rattle.prepare_plan.specs.Lists.{lists_of};
 ghost use Rattle.desk_words.specs.Within.{IsCallCount, IsLaneCount};
 ghost use Rattle.replay_cli.specs.Decision.{ToMake, ToReplay, ToTell, ToTry};
 ghost use Rattle.replay_cli.specs.Done.{IsDone, IsDoneAlone, IsQuiet, IsTried, capture_files, made_calls, made_lists, made_start, replayed_files, session_files};
-ghost use Rattle.replay_cli.specs.Ending.{hosting};
-ghost use Rattle.replay_cli.specs.Inside.Serving.{AsksFor, HostFaults, PlanFails};
+ghost use Rattle.register_work.specs.Keeping.{keeping};
+ghost use Rattle.replay_cli.specs.Hosting.{hosting};
+ghost use Rattle.replay_cli.specs.Inside.Serving.{AsksFor, PlanFails, WorkFaults};
 ghost use Rattle.replay_cli.specs.Inside.Work.{IsWork, task_of};
 ghost use Rattle.replay_cli.specs.Lines.{counted, counted_line, done_status, generated_line, replayed_line, trial_line};
 ghost use Rattle.replay_history.specs.Capture.{commits_in};
@@ -22,6 +23,7 @@ ghost use Rattle.replay_report.specs.Report.{report_in};
 ghost use Rattle.captured_calls.specs.Verdict.{IsLegal};
 ghost use Rattle.capture_recorder.specs.Limits.{generated_sessions};
 
+use crate::errands::keeping;
 use crate::failure::Failure;
 use crate::file_names::{name_in, session_name};
 use crate::replay::trial_of;
@@ -39,6 +41,7 @@ use replay_history::{Report, commits};
 use replay_job::Job;
 use replay_report::{journal_text, report_csv, report_of, report_text, tables_text};
 use replay_worker::run_all;
+use run_register::Keeper;
 use std::alloc::Global;
 use std::sync::Wait;
 use std::thread::Threads;
@@ -47,9 +50,9 @@ use std::time::Clock;
 /// What a command's work comes to.
 #[derive(Drop)]
 pub struct Plan {
-    /// The line that is printed.
+    /// What is printed: a line, or several of the register of runs.
     pub line: Bytes,
-    /// Whether a replay found calls that differ.
+    /// Whether a replay found calls that differ, or a comparison something new or changed.
     pub differs: bool,
     /// The files that are written, one after the other.
     pub writes: List<Write>,
@@ -65,18 +68,27 @@ impl Plan {
 }
 
 /// What the work comes to.
-pub fn plan_of<R: Clock + Wait + Threads + Sync, H: Host, D: Door>(
+pub fn plan_of<R: Clock + Wait + Threads + Sync, H: Host, D: Door, K: Keeper>(
     rt: &R,
     alloc: Global,
     work: Work,
     host: &mut H,
     door: &D,
+    keeper: &mut K,
 ) -> Result<Plan, Failure>
     requires { IsWork work }
-    ensures done { IfOk result (λ plan. IsDone (task_of work) plan (H.content host.old) (H.content host.new)) }
-    ensures fails { IfErr result (PlanFails (task_of work) (hosting (H.content host.old) (H.content host.new) (H.faults host.old) (H.faults host.new))) }
-    ensures faults { HostFaults result (H.faults host.old) (H.faults host.new) }
-    ensures host { AsksFor (task_of work) (hosting (H.content host.old) (H.content host.new) (H.faults host.old) (H.faults host.new)) }
+    ensures done { IfOk result (λ plan. IsDone (task_of work) plan
+        (hosting (H.content host.old) (H.content host.new) (H.faults host.old) (H.faults host.new)
+        (keeping (K.runs keeper.old) (K.runs keeper.new) (K.divergences keeper.old) (K.divergences keeper.new) (K.faults keeper.old) (K.faults keeper.new)))) }
+    ensures fails { IfErr result (PlanFails (task_of work)
+        (hosting (H.content host.old) (H.content host.new) (H.faults host.old) (H.faults host.new)
+        (keeping (K.runs keeper.old) (K.runs keeper.new) (K.divergences keeper.old) (K.divergences keeper.new) (K.faults keeper.old) (K.faults keeper.new)))) }
+    ensures faults { WorkFaults result
+        (hosting (H.content host.old) (H.content host.new) (H.faults host.old) (H.faults host.new)
+        (keeping (K.runs keeper.old) (K.runs keeper.new) (K.divergences keeper.old) (K.divergences keeper.new) (K.faults keeper.old) (K.faults keeper.new))) }
+    ensures asks { AsksFor (task_of work)
+        (hosting (H.content host.old) (H.content host.new) (H.faults host.old) (H.faults host.new)
+        (keeping (K.runs keeper.old) (K.runs keeper.new) (K.divergences keeper.old) (K.divergences keeper.new) (K.faults keeper.old) (K.faults keeper.new))) }
 {
     match work {
         Work::Replaying(out, job, lanes) => Ok(replaying(rt, alloc, &out, job, door, lanes)?),
@@ -86,6 +98,7 @@ pub fn plan_of<R: Clock + Wait + Threads + Sync, H: Host, D: Door>(
         }
         Work::Making(calls, out) => Ok(making(alloc, calls, &out)?),
         Work::Trying(calls) => Ok(trying(rt, alloc, calls, door)?),
+        Work::Keeping(errand) => keeping(alloc, &errand, keeper),
     }
 }
 

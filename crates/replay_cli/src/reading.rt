@@ -1,12 +1,12 @@
 //! Reading the files of a command, one after the other.
 
-ghost use Rattle.std.specs.Prelude.{◌≡◌, ◌≤◌, length, IfErr, IfOk};
+ghost use Rattle.std.specs.Prelude.{◌≡◌, ◌≤◌, length, IfErr, IfOk, Ok};
 ghost use Rattle.desk_files.specs.Outside.{Told};
 ghost use Rattle.desk_schema.specs.Schema.{IsVersion};
 ghost use Rattle.captured_calls.specs.Sessions.{AreSessionsFrom};
 ghost use Rattle.prepare_plan.specs.Lists.{lists_of};
 ghost use Rattle.remap_ids.specs.Services.{services_of};
-ghost use Rattle.replay_cli.specs.Decision.{MayRefuseChange, MayRefuseRemap, MayRefuseStart, MayRunOn, RemapIn, SessionOf, StartIn, StartOf, TargetIn, TargetOf, remap_of};
+ghost use Rattle.replay_cli.specs.Decision.{MayRefuseChange, MayRefuseRemap, MayRefuseStart, MayRunOn, MaySend, RemapIn, ReportOf, SessionOf, StartIn, StartOf, TargetIn, TargetOf, remap_of};
 ghost use Rattle.replay_cli.specs.Inside.Steps.{Answered, FaultFree, IsUntaken, MayFail, RefusesOne, Step, seen_as};
 ghost use Rattle.replay_cli.specs.Steps.{Is, Reading, file_in};
 
@@ -16,6 +16,8 @@ use desk_files::{FILE_LIMIT, FileErr, Files};
 use desk_schema::{ChangeErr, Start};
 use desk_values::{Bytes, CallList, Copied, List, SessionLists, Txt};
 use remap_ids::{Remap, RemapErr};
+use replay_history::Report;
+use report_format::read_report;
 use std::alloc::Global;
 
 /// The bytes of a file, of which at most `room` are taken.
@@ -63,6 +65,18 @@ pub fn read_start_file<F: Files>(
     parse_start(alloc, name, &bytes)
 }
 
+/// The report that the bytes of the file of this name are.
+pub fn parse_report(alloc: Global, name: &Txt, bytes: &Bytes) -> Result<Report, Failure>
+    ensures says { Answered (ReportOf name.now bytes.now) result }
+    ensures free { FaultFree result }
+{
+    match read_report(alloc, bytes.as_slice()) {
+        Ok(report) => Ok(report),
+        Err(FormErr::Bad { line }) => Err(Failure::Refused(Refusal::BadReport(name.copy()?, line))),
+        Err(FormErr::Memory) => Err(Failure::OutOfMemory),
+    }
+}
+
 /// What the bytes of the file of this name and version say of a session.
 pub fn parse_session(
     alloc: Global,
@@ -91,6 +105,7 @@ pub fn read_remap<F: Files>(
     ensures step { Step (λ map. RemapIn map name.now)
         (F.content files.old) (F.content files.new)
         (F.faults files.old) (F.faults files.new) result }
+    ensures may { IfOk result (MaySend name.now) }
     ensures kind { IfErr result (MayFail (MayRefuseRemap name.now)) }
 {
     match name {
@@ -104,6 +119,7 @@ pub fn read_remap<F: Files>(
 
 fn parse_remap(alloc: Global, bytes: &Bytes) -> Result<Remap, Failure>
     ensures says { Answered (Is (remap_of (services_of bytes.now))) result }
+    ensures may { IfOk result (λ remap. services_of bytes.now ≡ Ok remap) }
     ensures free { FaultFree result }
 {
     match Remap::read(alloc, bytes.as_slice()) {

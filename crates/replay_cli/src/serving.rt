@@ -5,10 +5,8 @@ ghost use Rattle.std.specs.List.{AllByRecursion};
 ghost use Rattle.capture_format.specs.SessionFile.{MayTellAll};
 ghost use Rattle.captured_calls.specs.Sessions.{AreSessionsFrom};
 ghost use Rattle.prepare_plan.specs.Lists.{lists_of};
-ghost use Rattle.replay_cli.specs.Decision.{ToServe};
-ghost use Rattle.replay_cli.specs.Done.{IsDone, IsQuiet, capture_files};
-ghost use Rattle.replay_cli.specs.Ending.{hosting};
-ghost use Rattle.replay_cli.specs.Inside.Serving.{HostFaults, PlanFails};
+ghost use Rattle.replay_cli.specs.Done.{IsQuiet, IsServed, capture_files};
+ghost use Rattle.replay_cli.specs.Inside.Serving.{HostFaults, ServeFails};
 ghost use Rattle.replay_cli.specs.Lines.{served_line, short_text};
 
 use crate::failure::Failure;
@@ -35,8 +33,8 @@ pub(crate) fn serving<R: Clock + Wait + Threads + Sync, H: Host, D: Door>(
 ) -> Result<Plan, Failure>
     requires out { length out.now ≤ 900 }
     requires most { most ≤ 64 }
-    ensures done { IfOk result (λ plan. IsDone (ToServe out.now start.now most port) plan (H.content host.old) (H.content host.new)) }
-    ensures fails { IfErr result (PlanFails (ToServe out.now start.now most port) (hosting (H.content host.old) (H.content host.new) (H.faults host.old) (H.faults host.new))) }
+    ensures done { IfOk result (λ plan. IsServed out.now start.now most plan (H.content host.old) (H.content host.new)) }
+    ensures fails { IfErr result (ServeFails start.now most (H.content host.old) (H.content host.new)) }
     ensures faults { HostFaults result (H.faults host.old) (H.faults host.new) }
 {
     start.know_rules();

@@ -5,22 +5,24 @@ ghost use Rattle.std.specs.Prelude.{◌≡◌, ◌≤◌, IfOk, IfErr, length, m
 ghost use Rattle.desk_files.specs.Outside.{Told};
 ghost use Rattle.replay_job.specs.Job.{AreKnownOf, HasMoments, seen};
 ghost use Rattle.replay_job.specs.Replays.{IsSoundJob};
-ghost use Rattle.desk_words.specs.declared.words.Command.TheVariants.{Run as TheRun, Prepare as ThePrepare, Serve as TheServe};
+ghost use Rattle.desk_words.specs.declared.words.Command.TheVariants.{Run as TheRun, Prepare as ThePrepare, Serve as TheServe, Register as TheRegister};
 ghost use Rattle.desk_words.specs.Limits.{lane_limit};
 ghost use Rattle.desk_words.specs.Within.{HasWays, IsLaneCount, IsWithinLimits};
-ghost use Rattle.replay_cli.specs.Decision.{Decides, IsTaskOf, MayBeRefused, MayRunOn, PrepareIn, RunIn, ServeIn, run_job};
+ghost use Rattle.replay_cli.specs.Decision.{Decides, IsTaskOf, MayBeRefused, MayRunOn, PrepareIn, RegisterIn, RunIn, ServeIn, run_job};
 ghost use Rattle.replay_cli.specs.Inside.Work.{IsWork, legal_of, task_of};
 ghost use Rattle.captured_calls.specs.Verdict.{IsLegal};
 ghost use Rattle.replay_cli.specs.Inside.Steps.{MayFail, Step, seen_as};
 
 use crate::capture::{Legal, read_capture, test};
 use crate::failure::Failure;
-use crate::reading::{read_remap, read_start_file, read_target};
-use desk_files::Files;
+use crate::file_names::name_in;
+use crate::reading::{parse_report, read_file, read_remap, read_start_file, read_target};
+use desk_files::{FILE_LIMIT, Files};
 use desk_schema::Start;
 use desk_values::Txt;
 use desk_words::{Command, LANE_LIMIT, Ways};
 use object_depends::FactList;
+use register_work::Errand;
 use remap_ids::Remap;
 use replay_job::Job;
 use std::alloc::Global;
@@ -38,6 +40,8 @@ pub enum Work {
     Making(u32, Txt),
     /// Make that capture and replay it.
     Trying(u32),
+    /// Do this errand to the keeper.
+    Keeping(Errand),
 }
 
 /// What the command has to do.
@@ -58,6 +62,12 @@ pub fn decide<F: Files>(alloc: Global, command: Command, files: &mut F) -> Resul
         }
         Command::Generate(calls, out) => Ok(Work::Making(calls, out)),
         Command::Trial(calls) => Ok(Work::Trying(calls)),
+        Command::Register(out, run) => decide_register(alloc, &out, run, files),
+        Command::Runs => Ok(Work::Keeping(Errand::Runs)),
+        Command::Accept(run, stamp, class) => {
+            Ok(Work::Keeping(Errand::Accept(run, stamp, class)))
+        }
+        Command::Compare(base, other) => Ok(Work::Keeping(Errand::Compare(base, other))),
     }
 }
 
@@ -162,4 +172,24 @@ fn decide_serve<F: Files>(
 {
     let file = read_start_file(alloc, start, files)?;
     Ok(Work::Serving(capture, file.start, connections, port))
+}
+
+fn decide_register<F: Files>(
+    alloc: Global,
+    out: &Txt,
+    run: Txt,
+    files: &mut F,
+) -> Result<Work, Failure>
+    requires { length out.now ≤ 900 }
+    ensures work { IfOk result IsWork }
+    ensures task { IfOk result (λ work. IsTaskOf (TheRegister out.now run) (task_of work)) }
+    ensures refused { IfErr result (MayFail (MayBeRefused (TheRegister out.now run))) }
+    ensures step { Step (λ map. RegisterIn map out.now run)
+        (F.content files.old) (F.content files.new)
+        (F.faults files.old) (F.faults files.new) (seen_as task_of result) }
+{
+    let name = name_in(alloc, out, "/report.txt")?;
+    let bytes = read_file(&name, FILE_LIMIT, files)?;
+    let report = parse_report(alloc, &name, &bytes)?;
+    Ok(Work::Keeping(Errand::Register(run, bytes, report)))
 }

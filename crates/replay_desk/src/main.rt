@@ -1,7 +1,9 @@
 //! The program. Enters: the words that it was called with. Leaves: the status that it ends with. It touches the real
-//! files, the network of this machine, the standard output and the clock, which it hands to the one call of the desk, and where the standard error is
+//! files, the register of runs beside them, the network of this machine, the standard output and the clock, which it hands to the one call of the desk, and where the standard error is
 //! a terminal it tells there of the progress.
 #![tactic(auto)]
+
+ghost use Rattle.std.specs.Prelude.{◌≡◌, ◌<◌, ◌≤◌, IsErrOf, IsOk};
 
 mod connections;
 mod progress;
@@ -10,6 +12,8 @@ use connections::TellingHost;
 use desk_files::{RealFiles, RealHost, SleepDoor, StdSink};
 use progress::{CountingFiles, ProgressDoor};
 use replay_cli::{Arguments, arguments_of, replay_main, report_want_of_memory};
+use run_register::KeepErr;
+use sqlite_keeper::{REGISTER_FILE, RegisterFile};
 use std::io::IsTerminal;
 use std::process::ExitCode;
 use std::sync::atomic::AtomicU64;
@@ -27,6 +31,7 @@ fn main(rt: HostRuntime) -> ExitCode {
     let on_terminal = rt.stderr().is_terminal();
     let told = ProgressDoor::new(&door, &rt, &calls, on_terminal);
     let mut host = TellingHost::new(RealHost::new(&rt), &rt, on_terminal);
+    let mut keeper = RegisterFile::new(&rt, alloc, REGISTER_FILE);
     let status = replay_main(
         &rt,
         alloc,
@@ -34,8 +39,24 @@ fn main(rt: HostRuntime) -> ExitCode {
         &mut files,
         &mut host,
         &told,
+        &mut keeper,
         &mut out,
     );
     told.end(&rt);
-    ExitCode::from(status)
+    ExitCode::from(status_after(status, keeper.close()))
+}
+
+// The status to end with once the register is closed. Where that was not done, nothing that was kept is lost, and it lies in two files
+// until the next command: so what was done ends as where a device failed, or memory was short.
+fn status_after(status: u8, closed: Result<(), KeepErr>) -> u8
+    ensures closed { IsOk closed → result ≡ status }
+    ensures other { 1 < status → result ≡ status }
+    ensures failed { IsErrOf closed KeepErr.Failed → status ≤ 1 → result ≡ 5 }
+    ensures short { IsErrOf closed KeepErr.Memory → status ≤ 1 → result ≡ 6 }
+{
+    match closed {
+        Err(KeepErr::Failed) if status <= 1 => 5,
+        Err(KeepErr::Memory) if status <= 1 => 6,
+        _ => status,
+    }
 }

@@ -13,8 +13,8 @@ pub enum Mode {
     Object,
     /// Every call before it in the captured order, one after the other.
     Order,
-    /// As with `Scn`, but a numbered commit waits for every call before it in the captured order: so a call is answered where
-    /// just the numbered commits are that it saw.
+    /// As with `Scn`, but a numbered commit waits for every call before it in the captured order: so when a call is answered,
+    /// the numbered commits that are answered before it are just those that it saw.
     Fence,
 }
 

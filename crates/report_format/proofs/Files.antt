@@ -431,7 +431,7 @@ one_file bytes report other is also =
     first.says ∙ ap said views ∙ sym second.says
 
 -- bytes with a bad line are no report
-bad_file : (bytes : List ℕ) (n : ℕ) → IsBadReport bytes n → (report : Report) → ¬ IsReport bytes report
+pub bad_file : (bytes : List ℕ) (n : ℕ) → IsBadReport bytes n → (report : Report) → ¬ IsReport bytes report
 bad_file bytes n bad report is = let read = read_bytes bytes report is in let both = one bytes (Err n) (Ok read.after) bad read.file in cc
 
 -- and it is the first of one number alone

@@ -1,2 +1,2 @@
-mod Files
+pub mod Files
 mod Reader

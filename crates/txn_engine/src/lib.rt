@@ -89,8 +89,8 @@ impl Engine {
         self.machine.connected(session)
     }
 
-    /// Whether a session's reads depend on nothing but what is committed: it is connected, its transaction reads the latest
-    /// commit, and it has changed nothing.
+    /// Whether what a session sees of a table is what is committed: it is connected, its transaction reads the latest commit,
+    /// and it has changed nothing.
     pub fn clean(&self, session: u32) -> bool
         ensures { result ≡ is_clean self.now.state session }
     {

@@ -11,12 +11,13 @@ use Rattle.capture_format.specs.declared.start.StartFile.{StartFile}
 use Rattle.prepare_plan.specs.Lists.{all_calls, by_stamp}
 use Rattle.law_commands.specs.Legality.First.{plan_of}
 use Rattle.law_commands.proofs.Legality.Taken.{plan_given}
-use Rattle.desk_words.specs.declared.words.Command.TheVariants.{Run, Prepare, Serve, Generate, Trial}
+use Rattle.desk_words.specs.declared.words.Command.TheVariants.{Run, Prepare, Serve, Generate, Trial, Register, Runs, Accept, Compare}
+use Rattle.register_work.specs.declared.errand.Errand.TheVariants as errand
 use Rattle.remap_ids.specs.Services.{ServicePair}
-use Rattle.replay_cli.specs.Decision.{Legal, ReadIn, RemapIn, SessionOf, TargetIn, ToReplay, ToTell, ToServe, ToMake, ToTry, legal_from, remap_of, run_job}
+use Rattle.replay_cli.specs.Decision.{Legal, ReadIn, RemapIn, SessionOf, TargetIn, ToReplay, ToTell, ToServe, ToMake, ToTry, ToKeep, legal_from, remap_of, run_job}
 use Rattle.replay_cli.specs.Steps.{Reading, file_in, file_of}
-use Rattle.replay_cli.specs.FileNames.{session_names, start_name}
-use Rattle.law_commands.specs.Commands.Complete.{AreCapture, AreThere, HasRemap, HasTarget, CapturesAreMade, CapturesArePrepared, CapturesAreReplayed, CapturesAreTried, IsThere, LegalCapturesArePrepared, LegalCapturesAreReplayed, StartsAreServed, total}
+use Rattle.replay_cli.specs.FileNames.{report_name, session_names, start_name}
+use Rattle.law_commands.specs.Commands.Complete.{AreCapture, AreThere, HasRemap, HasTarget, CapturesAreMade, CapturesArePrepared, CapturesAreReplayed, CapturesAreTried, DivergencesAreAccepted, IsThere, LegalCapturesArePrepared, LegalCapturesAreReplayed, ReportsAreRegistered, RunsAreCompared, RunsAreListed, StartsAreServed, total}
 use Rattle.replay_cli.proofs.Endings.{verdict_is}
 
 -- a file that is there is read where there is room
@@ -85,3 +86,17 @@ made words files calls out command = verdict_is words files (Generate calls out)
 
 pub tried : CapturesAreTried
 tried words files calls command = verdict_is words files (Trial calls) (ToTry calls) command refl
+
+pub registered : ReportsAreRegistered
+registered words files out run bytes report command there is =
+    verdict_is words files (Register out run) (ToKeep (errand.Register run bytes report)) command
+    (bytes, file_read files file_limit (report_name out) bytes there there.1, (report, is, refl))
+
+pub listed : RunsAreListed
+listed words files command = verdict_is words files Runs (ToKeep errand.Runs) command refl
+
+pub accepted : DivergencesAreAccepted
+accepted words files run stamp class command = verdict_is words files (Accept run stamp class) (ToKeep (errand.Accept run stamp class)) command refl
+
+pub compared : RunsAreCompared
+compared words files base other command = verdict_is words files (Compare base other) (ToKeep (errand.Compare base other)) command refl

@@ -30,7 +30,7 @@ use Rattle.replay_cli.specs.Limits.{capture_limit}
 use Rattle.replay_cli.specs.Lines.{refusal_status}
 use Rattle.replay_cli.specs.Steps.{Is, Reading, Then, file_in, file_of}
 use Rattle.replay_cli.specs.declared.failure.Failure.{Failure}
-use Rattle.replay_cli.specs.declared.failure.Failure.TheVariants.{BadCommand, DeviceFault, Differs, OutOfMemory, Refused}
+use Rattle.replay_cli.specs.declared.failure.Failure.TheVariants.{BadCommand, DeviceFault, Differs, NotDone, OutOfMemory, Refused}
 use Rattle.replay_cli.specs.declared.failure.Refusal.{Refusal}
 use Rattle.replay_cli.specs.declared.failure.Refusal.TheVariants.{TooLong}
 use Rattle.replay_cli.specs.declared.plan.Plan.{Plan}
@@ -214,6 +214,7 @@ verdict_well words files command found safe v is = decided v (subst (λ (c : Opt
   decided (Err BadCommand) there = absurd there
   decided (Err (Refused refusal)) there = safe refusal there
   decided (Err (Differs finding)) there = absurd there
+  decided (Err (NotDone cause)) there = absurd there
   decided (Err DeviceFault) there = absurd there
   decided (Err OutOfMemory) there = absurd there
 

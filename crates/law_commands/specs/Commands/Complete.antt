@@ -1,5 +1,5 @@
 -- When the files of a folder are a capture, told without the steps of a command.
-use Rattle.std.specs.Prelude.{◌≡◌, ℕ, ◌+◌, ◌≤◌, List, [], ◌∷◌, length, Option, None, Some, Ok}
+use Rattle.std.specs.Prelude.{◌≡◌, ◌≢◌, ℕ, ◌+◌, ◌≤◌, ◌⊎◌, List, [], ◌∷◌, length, Option, None, Some, Ok}
 use Rattle.std.specs.FinMap.{get}
 use Rattle.std.specs.List.{sum_by}
 use Rattle.desk_values.specs.declared.capture.Captured.{Captured}
@@ -16,10 +16,19 @@ use Rattle.remap_ids.specs.Services.{ServicePair, services_of}
 use Rattle.desk_schema.specs.Start.{StartView}
 use Rattle.desk_schema.specs.Change.{ChangesTo, records_in}
 use Rattle.desk_words.specs.declared.ways.Ways.{Ways}
-use Rattle.desk_words.specs.declared.words.Command.TheVariants.{Run, Prepare, Serve, Generate, Trial}
+use Rattle.desk_words.specs.declared.words.Command.TheVariants.{Run, Prepare, Serve, Generate, Trial, Register, Runs, Accept, Compare}
 use Rattle.desk_words.specs.Command.{command_of}
-use Rattle.replay_cli.specs.Decision.{Verdict, ToReplay, ToTell, ToServe, ToMake, ToTry, run_job}
-use Rattle.replay_cli.specs.FileNames.{session_names, start_name}
+use Rattle.replay_history.specs.declared.report.Class.{Class}
+use Rattle.replay_history.specs.declared.report.Report.{Report}
+use Rattle.report_format.specs.ReportFile.{IsReport}
+use Rattle.run_register.specs.Register.{RunMap}
+use Rattle.register_work.specs.declared.errand.Errand.{Errand}
+use Rattle.register_work.specs.declared.errand.Errand.TheVariants as errand
+use Rattle.register_work.specs.Errand.{AreGood}
+use Rattle.replay_cli.specs.Decision.{Verdict, ToReplay, ToTell, ToServe, ToMake, ToTry, ToKeep, run_job}
+use Rattle.replay_cli.specs.Ending.{Ends}
+use Rattle.replay_cli.specs.FileNames.{report_name, session_names, start_name}
+use Rattle.replay_cli.specs.Hosting.{Hosting}
 
 -- the file of this name is there, with these bytes, and within the limit of one file
 abbrev pub IsThere : FileMap → List ℕ → List ℕ → Type 0
@@ -99,3 +108,36 @@ CapturesAreMade = (words : List (List ℕ)) (files : FileMap) (calls : ℕ) (out
 
 abbrev pub CapturesAreTried : Type 0
 CapturesAreTried = (words : List (List ℕ)) (files : FileMap) (calls : ℕ) → command_of words ≡ Some (Trial calls) → Verdict words files (Ok (ToTry calls))
+
+-- where the report in the folder is there and is one, it is to be registered
+abbrev pub ReportsAreRegistered : Type 0
+ReportsAreRegistered = (words : List (List ℕ)) (files : FileMap) (out run bytes : List ℕ) (report : Report)
+    → command_of words ≡ Some (Register out run) → IsThere files (report_name out) bytes → IsReport bytes report
+    → Verdict words files (Ok (ToKeep (errand.Register run bytes report)))
+
+-- words alone say that runs are listed, that a divergence is accepted, and that two runs are compared
+abbrev pub RunsAreListed : Type 0
+RunsAreListed = (words : List (List ℕ)) (files : FileMap) → command_of words ≡ Some Runs → Verdict words files (Ok (ToKeep errand.Runs))
+
+abbrev pub DivergencesAreAccepted : Type 0
+DivergencesAreAccepted = (words : List (List ℕ)) (files : FileMap) (run : List ℕ) (stamp : ℕ) (class : Class)
+    → command_of words ≡ Some (Accept run stamp class) → Verdict words files (Ok (ToKeep (errand.Accept run stamp class)))
+
+abbrev pub RunsAreCompared : Type 0
+RunsAreCompared = (words : List (List ℕ)) (files : FileMap) (base other : List ℕ)
+    → command_of words ≡ Some (Compare base other) → Verdict words files (Ok (ToKeep (errand.Compare base other)))
+
+-- the keeper tells its runs, and all of them are reports
+abbrev pub TellsReports : Hosting → Type 0
+TellsReports h = (runs : RunMap) × (h.keeper.runs_before ≡ Some runs) × AreGood runs
+
+-- how an errand to it may end, where no device fails
+abbrev pub MayEnd : Errand → ℕ → Type 0
+MayEnd (errand.Register name bytes report) n = (n ≡ 0) ⊎ ((n ≡ 6) ⊎ (n ≡ 12))
+MayEnd errand.Runs n = (n ≡ 0) ⊎ (n ≡ 6)
+MayEnd (errand.Accept name stamp class) n = (n ≡ 0) ⊎ ((n ≡ 6) ⊎ ((n ≡ 11) ⊎ (n ≡ 14)))
+MayEnd (errand.Compare a b) n = (n ≡ 0) ⊎ ((n ≡ 1) ⊎ ((n ≡ 6) ⊎ ((n ≡ 11) ⊎ (n ≡ 15))))
+
+abbrev pub ErrandsEndSo : Type 0
+ErrandsEndSo = (asked : Errand) (files after : FileMap) (fb fa : ℕ) (h : Hosting) (result : ℕ) (before printed : Option (List ℕ))
+    → TellsReports h → Ends (Ok (ToKeep asked)) files after fb fa h result before printed → result ≢ 5 → MayEnd asked result

@@ -3,7 +3,7 @@ use Rattle.std.specs.Prelude.{◌≡◌, ℕ, ◌<◌, ◌≤◌, List, length, 
 use Rattle.desk_files.specs.Outside.{FileMap, HasRisen, Told}
 use Rattle.replay_cli.specs.declared.failure.Refusal.{Refusal}
 use Rattle.replay_cli.specs.declared.failure.Failure.{Failure}
-use Rattle.replay_cli.specs.declared.failure.Failure.TheVariants.{BadCommand, Refused, Differs, DeviceFault, OutOfMemory}
+use Rattle.replay_cli.specs.declared.failure.Failure.TheVariants.{BadCommand, Refused, Differs, NotDone, DeviceFault, OutOfMemory}
 use Rattle.replay_cli.specs.declared.failure.Refusal.TheVariants.{Missing, TooLong, BadLine}
 use Rattle.replay_cli.specs.Decision.{IsBadOfSome}
 
@@ -12,6 +12,7 @@ abbrev pub MayFail : (Refusal → Type 0) → Failure → Type 0
 MayFail may BadCommand = ⊥
 MayFail may (Refused refusal) = may refusal
 MayFail may (Differs finding) = ⊥
+MayFail may (NotDone cause) = ⊥
 MayFail may DeviceFault = Unit {0}
 MayFail may OutOfMemory = Unit {0}
 
@@ -20,6 +21,7 @@ abbrev pub Stops : {X : Type 0} → (Result X Refusal → Type 0) → Failure �
 Stops want BadCommand = ⊥
 Stops want (Refused refusal) = want (Err refusal)
 Stops want (Differs finding) = ⊥
+Stops want (NotDone cause) = ⊥
 Stops want DeviceFault = ⊤
 Stops want OutOfMemory = ⊤
 
@@ -33,6 +35,7 @@ abbrev pub FailedAt : Failure → ℕ → ℕ → Type 0
 FailedAt BadCommand before after = ⊥
 FailedAt (Refused refusal) before after = after ≡ before
 FailedAt (Differs finding) before after = ⊥
+FailedAt (NotDone cause) before after = ⊥
 FailedAt DeviceFault before after = HasRisen before after × (before ≤ after)
 FailedAt OutOfMemory before after = after ≡ before
 
@@ -46,6 +49,7 @@ FaultFree (Ok x) = ⊤
 FaultFree (Err BadCommand) = ⊥
 FaultFree (Err (Refused refusal)) = ⊤
 FaultFree (Err (Differs finding)) = ⊥
+FaultFree (Err (NotDone cause)) = ⊥
 FaultFree (Err DeviceFault) = ⊥
 FaultFree (Err OutOfMemory) = ⊤
 

@@ -6,9 +6,9 @@ use Rattle.prepare_plan.specs.Lists.{lists_of}
 use Rattle.replay_cli.specs.declared.capture.Legal.{Legal as Loaded}
 use Rattle.replay_cli.specs.declared.capture.Read.{Read as ReadFiles}
 use Rattle.replay_cli.specs.declared.work.Work.{Work}
-use Rattle.replay_cli.specs.declared.work.Work.TheVariants.{Replaying, Telling, Serving, Making, Trying}
+use Rattle.replay_cli.specs.declared.work.Work.TheVariants.{Replaying, Telling, Serving, Making, Trying, Keeping}
 use Rattle.desk_words.specs.Within.{IsCallCount, IsLaneCount}
-use Rattle.replay_cli.specs.Decision.{Legal, Read, Task, ToReplay, ToTell, ToServe, ToMake, ToTry}
+use Rattle.replay_cli.specs.Decision.{Legal, Read, Task, ToReplay, ToTell, ToServe, ToMake, ToTry, ToKeep}
 use Rattle.desk_words.specs.Limits.{connection_limit, path_limit}
 use Rattle.replay_history.specs.Limits.{call_limit}
 
@@ -27,6 +27,7 @@ task_of (Telling out facts) = ToTell out facts
 task_of (Serving out start most port) = ToServe out start most port
 task_of (Making n out) = ToMake n out
 task_of (Trying n) = ToTry n
+task_of (Keeping errand) = ToKeep errand
 
 -- what the code holds is within the limits, and a job can be replayed
 abbrev pub IsWork : Work → Type 0
@@ -35,3 +36,4 @@ IsWork (Telling out facts) = (length out ≤ path_limit) × (length facts ≤ ca
 IsWork (Serving out start most port) = (length out ≤ path_limit) × (most ≤ connection_limit)
 IsWork (Making n out) = IsCallCount n × (length out ≤ path_limit)
 IsWork (Trying n) = IsCallCount n
+IsWork (Keeping errand) = Unit {0}

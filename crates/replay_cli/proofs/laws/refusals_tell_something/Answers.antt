@@ -1,8 +1,11 @@
-use Rattle.replay_cli.proofs.Causes.{causes_have_text, changes_from_one, lines_from_one, rows_from_one}
+use Rattle.replay_cli.proofs.Causes.{causes_have_text, changes_from_one, lines_from_one, reports_from_one, rows_from_one}
 use Rattle.replay_cli.proofs.laws.refusals_tell_something.Goals as goal
 
 pub returns-clause-line : goal.returns-clause-line
 returns-clause-line c = lines_from_one
+
+pub returns-clause-report : goal.returns-clause-report
+returns-clause-report c = reports_from_one
 
 pub returns-clause-row : goal.returns-clause-row
 returns-clause-row c = rows_from_one

@@ -1,4 +1,4 @@
-use Rattle.std.proofs.Common.{◌∙◌, ℕ, List, length, ap, sym, subst}
+use Rattle.std.proofs.Common.{◌∙◌, List, length, ap, sym, subst}
 use Rattle.std.specs.List.{AllByRecursion}
 use Rattle.desk_values.specs.declared.capture.Captured.{Captured}
 use Rattle.desk_schema.specs.Start.{StartView}

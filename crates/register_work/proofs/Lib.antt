@@ -1,0 +1,5 @@
+pub mod Runs
+pub mod Kept
+pub mod OneEnd
+pub mod OneList
+pub mod Answering

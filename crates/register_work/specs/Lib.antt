@@ -1,0 +1,4 @@
+pub mod Keeping
+pub mod Errand
+pub mod Lines
+pub mod Inside
