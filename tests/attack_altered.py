@@ -10,7 +10,7 @@ from attack_program import Wrong, files_below, ran
 EXAMPLE = Path(__file__).resolve().parent.parent / "examples/first"
 NAMES = ("start.cap", "session-000.cap")
 OTHERS = (b"\n", b"9", b"\xff")
-WRITTEN = ["journal.txt", "maps.csv", "report.csv", "report.txt", "tables.txt"]
+WRITTEN = ["causes.csv", "journal.txt", "maps.csv", "report.csv", "report.txt", "tables.txt"]
 REFUSED = re.compile(r"bad capture: (cap/(start|session-000)\.cap line \d+|stamp \d+( (has|saw|replied) .*)?|times at stamp \d+|unknown id at stamp \d+)\n")
 DONE = "replayed 3 calls, 0 divergent\n"
 # Where the start tells of more sessions, the file of the next one is asked for.

@@ -12,7 +12,7 @@ from attack_program import CONNECT, HOST, PATIENCE, Client, Service, files_below
 
 EXAMPLE = Path(__file__).resolve().parent.parent / "examples/first"
 # The files of a run, in the order in which they are written.
-ORDER = ("journal.txt", "report.txt", "report.csv", "tables.txt", "maps.csv")
+ORDER = ("journal.txt", "report.txt", "report.csv", "tables.txt", "maps.csv", "causes.csv")
 NEW = {name: (EXAMPLE / "replayed" / name).read_bytes() for name in ORDER}
 OLD = {name: b"old\n" for name in ORDER}
 FAULT = (5, "device fault\n")

@@ -11,7 +11,7 @@ EXAMPLES = Path(__file__).resolve().parent.parent / "examples"
 PART = ".desk-part"
 SESSIONS = [f"session-{session:03}.cap" for session in range(4)]
 SERVED = [*SESSIONS[:2], "start.cap"]
-WRITTEN = ["journal.txt", "report.txt", "report.csv", "tables.txt", "maps.csv"]
+WRITTEN = ["journal.txt", "report.txt", "report.csv", "tables.txt", "maps.csv", "causes.csv"]
 # Of each command the words, and its files in the order in which they are written.
 COMMANDS = (
     (["run", str(EXAMPLES / "sessions"), "cap", "--think", "0", "--connect", "0"], WRITTEN),

@@ -134,6 +134,8 @@ fn text(alloc: Global, board: &Board, word: &str) -> Result<String, anyhow::Erro
         "journal" => line(alloc, board.journal(alloc)),
         "maps" => line(alloc, board.maps()),
         "tables" => line(alloc, board.tables(alloc)),
+        "causes" => line_if(alloc, board.causes(alloc)),
+        "reads" => line_if(alloc, board.reads(alloc)),
         _ => Err(anyhow!("no such command")),
     }
 }
@@ -141,6 +143,14 @@ fn text(alloc: Global, board: &Board, word: &str) -> Result<String, anyhow::Erro
 fn line(alloc: Global, text: Result<Bytes, Memory>) -> Result<String, anyhow::Error> {
     let text = text?;
     Ok(line_of_bytes(alloc, text.as_slice())?)
+}
+
+// A text on one line, where there is one.
+fn line_if(alloc: Global, text: Result<Option<Bytes>, Memory>) -> Result<String, anyhow::Error> {
+    match text? {
+        Some(text) => Ok(line_of_bytes(alloc, text.as_slice())?),
+        None => Ok(String::from_str(alloc, "none")?),
+    }
 }
 
 // The report or its records, where all calls are answered.

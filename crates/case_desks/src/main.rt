@@ -10,6 +10,8 @@
 //!   time)
 //! - `ready`, `waiting`, `open`, `pick S,S`, `done S,S`: what the desk says of all calls, or of a lane of sessions
 //! - `journal`, `report`, `csv`, `maps`, `tables`: the texts so far on one line, `|` for a line feed
+//! - `causes`, `reads`: the texts of the causes and of the plain reads on one line, or `none` where the replay is not at its end,
+//!   or not fenced
 //! - `commits`: how many there are; `halt`: stops the desk; `copy`: begins anew with a copy of the same job
 //!
 //! Enters: lines of the standard input. Leaves: lines. It touches the standard input and output alone. The expected

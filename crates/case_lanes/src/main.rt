@@ -24,6 +24,7 @@ fn main(rt: HostRuntime) -> Result<(), anyhow::Error> {
     pairs(&rt, alloc, "run cap out --mode off")?;
     pairs(&rt, alloc, "run cap out --mode scn")?;
     pairs(&rt, alloc, "run cap out --mode object")?;
+    pairs(&rt, alloc, "run cap out --mode fence")?;
     pairs(&rt, alloc, "run cap out --mode off --lanes 2")?;
     pauses(&rt, alloc, "run cap out --mode off --think 33 --connect 0")?;
     pauses(
@@ -48,7 +49,7 @@ fn pairs<R: Clock + Wait + Threads + Sync + Print>(
     let said = ran(rt, alloc, words, &mut files, guests(alloc, 0)?, &door)?;
     let (came, spent) = (door.came(), door.is_spent());
     println!(rt; "{words}: {said}, {came} came, turns spent: {spent}")?;
-    Ok(())
+    shown(rt, alloc, &files, "out/fence.txt")
 }
 
 // Two connections, of which the first is held until the second comes.
@@ -79,12 +80,17 @@ fn pauses<R: Clock + Wait + Threads + Sync + Print>(
         let (stamp, micros) = (passed.stamp, passed.micros);
         println!(rt; "stamp {stamp} pauses {micros}")?;
     }
-    shown(rt, alloc, &files)
+    shown(rt, alloc, &files, "out/journal.txt")
 }
 
-// The journal of a run.
-fn shown<R: Print>(rt: &R, alloc: Global, files: &MemFiles) -> Result<(), anyhow::Error> {
-    let name = captures::txt(alloc, "out/journal.txt")?;
+// A file of a run, where it is there.
+fn shown<R: Print>(
+    rt: &R,
+    alloc: Global,
+    files: &MemFiles,
+    name: &str,
+) -> Result<(), anyhow::Error> {
+    let name = captures::txt(alloc, name)?;
     if let Some(bytes) = files.held(&name) {
         print!(rt; "{}", str::from_utf8(bytes.as_slice())?)?;
     }

@@ -140,6 +140,16 @@ impl Board {
         told::records_of(alloc, &self.desk, report)
     }
 
+    /// The causes of the calls that differ, where all calls are answered.
+    pub fn causes(&self, alloc: Global) -> Result<Option<Bytes>, Memory> {
+        told::causes_on(alloc, &self.desk)
+    }
+
+    /// The plain reads, where all calls are answered, the replay is fenced and began with the captured start.
+    pub fn reads(&self, alloc: Global) -> Result<Option<Bytes>, Memory> {
+        told::reads_on(alloc, &self.desk)
+    }
+
     /// The pairs of ids so far.
     pub fn maps(&self) -> Result<Bytes, Memory> {
         self.desk.map().maps_csv()

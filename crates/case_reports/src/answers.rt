@@ -1,12 +1,15 @@
 //! The answers of a replay, each with what the capture alone says of it.
 
-use crate::case::{Case, Replay, Service};
+use crate::case::{Case, Replay};
 use crate::classes::class_between;
+use crate::following::{Followed, Told};
+use crate::meeting::{have_images, is_sent_alike};
 use crate::pairs::{Pair, learn, of_rows};
-use crate::server::{Server, sent};
+use crate::server::sent;
+use crate::statements::{Deed, deed_of};
 use anyhow::anyhow;
 use capture_format::append_reply;
-use desk_values::{Bytes, Captured, Event, Image, List, Memory, Outcome, Reply, Same};
+use desk_values::{Bytes, Call, Captured, Event, Image, List, Memory, Outcome, Reply, Same};
 use replay_history::{Class, Line, commits};
 use std::alloc::Global;
 use std::marker::Model;
@@ -20,8 +23,12 @@ pub struct Answer {
     pub captured: Bytes,
     /// The text of this reply.
     pub replayed: Bytes,
-    /// Whether a machine answers so to what is sent.
-    pub as_served: bool,
+    /// Whether a machine answers so to what is sent, and plain lists go with it.
+    pub told: Told,
+    /// Whether the call met what it met in the capture but for ids, and the same is sent. It is worked out where it differs.
+    pub meets: bool,
+    /// Whether it is a plain read.
+    pub plain: bool,
     /// Whether it is the captured reply.
     pub as_captured: bool,
     /// Whether the call is a numbered commit of the capture.
@@ -40,6 +47,14 @@ impl Model for Answer {
     ghost view = { λ answer. tt };
 }
 
+// What is found of an answer.
+#[derive(Clone, Copy)]
+struct Found {
+    told: Told,
+    meets: bool,
+    plain: bool,
+}
+
 impl Answer {
     /// Whether it differs.
     pub fn differs(&self) -> bool {
@@ -56,6 +71,8 @@ pub struct Replayed {
     pub pairs: Vec<Pair>,
     /// How many of them are those of the start.
     pub own: usize,
+    /// Whether a commit differs.
+    pub wrote: bool,
 }
 
 impl Model for Replayed {
@@ -64,23 +81,16 @@ impl Model for Replayed {
     ghost view = { λ replayed. tt };
 }
 
-/// What these events come to, where this is a server that begins with the target.
+/// What these events come to, where this server begins with the target.
 pub fn replay_of(
     alloc: Global,
     case: &Case,
     replay: &Replay,
     events: &[Event],
-    server: &mut Server,
+    server: &mut Followed,
 ) -> Result<Replayed, anyhow::Error> {
     let mut replayed = nothing_replayed(alloc, case.start.rows().as_slice())?;
-    add_answers(
-        alloc,
-        case.calls,
-        replay.services,
-        events,
-        server,
-        &mut replayed,
-    )?;
+    add_answers(alloc, case, replay, events, server, &mut replayed)?;
     Ok(replayed)
 }
 
@@ -91,21 +101,22 @@ fn nothing_replayed(alloc: Global, rows: &[Image]) -> Result<Replayed, Memory> {
         answers: Vec::new(alloc),
         pairs,
         own,
+        wrote: false,
     })
 }
 
 fn add_answers(
     alloc: Global,
-    calls: &[Captured],
-    services: &[Service],
+    case: &Case,
+    replay: &Replay,
     events: &[Event],
-    server: &mut Server,
+    server: &mut Followed,
     to: &mut Replayed,
 ) -> Result<(), anyhow::Error> {
     for event in events {
         if let Event::Answer(stamp, reply) = event {
-            match calls.get(*stamp as usize) {
-                Some(call) => add_answer(alloc, server, services, call, reply, to)?,
+            match case.calls.get(*stamp as usize) {
+                Some(call) => add_answer(alloc, case, replay, server, call, reply, to)?,
                 None => return Err(anyhow!("no such call")),
             }
         }
@@ -113,47 +124,101 @@ fn add_answers(
     Ok(())
 }
 
-// Adds an answer, whose ids are learnt.
+// Adds an answer.
 fn add_answer(
     alloc: Global,
-    server: &mut Server,
-    services: &[Service],
+    case: &Case,
+    replay: &Replay,
+    server: &mut Followed,
     call: &Captured,
     reply: &Reply,
     to: &mut Replayed,
 ) -> Result<(), anyhow::Error> {
-    let as_served = is_served(alloc, server, to.pairs.as_slice(), services, call, reply)?;
+    let sent = sent(alloc, to.pairs.as_slice(), replay.services, &call.call)?;
+    add_sent(alloc, case, server, call, &sent, reply, to)
+}
+
+// Adds an answer to what was sent, whose ids are learnt.
+fn add_sent(
+    alloc: Global,
+    case: &Case,
+    server: &mut Followed,
+    call: &Captured,
+    sent: &Call,
+    reply: &Reply,
+    to: &mut Replayed,
+) -> Result<(), anyhow::Error> {
+    let known = to.pairs.len();
     learn(&mut to.pairs, &call.reply, reply)?;
-    let answer = answer_of(alloc, to.pairs.as_slice(), call, reply, as_served)?;
+    let line = line_of(to.pairs.as_slice(), call, reply);
+    let before = to.pairs.get(..known).unwrap_or(&[]);
+    let plain = !to.wrote && is_plain(case, before, server, call);
+    let meets = line.class != Class::Same && meets(case, before, server, call, sent)?;
+    let told = server.answers(call.session, sent, reply)?;
+    let found = Found { told, meets, plain };
+    Ok(push_answer(alloc, line, call, reply, found, to)?)
+}
+
+fn push_answer(
+    alloc: Global,
+    line: Line,
+    call: &Captured,
+    reply: &Reply,
+    found: Found,
+    to: &mut Replayed,
+) -> Result<(), Memory> {
+    let answer = answer_of(alloc, line, call, reply, found)?;
+    to.wrote = to.wrote || (answer.commits && answer.differs());
     to.answers.push(answer)?;
     Ok(())
 }
 
-fn is_served(
-    alloc: Global,
-    server: &mut Server,
+// Whether a call meets what it met, where these are the pairs before its answer and this is sent.
+fn meets(
+    case: &Case,
     pairs: &[Pair],
-    services: &[Service],
+    server: &Followed,
     call: &Captured,
-    reply: &Reply,
+    sent: &Call,
 ) -> Result<bool, anyhow::Error> {
-    let sent = sent(alloc, pairs, services, &call.call)?;
-    server.answers(call.session, &sent, reply)
+    let met = server.met(call.session, sent)?;
+    match case.met.get(call.stamp as usize) {
+        Some(captured) => Ok(
+            captured.is_twin(pairs, &met)
+                && is_sent_alike(case.start.schema(), pairs, &call.call, sent),
+        ),
+        None => Err(anyhow!("no such call")),
+    }
+}
+
+// Whether a call is a plain read, where no commit before it differs and these are the pairs before its answer.
+fn is_plain(case: &Case, pairs: &[Pair], server: &Followed, call: &Captured) -> bool {
+    match (case.met.get(call.stamp as usize), &call.call) {
+        (Some(met), Call::Sql(text, binds)) => {
+            deed_of(text.as_str()) == Deed::Read
+                && met.is_quiet()
+                && server.is_quiet(call.session)
+                && have_images(pairs, binds.as_slice())
+        }
+        _ => false,
+    }
 }
 
 fn answer_of(
     alloc: Global,
-    pairs: &[Pair],
+    line: Line,
     call: &Captured,
     reply: &Reply,
-    as_served: bool,
+    found: Found,
 ) -> Result<Answer, Memory> {
     let captured = &call.reply;
     Ok(Answer {
-        line: line_of(pairs, call, reply),
+        line,
         captured: text(alloc, captured)?,
         replayed: text(alloc, reply)?,
-        as_served,
+        told: found.told,
+        meets: found.meets,
+        plain: found.plain,
         as_captured: captured.same(reply),
         numbered: call.number > 0,
         seen: call.seen,

@@ -1,5 +1,6 @@
 //! What a replay is of, in plain parts.
 
+use crate::meeting::Met;
 use crate::tables::Tables;
 use desk_schema::Start;
 use desk_values::{CallList, Captured, Copied, Image, Memory, Txt};
@@ -19,6 +20,8 @@ pub struct Case<'a> {
     pub calls: &'a [Captured],
     /// The tables of each.
     pub tables: &'a [Tables],
+    /// What each met.
+    pub met: &'a [Met],
     /// The committed rows at the end.
     pub end: &'a [Image],
 }
@@ -40,6 +43,10 @@ pub struct Replay<'a> {
     pub mode: Mode,
     /// Whether these are the captured start and services.
     pub again: bool,
+    /// Whether this is the captured start.
+    pub same_start: bool,
+    /// Whether this start has the captured schema, level and services.
+    pub same_schema: bool,
 }
 
 impl<'a> Model for Replay<'a> {
@@ -63,6 +70,15 @@ fn add_calls(sessions: &[CallList], calls: &mut Vec<Captured>) -> Result<(), Mem
         }
     }
     Ok(())
+}
+
+/// How many sessions there are, by the greatest number of one.
+pub fn sessions_in(calls: &[Captured]) -> u32 {
+    let mut sessions = 0u32;
+    for call in calls {
+        sessions = sessions.max(call.session.saturating_add(1));
+    }
+    sessions
 }
 
 fn with_stamp(sessions: &[CallList], stamp: u32) -> Option<&Captured> {

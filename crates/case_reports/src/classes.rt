@@ -108,7 +108,8 @@ fn is_carried(pairs: &[Pair], values: &[Value], others: &[Value]) -> bool {
     values.len() == others.len()
 }
 
-fn is_image(pairs: &[Pair], value: &Value, other: &Value) -> bool {
+/// Whether a value is another with its id exchanged for its image.
+pub fn is_image(pairs: &[Pair], value: &Value, other: &Value) -> bool {
     match id_of(value) {
         Some(id) => is_id_image(pairs, id, other),
         None => value.same(other),

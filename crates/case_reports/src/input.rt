@@ -16,7 +16,7 @@ pub struct Amount {
     pub seed: u32,
     /// How many captures.
     pub captures: u32,
-    /// How many replays of each; the four modes take turns.
+    /// How many replays of each; the modes take turns.
     pub replays: u32,
     /// How many calls a capture has at most, beside those that close sessions; it has at least half as many.
     pub calls: u32,
@@ -62,7 +62,7 @@ impl Input {
 
     /// Adds a line. A start file is told from its first line to its last one.
     pub fn add(&mut self, alloc: Global, line: &str) -> Result<(), anyhow::Error> {
-        if !self.file.is_empty() || line == "start 1" {
+        if !self.file.is_empty() || line.starts_with("start ") {
             self.add_to_file(alloc, line)
         } else {
             self.add_other(alloc, line)

@@ -2,6 +2,7 @@
 
 use crate::answers::Answer;
 use crate::totals::Totals;
+use object_depends::Mode;
 use std::alloc::Global;
 use std::marker::Model;
 
@@ -32,10 +33,15 @@ pub enum Rule {
     EndTables,
     Again,
     NoLine,
+    Listed,
+    Causes,
+    Reads,
+    SameReads,
+    NoUpgrade,
 }
 
 /// What each law says.
-const NAMES: [&str; 24] = [
+const NAMES: [&str; 29] = [
     "the journal is read back with its mode and events",
     "each call is started and answered once",
     "a call starts behind the answers that its mode waits for",
@@ -60,6 +66,11 @@ const NAMES: [&str; 24] = [
     "without a write divergence: the tables are the captured ones by the final map",
     "order, captured start, own services: each reply is the captured one",
     "order, captured start, own services: the report has no line",
+    "what a call sees, touches, holds and commits is that of plain lists",
+    "causes.csv",
+    "fence.txt",
+    "fence, captured start: a plain read is the same",
+    "the captured schema: no call is upgrade",
 ];
 
 /// How many replays by lanes are to take another order than the captured one.
@@ -154,9 +165,15 @@ impl Laws {
         }
     }
 
-    /// Counts the answers of a replay.
-    pub fn count(&mut self, answers: &[Answer]) {
+    /// Counts the answers of a replay in a mode.
+    pub fn count(&mut self, mode: Mode, answers: &[Answer]) {
         self.totals.add(answers);
+        self.totals.add_causes(mode, answers);
+    }
+
+    /// Counts the plain reads of a replay that tells them.
+    pub fn count_reads(&mut self, answers: &[Answer]) {
+        self.totals.add_reads(answers);
     }
 
     /// Counts a replay by whether its calls were answered in the captured order.

@@ -1,13 +1,13 @@
 //! The laws of a whole replay.
 
 use crate::answers::{Answer, Replayed, answer_to, replay_of};
-use crate::case::{Case, Replay};
+use crate::case::{Case, Replay, sessions_in};
 use crate::classes::are_carried;
+use crate::following::Followed;
 use crate::history::{are_once, take_turns};
 use crate::laws::{Laws, Rule};
 use crate::pairs::stand_once;
-use crate::server::Server;
-use crate::texts;
+use crate::{causes, texts};
 use anyhow::anyhow;
 use case_replays::Board;
 use desk_values::{Bytes, Event, Image, Memory, Same};
@@ -74,7 +74,7 @@ fn look_at_events(
     events: &[Event],
     laws: &mut Laws,
 ) -> Result<(), anyhow::Error> {
-    let mut server = Server::load(alloc, replay.target)?;
+    let mut server = Followed::load(alloc, replay.target, sessions_in(case.calls))?;
     look_at_answers(alloc, case, replay, board, events, &mut server, laws)
 }
 
@@ -84,11 +84,11 @@ fn look_at_answers(
     replay: &Replay,
     board: &Board,
     events: &[Event],
-    server: &mut Server,
+    server: &mut Followed,
     laws: &mut Laws,
 ) -> Result<(), anyhow::Error> {
     let replayed = replay_of(alloc, case, replay, events, server)?;
-    laws.count(replayed.answers.as_slice());
+    laws.count(replay.mode, replayed.answers.as_slice());
     laws.see(Rule::Pairs, stand_once(replayed.pairs.as_slice()));
     look_at_replies(replayed.answers.as_slice(), laws);
     look_at_end(alloc, case, replay, board, server, &replayed, laws)
@@ -99,7 +99,7 @@ fn look_at_end(
     case: &Case,
     replay: &Replay,
     board: &Board,
-    server: &Server,
+    server: &Followed,
     replayed: &Replayed,
     laws: &mut Laws,
 ) -> Result<(), anyhow::Error> {
@@ -111,12 +111,14 @@ fn look_at_end(
         look_at_seen(replayed.answers.as_slice(), laws);
     }
     look_at_tables(alloc, board, replayed, tables.as_slice(), laws)?;
-    look_at_told(alloc, case, replay, board, replayed, laws)
+    look_at_told(alloc, case, replay, board, replayed, laws)?;
+    causes::look(alloc, replay, board, replayed.answers.as_slice(), laws)
 }
 
 fn look_at_replies(answers: &[Answer], laws: &mut Laws) {
     for answer in answers {
-        laws.see_at(Rule::Served, answer.line.stamp, answer.as_served);
+        laws.see_at(Rule::Served, answer.line.stamp, answer.told.as_served);
+        laws.see_at(Rule::Listed, answer.line.stamp, answer.told.as_listed);
     }
 }
 

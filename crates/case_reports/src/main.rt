@@ -5,30 +5,43 @@
 //! that was written and the capture. In the modes `scn`, `order` and `fence` it is also looked at whether commits
 //! keep their order, and whether the tables at the end are the captured ones.
 //!
+//! Why a call differs, and which calls are plain reads, is worked out by plain lists: of the committed rows, and of what each
+//! session may do, reads, has changed, holds and has set as savepoints, in the capture and in the replay. The lists go by what
+//! was asked and answered; which rows a statement touches, and what they are then, the machine is asked by SELECTs of the
+//! session. It is looked at whether the lists are what a session sees behind each statement and what it commits.
+//!
 //! Then as many captures as are asked for are replayed by 2 to 8 lanes, in the same modes, with a door that holds each call for a
 //! random time, and the same is looked at of each: all but what the desk says on the way. How many of these replays took
 //! another order than the captured one is told on the standard error, since it hangs on the threads.
 //!
-//! Enters: lines of the standard input: start files, each from `start 1` to `end`; kinds of calls, as `case_random` has
+//! Enters: lines of the standard input: start files, each from `start 1` or `start 2` to `end`; kinds of calls, as `case_random` has
 //! them; `remap OLD NEW`, a service that may be sent as another; `random SEED CAPTURES REPLAYS CALLS SESSIONS`, with
 //! the replays of each capture and the most calls of one; `lanes` with the same of the replays by lanes. The first start
 //! is captured, and a replay begins with any of them. Leaves: lines, the same each time: how much there was, how often
-//! each class came, and of each law how often it was looked at and whether it held, or the first place where it did not.
+//! each class and each cause came, and of each law how often it was looked at and whether it held, or the first place where it did not.
 //! It touches the standard input, output and error, threads and the clock alone.
 #![tactic(auto)]
 
 mod answers;
+mod captures;
 mod case;
+mod causes;
 mod classes;
 mod drive;
+mod following;
 mod history;
 mod input;
 mod lanes;
 mod laws;
+mod lists;
 mod looks;
+mod meeting;
+mod own;
 mod pairs;
 mod rounds;
 mod server;
+mod sessions;
+mod statements;
 mod tables;
 mod texts;
 mod totals;

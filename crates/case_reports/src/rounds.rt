@@ -4,6 +4,7 @@ ghost use Rattle.std.specs.Prelude.{◌≤◌, length};
 ghost use Rattle.captured_calls.specs.Sessions.{AreSessionsFrom};
 ghost use Rattle.prepare_plan.specs.Lists.{lists_of};
 
+use crate::captures::captured_again;
 use crate::case::{Case, Replay, Service, by_stamp};
 use crate::drive::{desk_of, drive, job_for};
 use crate::history::{rises, waits_of};
@@ -11,13 +12,13 @@ use crate::input::{Amount, Input};
 use crate::lanes::run_by_lanes;
 use crate::laws::Laws;
 use crate::looks::look;
-use crate::server::captured_again;
+use crate::meeting::Met;
 use crate::tables::tables_of;
 use anyhow::anyhow;
 use case_random::{Random, random_capture};
 use case_replays::Board;
 use desk_schema::Start;
-use desk_values::{Captured, Image, SessionLists};
+use desk_values::{Captured, Image, Same, SessionLists};
 use object_depends::Mode;
 use std::alloc::Global;
 use std::marker::Model;
@@ -133,14 +134,15 @@ fn captured_calls<R: Clock + Wait + Threads + Sync>(
     requires lists { AreSessionsFrom 0 (lists_of sessions.now) }
 {
     laws.enter_replay(0);
-    let end = captured_again(alloc, start, calls, laws)?;
+    let mut met = Vec::new(alloc);
+    let end = captured_again(alloc, start, calls, &mut met, laws)?;
     captured_end(
         alloc,
         rounds,
         start,
         sessions,
         calls,
-        end.as_slice(),
+        (end.as_slice(), met.as_slice()),
         random,
         laws,
     )
@@ -152,7 +154,7 @@ fn captured_end<R: Clock + Wait + Threads + Sync>(
     start: &Start,
     sessions: &SessionLists,
     calls: &[Captured],
-    end: &[Image],
+    ends: (&[Image], &[Met]),
     random: &mut Random,
     laws: &mut Laws,
 ) -> Result<(), anyhow::Error>
@@ -164,7 +166,8 @@ fn captured_end<R: Clock + Wait + Threads + Sync>(
         start,
         calls,
         tables: tables.as_slice(),
-        end,
+        met: ends.1,
+        end: ends.0,
     };
     replays(alloc, rounds, sessions, &case, random, laws)
 }
@@ -212,6 +215,8 @@ fn replay_next<R: Clock + Wait + Threads + Sync>(
                 services,
                 mode: mode_of(number),
                 again,
+                same_start: case.start.same(target),
+                same_schema: case.start.schema().same(target.schema()),
             };
             replay_so(alloc, rounds, sessions, case, &replay, random, laws)
         }

@@ -1,11 +1,10 @@
 //! The server of a replay, and what is sent to it in the place of captured calls.
 
 use crate::case::Service;
-use crate::laws::{Laws, Rule};
 use crate::pairs::{Pair, id_of, image_of, value_of};
 use anyhow::anyhow;
 use desk_schema::Start;
-use desk_values::{Binds, Call, Captured, Copied, Images, Memory, Reply, Same, Txt, Value};
+use desk_values::{Binds, Call, Copied, Images, Memory, Reply, Same, Txt, Value};
 use id_pairs::Id;
 use machine_model::PlainMachine;
 use std::alloc::Global;
@@ -51,35 +50,32 @@ impl Server {
         Ok(self.machine.step(session, call)?.same(reply))
     }
 
+    /// What a session is answered to a question, which changes nothing.
+    pub fn ask(
+        &mut self,
+        alloc: Global,
+        session: u32,
+        text: &str,
+        binds: &Binds,
+    ) -> Result<Reply, anyhow::Error> {
+        if session >= 64 || self.machine.steps() >= 1_048_576 {
+            return Err(anyhow!("no such session"));
+        }
+        let call = question(alloc, text, binds)?;
+        Ok(self.machine.step(session, &call)?)
+    }
+
     /// The committed rows.
     pub fn tables(&self) -> Result<Images, Memory> {
         self.machine.tables()
     }
 }
 
-/// The committed rows at the end of a capture. It is looked at whether a machine answers each call as captured.
-pub fn captured_again(
-    alloc: Global,
-    start: &Start,
-    calls: &[Captured],
-    laws: &mut Laws,
-) -> Result<Images, anyhow::Error> {
-    let mut server = Server::load(alloc, start)?;
-    answers_again(&mut server, calls, laws)
-}
-
-fn answers_again(
-    server: &mut Server,
-    calls: &[Captured],
-    laws: &mut Laws,
-) -> Result<Images, anyhow::Error> {
-    let mut all = true;
-    for call in calls {
-        let same = server.answers(call.session, &call.call, &call.reply)?;
-        all = all && same;
+fn question(alloc: Global, text: &str, binds: &Binds) -> Result<Call, anyhow::Error> {
+    match Txt::from_bytes(alloc, text.as_bytes()) {
+        Ok(text) => Ok(Call::Sql(text, binds.copy()?)),
+        Err(_) => Err(anyhow!("no text")),
     }
-    laws.see(Rule::Capture, all);
-    Ok(server.tables()?)
 }
 
 /// What is sent in the place of a captured call.

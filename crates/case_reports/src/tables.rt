@@ -81,8 +81,8 @@ fn named(alloc: Global, tables: &[Table], text: &[u8]) -> Result<Vec<bool>, Memo
     Ok(flags)
 }
 
-// Whether a word stands in a text outside quotes. Upper and lower case are the same.
-fn has_word(text: &[u8], word: &[u8]) -> bool {
+/// Whether a word stands in a text outside quotes. Upper and lower case are the same.
+pub fn has_word(text: &[u8], word: &[u8]) -> bool {
     let mut quoted = false;
     for (place, byte) in text.iter().enumerate() {
         quoted = quoted != (*byte == b'\'');

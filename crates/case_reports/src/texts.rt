@@ -112,6 +112,48 @@ fn append_field(field: &[u8], to: &mut Bytes) -> Result<(), Memory> {
     to.append(quote)
 }
 
+/// The records of why calls differ, where there are so many calls.
+pub fn causes(alloc: Global, answers: &[Answer], calls: u32) -> Result<Bytes, Memory> {
+    let mut text = List::new(alloc);
+    text.append(b"stamp,cause\n")?;
+    for stamp in 0..calls {
+        if let Some(answer) = differing(answers, stamp) {
+            append_u64(u64::from(stamp), &mut text)?;
+            text.append(cause(answer))?;
+        }
+    }
+    Ok(text)
+}
+
+fn cause(answer: &Answer) -> &'static [u8] {
+    if answer.meets {
+        b",upgrade\n"
+    } else {
+        b",timing\n"
+    }
+}
+
+/// The text of the plain reads, where there are so many calls.
+pub fn reads(alloc: Global, answers: &[Answer], calls: u32) -> Result<Bytes, Memory> {
+    let mut text = List::new(alloc);
+    text.append(b"fence 1\n")?;
+    for stamp in 0..calls {
+        if is_plain(answers, stamp) {
+            append_u64(u64::from(stamp), &mut text)?;
+            text.append(b"\n")?;
+        }
+    }
+    text.append(b"end\n")?;
+    Ok(text)
+}
+
+fn is_plain(answers: &[Answer], stamp: u32) -> bool {
+    match answer_to(answers, stamp) {
+        Some(answer) => answer.plain,
+        None => false,
+    }
+}
+
 /// The records of pairs.
 pub fn maps(alloc: Global, pairs: &[Pair]) -> Result<Bytes, Memory> {
     let mut text = List::new(alloc);

@@ -2,6 +2,8 @@
 
 use crate::answers::Answer;
 use crate::texts::{WORDS, times};
+use desk_values::Word;
+use object_depends::Mode;
 use std::alloc::Global;
 
 /// Counts of replays.
@@ -11,6 +13,12 @@ pub struct Totals {
     calls: u64,
     /// How many calls of each class.
     classes: [u64; 9],
+    /// How many calls that differ met something else than in the capture, in each mode.
+    timing: [u64; 5],
+    /// How many met the same.
+    upgrade: [u64; 5],
+    /// How many plain reads are told.
+    reads: u64,
 }
 
 impl Totals {
@@ -20,6 +28,9 @@ impl Totals {
             replays: 0,
             calls: 0,
             classes: [0; 9],
+            timing: [0; 5],
+            upgrade: [0; 5],
+            reads: 0,
         }
     }
 
@@ -29,6 +40,27 @@ impl Totals {
         self.calls = self.calls.saturating_add(answers.len() as u64);
         for (class, count) in self.classes.iter_mut().enumerate() {
             *count = count.saturating_add(times(answers, class));
+        }
+    }
+
+    /// Adds the causes of a replay in a mode.
+    pub fn add_causes(&mut self, mode: Mode, answers: &[Answer]) {
+        for answer in answers {
+            if answer.differs() {
+                let causes = if answer.meets {
+                    &mut self.upgrade
+                } else {
+                    &mut self.timing
+                };
+                add_one(causes, mode as usize);
+            }
+        }
+    }
+
+    /// Adds the plain reads of a replay that tells them.
+    pub fn add_reads(&mut self, answers: &[Answer]) {
+        for answer in answers {
+            self.reads = self.reads.saturating_add(u64::from(answer.plain));
         }
     }
 
@@ -49,8 +81,40 @@ impl Totals {
             self.calls.saturating_sub(same),
             to,
         )?;
-        append_classes(alloc, &self.classes, to)
+        append_classes(alloc, &self.classes, to)?;
+        append_line(alloc, "cause timing", sum(&self.timing), to)?;
+        append_line(alloc, "cause upgrade", sum(&self.upgrade), to)?;
+        append_modes(alloc, &self.timing, &self.upgrade, to)?;
+        append_line(alloc, "plain reads", self.reads, to)
     }
+}
+
+fn add_one(counts: &mut [u64], place: usize) {
+    if let Some(count) = counts.get_mut(place) {
+        *count = count.saturating_add(1);
+    }
+}
+
+fn sum(counts: &[u64]) -> u64 {
+    let mut sum = 0u64;
+    for count in counts {
+        sum = sum.saturating_add(*count);
+    }
+    sum
+}
+
+// The causes in each mode.
+fn append_modes(
+    alloc: Global,
+    timing: &[u64],
+    upgrade: &[u64],
+    to: &mut Vec<String>,
+) -> Result<(), anyhow::Error> {
+    for ((mode, timing), upgrade) in Mode::ALL.iter().zip(timing.iter()).zip(upgrade.iter()) {
+        let word = mode.word();
+        to.push(format!(in alloc; "causes in {word}: timing {timing}, upgrade {upgrade}")?)?;
+    }
+    Ok(())
 }
 
 fn append_classes(

@@ -1,9 +1,12 @@
 //! Laws of what the words and the files come to.
 
 ghost use Rattle.law_commands.specs.Commands.Complete.{CapturesAreMade, CapturesArePrepared, CapturesAreReplayed, CapturesAreTried, DivergencesAreAccepted, ErrandsEndSo, LegalCapturesArePrepared, LegalCapturesAreReplayed, ReportsAreRegistered, RunsAreCompared, RunsAreListed, StartsAreServed};
-ghost use Rattle.law_commands.specs.Commands.Ends.{JournalsTellTheirHistory, PlansTellTheirHistory, QuietRunsCarryTables, RunsAgainAreQuiet, TablesAreCarried};
+ghost use Rattle.law_commands.specs.Commands.Ends.{JournalsTellTheirHistory, OneIsTold, PlansTellTheirHistory, QuietRunsCarryTables, ReadsMeetTheirCommits, RunsAgainAreQuiet, TablesAreCarried, ToldIsQuiet};
 ghost use Rattle.law_commands.specs.Commands.Reports.{ReportsAreWhole, WrittenReportsAreRegistered};
 ghost use Rattle.law_commands.specs.Commands.Served.{ServedCapturesAreLegal, ServedCapturesAreNotBad, ServedCapturesAreNotBadToPrepare, ServedCapturesArePrepared, ServedCapturesAreReplayed};
+
+use divergence_cause::laws::{one_list_of_causes, unchanged_servers_upgrade_nothing};
+use fence_law::laws::{one_list_of_plain_reads, plain_reads_are_same};
 
 /// Completeness of `run`: where the words are its command, the files of the capture are there, each within the limit of one
 /// file and all within that of a capture, the remap file says services and the change file makes a target, each where one is named, and the calls are accepted, the calls are to be replayed. By the clause `each` of
@@ -56,11 +59,16 @@ pub fn reports_of_runs_are_registered()
     ensures registered { WrittenReportsAreRegistered }
 {}
 
-/// The journal that is written tells one history: the one that the replay had, that is reported on and that the other files are of.
+/// The journal that is written tells one history: the one that the replay had, that is reported on and that the other files are of. Of
+/// a history there is one list of plain reads and one of causes to tell.
 pub fn journals_tell_their_history()
     ensures journal { JournalsTellTheirHistory }
     ensures plan { PlansTellTheirHistory }
-{}
+    ensures told { OneIsTold }
+{
+    one_list_of_plain_reads();
+    one_list_of_causes();
+}
 
 /// A run that does again what the capture did, in its order, from its start and by its services, prints that no call differs; each
 /// reply of its journal is the captured one, and it ends in the captured state, whose tables it writes.
@@ -74,6 +82,20 @@ pub fn tables_are_carried()
     ensures carried { TablesAreCarried }
     ensures quiet { QuietRunsCarryTables }
 {}
+
+/// In the modes in which a numbered commit waits for every call before it, each call is answered where of the numbered commits just
+/// those are answered that it saw when it was captured.
+pub fn reads_meet_their_commits()
+    ensures { ReadsMeetTheirCommits }
+{}
+
+/// The calls that `fence.txt` names are the same, and `causes.csv` names no upgrade where the replay has the captured schema.
+pub fn told_is_quiet()
+    ensures { ToldIsQuiet }
+{
+    plain_reads_are_same();
+    unchanged_servers_upgrade_nothing();
+}
 
 /// What `serve` writes is a legal capture, as `run` and `prepare` read it, as long as it is within the limits of files: they do not refuse it,
 /// and by stamp it is all that was recorded. Of any size, neither calls it a bad capture.

@@ -8,6 +8,8 @@ use Rattle.std.specs.Option.{option_map}
 use Rattle.std.specs.Ordering.{eq_by_cmp, nat_cmp}
 use Rattle.std.proofs.lemmas.Map.Lookups.{CmpEqualImpliesEq, exact_bytes, exact_pairs, exact_unsigned}
 use Rattle.desk_files.specs.Outside.{Told}
+use Rattle.replay_history.specs.Class.{class_number}
+use Rattle.replay_history.specs.declared.report.Class.{Class}
 use Rattle.replay_history.specs.declared.report.Line.{Line}
 use Rattle.replay_history.specs.declared.report.Report.{Report}
 use Rattle.report_format.specs.ReportFile.{AreLinesFrom, IsReport}
@@ -17,11 +19,12 @@ use Rattle.run_register.specs.Register.{Divergence, DivergenceSet, RunMap, accep
 use Rattle.register_work.specs.declared.errand.Answer.{Answer}
 use Rattle.register_work.specs.declared.errand.Errand.{Errand}
 use Rattle.register_work.specs.declared.errand.Errand.TheVariants.{Register, Runs, Accept as Accepting, Compare}
+use Rattle.register_work.specs.declared.unkept.Unkept.{Unkept}
 use Rattle.register_work.specs.declared.unkept.Unkept.TheVariants.{BadRun}
 use Rattle.register_work.specs.Errand.{AreGood, AreRead, IsAnswered, IsCause, IsCompared, IsListed, RiseFrom, TellsDifferences, is_news}
 use Rattle.register_work.specs.Keeping.{Keeping}
 use Rattle.register_work.specs.Lines.{comparison_text, runs_text}
-use Rattle.register_work.proofs.OneEnd.{IsTold, run_one, runs_one}
+use Rattle.register_work.proofs.OneEnd.{IsTold, answered_alone, run_one, runs_one}
 use Rattle.register_work.proofs.OneList.{one_comparison}
 
 -- ---- one answer
@@ -90,7 +93,7 @@ twice : {X : Type 0} (b : Bool) (x y : X) → cond b x (cond b x y) ≡ cond b x
 twice true x y = refl
 twice false x y = refl
 
-pub once_more : (divergences : DivergenceSet) (d : Divergence) → insert (insert divergences d tt) d tt ≡ insert divergences d tt
+once_more : (divergences : DivergenceSet) (d : Divergence) → insert (insert divergences d tt) d tt ≡ insert divergences d tt
 once_more divergences d = same_map divergences_total divergences_apart _ _ (λ q.
     let known = get-insert divergences_total divergences d tt q in
     get-insert divergences_total (insert divergences d tt) d tt q
@@ -98,9 +101,26 @@ once_more divergences d = same_map divergences_total divergences_apart _ _ (λ q
     ∙ twice (eq_by_cmp divergence_cmp q d) (Some tt) (get divergences q)
     ∙ sym known)
 
+-- the set that is kept of one divergence accepted twice
+kept_twice : (divergences : Option DivergenceSet) (d : Divergence) → option_map (λ (told : DivergenceSet). insert told d tt) (option_map (λ (told : DivergenceSet). insert told d tt) divergences) ≡ option_map (λ (told : DivergenceSet). insert told d tt) divergences
+kept_twice None d = refl
+kept_twice (Some divergences) d = ap (λ (told : DivergenceSet). Some told) (once_more divergences d)
+
+pub accepted_same : (name : List ℕ) (stamp : ℕ) (class : Class) (k next : Keeping) (answer other : Answer) → next.runs_before ≡ k.runs_after → next.divergences_before ≡ k.divergences_after → IsAnswered (Accepting name stamp class) k answer → IsAnswered (Accepting name stamp class) next other → (other ≡ answer) × (next.runs_after ≡ k.runs_after) × (next.divergences_after ≡ k.divergences_after)
+accepted_same name stamp class k next answer other runs divergences is also =
+    let d : Divergence = (name, (stamp, class_number class)) in
+    let again : next.divergences_after ≡ option_map (λ (told : DivergenceSet). insert told d tt) (option_map (λ (told : DivergenceSet). insert told d tt) k.divergences_before) =
+    also.divergences ∙ ap (option_map (λ (told : DivergenceSet). insert told d tt)) (divergences ∙ is.divergences) in
+    (same_answer other answer (also.text ∙ sym is.text) (also.news ∙ sym is.news), also.runs ∙ runs, again ∙ kept_twice k.divergences_before d ∙ sym is.divergences)
+
+pub accepted_taken : (name : List ℕ) (stamp : ℕ) (class : Class) (k : Keeping) (answer : Answer) (cause : Unkept) (runs : RunMap) → k.runs_after ≡ Some runs → IsAnswered (Accepting name stamp class) k answer → IsCause (Accepting name stamp class) (Some runs) cause → ⊥
+accepted_taken name stamp class k answer cause runs left is caused =
+    let told : k.runs_before ≡ Some runs = sym is.runs ∙ left in
+    answered_alone (Accepting name stamp class) answer k cause (subst IsTold (sym told) tt) is (subst (λ (rs : Option RunMap). IsCause (Accepting name stamp class) rs cause) (sym told) caused)
+
 -- ---- bad lines
 
-pub from_one : (errand : Errand) (runs : RunMap) (name : List ℕ) (line : ℕ) → IsCause errand (Some runs) (BadRun name line) → 1 ≤ line
+pub from_one : (errand : Errand) (runs : Option RunMap) (name : List ℕ) (line : ℕ) → IsCause errand runs (BadRun name line) → 1 ≤ line
 from_one (Register run bytes report) runs name line caused = absurd caused
 from_one Runs runs name line caused = let number = caused.2.bad.number in omega (arith, number)
 from_one (Accepting run stamp class) runs name line caused = let number = caused.1.bad.number in omega (arith, number)

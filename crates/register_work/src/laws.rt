@@ -1,20 +1,20 @@
 //! An errand comes to one thing, where the runs are told, and what is kept stays good. The functions do nothing: their contracts are
 //! the laws.
 
-ghost use Rattle.std.specs.Prelude.{◌≡◌, ◌≤◌, ℕ, List, Some};
-ghost use Rattle.std.specs.FinMap.{insert};
+ghost use Rattle.std.specs.Prelude.{◌≡◌, ◌≤◌, ℕ, List, Option, Some};
+ghost use Rattle.replay_history.specs.declared.report.Class.{Class};
 ghost use Rattle.replay_history.specs.declared.report.Line.{Line};
 ghost use Rattle.replay_history.specs.declared.report.Report.{Report};
 ghost use Rattle.report_format.specs.ReportFile.{IsReport};
 ghost use Rattle.run_register.specs.declared.comparison.Difference.{Difference};
 ghost use Rattle.run_register.specs.declared.kept.Accept.{Accept};
 ghost use Rattle.run_register.specs.Comparison.{AreDifferences};
-ghost use Rattle.run_register.specs.Register.{Divergence, DivergenceSet, RunMap};
+ghost use Rattle.run_register.specs.Register.{DivergenceSet, RunMap};
 ghost use Rattle.register_work.specs.Errand.{AreGood, IsAnswered, IsCause, RiseFrom};
 ghost use Rattle.register_work.specs.Keeping.{Keeping};
 ghost use Rattle.register_work.specs.declared.errand.Answer.{Answer as AnswerSeen};
 ghost use Rattle.register_work.specs.declared.errand.Errand.{Errand as ErrandSeen};
-ghost use Rattle.register_work.specs.declared.errand.Errand.TheVariants.{Register};
+ghost use Rattle.register_work.specs.declared.errand.Errand.TheVariants.{Register, Accept as Accepting};
 ghost use Rattle.register_work.specs.declared.unkept.Unkept.{Unkept as UnkeptSeen};
 ghost use Rattle.register_work.specs.declared.unkept.Unkept.TheVariants.{BadRun};
 
@@ -44,15 +44,20 @@ pub fn one_comparison()
         → RiseFrom 0 a → RiseFrom 0 b → AreDifferences a b accepted found → AreDifferences a b accepted other → found ≡ other }
 {}
 
-/// A divergence that is accepted once more changes nothing.
+/// A divergence that is accepted once more is answered by the same line, changes nothing, and is not refused.
 pub fn accepted_once_more()
-    ensures { (divergences : DivergenceSet) (d : Divergence) → insert (insert divergences d tt) d tt ≡ insert divergences d tt }
+    ensures same { (name : List ℕ) (stamp : ℕ) (class : Class) (k next : Keeping) (answer other : AnswerSeen)
+        → next.runs_before ≡ k.runs_after → next.divergences_before ≡ k.divergences_after
+        → IsAnswered (Accepting name stamp class) k answer → IsAnswered (Accepting name stamp class) next other
+        → (other ≡ answer) × (next.runs_after ≡ k.runs_after) × (next.divergences_after ≡ k.divergences_after) }
+    ensures taken { (name : List ℕ) (stamp : ℕ) (class : Class) (k : Keeping) (answer : AnswerSeen) (cause : UnkeptSeen) (runs : RunMap)
+        → k.runs_after ≡ Some runs → IsAnswered (Accepting name stamp class) k answer → IsCause (Accepting name stamp class) (Some runs) cause → ⊥ }
 {}
 
-/// The line of a bad report that is told is one from 1 on.
+/// The line of a bad report that is told is one from 1 on, also of a register that tells nothing.
 pub fn bad_lines_are_from_one()
-    ensures { (errand : ErrandSeen) (runs : RunMap) (name : List ℕ) (line : ℕ)
-        → IsCause errand (Some runs) (BadRun name line) → 1 ≤ line }
+    ensures { (errand : ErrandSeen) (runs : Option RunMap) (name : List ℕ) (line : ℕ)
+        → IsCause errand runs (BadRun name line) → 1 ≤ line }
 {}
 
 /// Where all that is kept is reports, no cause is a bad one.

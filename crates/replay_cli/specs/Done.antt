@@ -1,5 +1,5 @@
 -- What each task comes to: its files and its line.
-use Rattle.std.specs.Prelude.{◌≡◌, ℕ, ◌+◌, false, nat_lt, List, [], ◌∷◌, ◌++◌, length, Option}
+use Rattle.std.specs.Prelude.{◌≡◌, ℕ, ◌+◌, false, nat_lt, List, [], ◌∷◌, ◌++◌, length, Option, None, Some}
 use Rattle.std.specs.List.{AllByRecursion}
 use Rattle.desk_values.specs.declared.capture.Captured.{Captured}
 use Rattle.desk_values.specs.declared.capture.Event.{Event}
@@ -9,7 +9,7 @@ use Rattle.capture_format.specs.StartFile.{IsStartFile, start_text}
 use Rattle.capture_format.specs.SessionFile.{session_text}
 use Rattle.captured_calls.specs.Facts.{facts_of}
 use Rattle.captured_calls.specs.Verdict.{IsLegal}
-use Rattle.replay_history.specs.declared.mode.Mode.TheVariants.{Order}
+use Rattle.replay_history.specs.declared.mode.Mode.TheVariants.{Order, Fence}
 use Rattle.replay_history.specs.Capture.{commits_in}
 use Rattle.replay_history.specs.Texts.{journal_text, report_text, tables_text}
 use Rattle.object_depends.specs.Csv.{requires_text}
@@ -19,10 +19,15 @@ use Rattle.replay_job.specs.Job.{HasMoments, JobView}
 use Rattle.replay_job.specs.Runs.{IsCompleteFor, Stage, end_tables, learnt_in}
 use Rattle.replay_report.specs.Report.{report_in}
 use Rattle.replay_report.specs.Differences.{csv_text}
+use Rattle.fence_law.specs.Plain.{ArePlainReads}
+use Rattle.fence_law.specs.Text.{fence_text}
+use Rattle.divergence_cause.specs.Causes.{AreCauses}
+use Rattle.divergence_cause.specs.Text.{causes_text}
 use Rattle.capture_recorder.specs.Limits.{generated_sessions}
 use Rattle.capture_recorder.specs.Generated.{generated}
 use Rattle.captured_calls.specs.Sessions.{session_lists}
 use Rattle.replay_cli.specs.declared.plan.Plan.{Plan}
+use Rattle.replay_cli.specs.declared.told.Told.{Told}
 use Rattle.replay_cli.specs.Decision.{Task, ToReplay, ToTell, ToServe, ToMake, ToTry, ToKeep}
 use Rattle.desk_files.specs.Hosts.{Connections}
 use Rattle.capture_serve.specs.Service.{AreReadFrom, CaptureView, IsService}
@@ -32,17 +37,46 @@ use Rattle.register_work.specs.Errand.{IsAnswered}
 use Rattle.register_work.specs.Keeping.{Keeping}
 use Rattle.replay_cli.specs.Hosting.{Hosting, IsHostUnasked, IsKeeperUntouched, IsUnasked}
 use Rattle.replay_job.specs.Jobs.{job_of}
-use Rattle.replay_cli.specs.FileNames.{journal_name, maps_name, report_name, requires_name, session_name, start_name, table_of_report_name, tables_name}
+use Rattle.replay_cli.specs.FileNames.{causes_name, fence_name, journal_name, maps_name, report_name, requires_name, session_name, start_name, table_of_report_name, tables_name}
+
+-- ---- what is told of a replay beside its report
+
+-- numbered commits wait for all calls before them, and the replay begins with the captured start
+pub record IsFenced (job : JobView) : Type 0 where
+  pub mode : job.mode ≡ Fence
+  pub target : job.target ≡ job.start
+
+-- where the job is fenced, the stamps of the plain reads; else none are told
+abbrev pub AreReadsOf : JobView → List Event → Option (List ℕ) → Type 0
+AreReadsOf job history None = ¬ IsFenced job
+AreReadsOf job history (Some stamps) = IsFenced job × ArePlainReads job history stamps
+
+-- the plain reads, and why calls differ
+pub record IsToldOf (job : JobView) (history : List Event) (told : Told) : Type 0 where
+  pub reads_are : AreReadsOf job history told.reads
+  pub causes_are : AreCauses job history told.causes
 
 -- ---- what is written, one file after the other
 
-abbrev pub replayed_files : List ℕ → JobView → List Event → Stage → List Write
-replayed_files out job history last =
+-- the files of a history, of the report on it and of what it ends in
+abbrev pub history_files : List ℕ → JobView → List Event → Stage → List Write
+history_files out job history last =
     record { name = journal_name out; bytes = journal_text job.mode history }
     ∷ record { name = report_name out; bytes = report_text (report_in job history) }
     ∷ record { name = table_of_report_name out; bytes = csv_text job.calls history (report_in job history).lines }
     ∷ record { name = tables_name out; bytes = tables_text (end_tables last.state) }
     ∷ record { name = maps_name out; bytes = maps_text (learnt_in job.calls history) } ∷ []
+
+-- the file of the plain reads, where they are told
+abbrev pub fence_files : List ℕ → Option (List ℕ) → List Write
+fence_files out None = []
+fence_files out (Some stamps) = record { name = fence_name out; bytes = fence_text stamps } ∷ []
+
+abbrev pub told_files : List ℕ → Told → List Write
+told_files out told = fence_files out told.reads ++ record { name = causes_name out; bytes = causes_text told.causes } ∷ []
+
+abbrev pub replayed_files : List ℕ → JobView → List Event → Stage → Told → List Write
+replayed_files out job history last told = history_files out job history last ++ told_files out told
 
 -- the files of sessions from this number on, of this version
 abbrev pub session_files : List ℕ → ℕ → ℕ → List (List Captured) → List Write
@@ -78,9 +112,15 @@ pub record IsReported (job : JobView) (history : List Event) (plan : Plan) : Typ
 abbrev pub IsReplayOf : JobView → List Event → Stage → Type 0
 IsReplayOf job history last = IsCompleteFor job history last × AllByRecursion IsEvent history
 
+-- the files are those of this replay
+pub record IsWritten (out : List ℕ) (job : JobView) (history : List Event) (last : Stage) (writes : List Write) : Type 0 where
+  pub told : Told
+  pub told_is : IsToldOf job history told
+  pub writes_are : writes ≡ replayed_files out job history last told
+
 -- the line and the files are those of this replay
 abbrev pub IsDoneBy : List ℕ → JobView → Plan → List Event → Stage → Type 0
-IsDoneBy out job plan history last = IsReplayOf job history last × IsReported job history plan × (plan.writes ≡ replayed_files out job history last)
+IsDoneBy out job plan history last = IsReplayOf job history last × IsReported job history plan × IsWritten out job history last plan.writes
 
 -- the job of replaying calls as they are: from their own start, in their order and without pauses
 abbrev pub trial_job : StartView → List Captured → JobView

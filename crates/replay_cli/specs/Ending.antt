@@ -85,14 +85,14 @@ abbrev pub Reports : Result Plan Failure → ℕ → Option (List ℕ) → Optio
 Reports done result before after faults_before faults_after =
     ((result ≡ status_of done) × Appends (line_of done) before after × (faults_after ≡ faults_before))
     ⊎ (((result ≡ 6) × Appends (failure_line OutOfMemory) before after × (faults_after ≡ faults_before) × ¬ IsErrOf done DeviceFault × IsErr done)
-    ⊎ ((result ≡ 5) × HasRisen faults_before faults_after × (AppendsPart (line_of done) before after ⊎ AppendsPart (failure_line OutOfMemory) before after)))
+    ⊎ ((result ≡ 5) × HasRisen faults_before faults_after × (AppendsPart (line_of done) before after ⊎ (AppendsPart (failure_line OutOfMemory) before after × ¬ IsErrOf done DeviceFault × IsErr done))))
 
 -- ---- the top call
 
 abbrev pub IsOutside : ℕ → Type 0
 IsOutside result = (result ≡ 5) ⊎ (result ≡ 6)
 
--- a task that is done has status 0, or 1 where calls differ or a comparison found something new, its line and its files
+-- a task that is done has status 0, or 1 where calls differ or a comparison found something new or changed, its line and its files
 abbrev pub EndsDone : Task → FileMap → FileMap → Hosting → ℕ → Option (List ℕ) → Option (List ℕ) → Type 0
 EndsDone task files files_after h result before after =
     (plan : Plan) × IsDone task plan h × (files_after ≡ with_all plan.writes files) × (result ≡ done_status plan.differs) × Appends plan.line before after
@@ -102,13 +102,14 @@ abbrev pub EndsFound : Task → FileMap → FileMap → Hosting → ℕ → Opti
 EndsFound task files files_after h result before after =
     (finding : Finding) × IsFoundOf task finding h × (files_after ≡ files) × (result ≡ 9) × Appends (finding_line finding) before after
 
--- one of which the errand is not done has the status and the line of the cause, and changes no file
+-- one of which the errand is not done has the status and the line of the cause, and changes no file and nothing that is kept
 abbrev pub EndsNotDone : Task → FileMap → FileMap → Hosting → ℕ → Option (List ℕ) → Option (List ℕ) → Type 0
 EndsNotDone task files files_after h result before after =
     (cause : Unkept) × IsCauseOf task cause h × (files_after ≡ files) × (result ≡ unkept_status cause) × Appends (unkept_line cause) before after
 
 -- The end that a verdict has: a failure has its status and its line, changes no file and asks neither host nor keeper; a task that is done has those of what it
--- came to. Or else a device failed or memory was short, and the task is done in part.
+-- came to. Or else a device failed or memory was short, and the task is done in part, or done and not told;
+-- the clause `line` says more of the register.
 abbrev pub Ends : Result Task Failure → FileMap → FileMap → ℕ → ℕ → Hosting → ℕ → Option (List ℕ) → Option (List ℕ) → Type 0
 Ends (Err failure) files files_after fb fa h result before after =
     (files_after ≡ files) × IsUnasked h × (((result ≡ failure_status failure) × Appends (failure_line failure) before after) ⊎ IsOutside result)

@@ -32,5 +32,11 @@ tables_name folder = folder ++ codes "/tables.txt"
 abbrev pub maps_name : List ℕ → List ℕ
 maps_name folder = folder ++ codes "/maps.csv"
 
+abbrev pub fence_name : List ℕ → List ℕ
+fence_name folder = folder ++ codes "/fence.txt"
+
+abbrev pub causes_name : List ℕ → List ℕ
+causes_name folder = folder ++ codes "/causes.csv"
+
 abbrev pub requires_name : List ℕ → List ℕ
 requires_name folder = folder ++ codes "/requires.csv"

@@ -28,7 +28,7 @@ IsHostUnasked h = (h.after ≡ h.before) × (h.faults_after ≡ h.faults_before)
 abbrev pub IsKeeperUntouched : Hosting → Type 0
 IsKeeperUntouched h = KeepsAll h.keeper Answered
 
--- neither was asked
+-- both are as if they had not been asked
 abbrev pub IsUnasked : Hosting → Type 0
 IsUnasked h = IsHostUnasked h × IsKeeperUntouched h
 

@@ -17,6 +17,7 @@ mod reading;
 mod replay;
 mod running;
 mod serving;
+mod told;
 mod work;
 
 pub use arguments::{Arguments, Called, arguments_of, word_of};
@@ -25,4 +26,5 @@ pub use desk_words::{Command, Ways};
 pub use failure::{Failure, Refusal};
 pub use main_call::{replay_main, report_want_of_memory};
 pub use plan::Plan;
+pub use told::Told;
 pub use work::Work;

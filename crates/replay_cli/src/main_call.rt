@@ -27,7 +27,7 @@ use std::time::Clock;
 ///
 /// | words | what they do | line |
 /// |---|---|---|
-/// | `run CAPTURE OUT` | replay the capture in the folder CAPTURE, and write `journal.txt`, `report.txt`, `report.csv`, `tables.txt` and `maps.csv` into OUT | `replayed N calls, D divergent` |
+/// | `run CAPTURE OUT` | replay the capture in the folder CAPTURE, and write `journal.txt`, `report.txt`, `report.csv`, `tables.txt`, `maps.csv` and `causes.csv` into OUT; with `--mode fence` on the captured start, before the last one, `fence.txt` too | `replayed N calls, D divergent` |
 /// | `prepare CAPTURE OUT` | test the capture, and write into OUT as `requires.csv` which calls wait for which | `prepared N calls` |
 /// | `serve CAPTURE START N` | serve N connections, each a session of the start in the file START, and write what they say as a capture into the folder CAPTURE | `served C connections, N calls`, and with `, M short of memory` behind it where there were such connections |
 /// | `generate N OUT` | write a capture of N calls into OUT | `generated N calls` |

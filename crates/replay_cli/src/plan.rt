@@ -10,7 +10,7 @@ ghost use Rattle.captured_calls.specs.Sessions.{AreSessionsFrom};
 ghost use Rattle.prepare_plan.specs.Lists.{lists_of};
 ghost use Rattle.desk_words.specs.Within.{IsCallCount, IsLaneCount};
 ghost use Rattle.replay_cli.specs.Decision.{ToMake, ToReplay, ToTell, ToTry};
-ghost use Rattle.replay_cli.specs.Done.{IsDone, IsDoneAlone, IsQuiet, IsTried, capture_files, made_calls, made_lists, made_start, replayed_files, session_files};
+ghost use Rattle.replay_cli.specs.Done.{IsDone, IsDoneAlone, IsQuiet, IsTried, IsWritten, capture_files, history_files, made_calls, made_lists, made_start, session_files};
 ghost use Rattle.register_work.specs.Keeping.{keeping};
 ghost use Rattle.replay_cli.specs.Hosting.{hosting};
 ghost use Rattle.replay_cli.specs.Inside.Serving.{AsksFor, PlanFails, WorkFaults};
@@ -25,9 +25,10 @@ ghost use Rattle.capture_recorder.specs.Limits.{generated_sessions};
 
 use crate::errands::keeping;
 use crate::failure::Failure;
-use crate::file_names::{name_in, session_name};
+use crate::file_names::{session_name, write_in};
 use crate::replay::trial_of;
 use crate::serving::serving;
+use crate::told::{append_told, told_on};
 use crate::work::Work;
 use capture_format::{write_session, write_start};
 use capture_recorder::{GENERATED_SESSIONS, Recorder, generate, sessions_of};
@@ -162,7 +163,25 @@ fn replayed_files(
     requires out { length out.now ≤ 900 }
     requires report { report.now ≡ report_in desk.now.job desk.now.history }
     requires replay { IsToldReplay desk.now.job desk.now.history desk.now.stage }
-    ensures { IfOk result (λ writes. writes ≡ replayed_files out.now desk.now.job desk.now.history desk.now.stage) }
+    ensures { IfOk result (λ writes. IsWritten out.now desk.now.job desk.now.history desk.now.stage writes) }
+{
+    let told = told_on(alloc, desk, report)?;
+    let mut writes = history_files(alloc, out, desk, report)?;
+    append_told(alloc, out, &told, &mut writes)?;
+    Ok(writes)
+}
+
+/// What is written of its history, of the report on it and of what it ends in.
+fn history_files(
+    alloc: Global,
+    out: &Txt,
+    desk: &Desk,
+    report: &Report,
+) -> Result<List<Write>, Memory>
+    requires out { length out.now ≤ 900 }
+    requires report { report.now ≡ report_in desk.now.job desk.now.history }
+    requires replay { IsToldReplay desk.now.job desk.now.history desk.now.stage }
+    ensures { IfOk result (λ writes. writes ≡ history_files out.now desk.now.job desk.now.history desk.now.stage) }
 {
     let (job, history) = (desk.job(), desk.history());
     let journal = journal_text(alloc, job.mode, history)?;
@@ -177,16 +196,6 @@ fn replayed_files(
     writes.push(write_in(alloc, out, "/tables.txt", tables)?)?;
     writes.push(write_in(alloc, out, "/maps.csv", maps)?)?;
     Ok(writes)
-}
-
-/// What is written of a file in a folder.
-fn write_in(alloc: Global, folder: &Txt, file: &str, bytes: Bytes) -> Result<Write, Memory>
-    requires folder { length folder.now ≤ 900 }
-    requires file { length file.now ≤ 100 }
-    ensures { IfOk result (λ write. write ≡ record { name = folder.now ++ file.now; bytes = bytes }) }
-{
-    let name = name_in(alloc, folder, file)?;
-    Ok(Write { name, bytes })
 }
 
 /// Which calls wait for which.

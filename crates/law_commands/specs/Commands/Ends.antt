@@ -1,18 +1,26 @@
 -- What a replay that is done has written. That its job can be replayed follows from what the words and the files come to.
-use Rattle.std.specs.Prelude.{◌≡◌, ℕ, List, length}
+use Rattle.std.specs.Prelude.{◌≡◌, ◌↔◌, ℕ, ◌≤◌, true, List, length, IfSome}
+use Rattle.desk_values.specs.declared.call.Reply.{Reply}
+use Rattle.desk_values.specs.declared.capture.Captured.{Captured}
 use Rattle.desk_values.specs.declared.capture.Event.{Event}
 use Rattle.machine_model.specs.State.{State}
 use Rattle.replay_history.specs.declared.mode.Mode.{Mode}
+use Rattle.replay_history.specs.Capture.{commits}
+use Rattle.replay_history.specs.Gap.{IsCallAt}
+use Rattle.replay_history.specs.History.{AnswersAt, IsAnsweredBefore}
 use Rattle.replay_history.specs.Texts.{journal_text}
 use Rattle.replay_job.specs.Job.{JobView}
 use Rattle.replay_job.specs.Replays.{IsSoundJob}
 use Rattle.replay_job.specs.Runs.{Stage, end_tables}
 use Rattle.replay_report.specs.JournalFile.{IsJournal}
-use Rattle.law_replays.specs.End.Answers.{HasNoWriteDivergence, IsAgain, WaitsForCommits}
+use Rattle.law_replays.specs.End.Answers.{FencesCommits, HasNoWriteDivergence, IsAgain, WaitsForCommits}
 use Rattle.law_replays.specs.End.Laws.{IsAsCaptured}
 use Rattle.law_replays.specs.End.Tables.{AreCarried, CameTo}
+use Rattle.fence_law.specs.Laws.{AreSame}
+use Rattle.divergence_cause.specs.Causes.{AllAreTiming}
 use Rattle.replay_cli.specs.declared.plan.Plan.{Plan}
-use Rattle.replay_cli.specs.Done.{IsDoneBy, IsQuiet}
+use Rattle.replay_cli.specs.declared.told.Told.{Told}
+use Rattle.replay_cli.specs.Done.{IsDoneBy, IsQuiet, IsToldOf}
 use Rattle.replay_cli.specs.Lines.{replayed_line}
 
 -- the journal that is written is that of the replay's history, and of no other
@@ -27,6 +35,10 @@ JournalsTellTheirHistory = (out : List ℕ) (job : JobView) (plan : Plan) (histo
 abbrev pub PlansTellTheirHistory : Type 0
 PlansTellTheirHistory = (out : List ℕ) (job : JobView) (plan : Plan) (history other : List Event) (last later : Stage)
     → IsDoneBy out job plan history last → IsDoneBy out job plan other later → other ≡ history
+
+-- and beside the report on it one thing is told of it
+abbrev pub OneIsTold : Type 0
+OneIsTold = (job : JobView) (history : List Event) (told other : Told) → IsToldOf job history told → IsToldOf job history other → told ≡ other
 
 -- where a run does again what the capture did, nothing differs: each reply is the captured one, and the tables are so too
 abbrev pub RunsAgainAreQuiet : Type 0
@@ -47,3 +59,16 @@ QuietRunsCarryTables = (out : List ℕ) (job : JobView) (plan : Plan) (history :
     → IsSoundJob job → WaitsForCommits job.mode
     → IsDoneBy out job plan history last → IsQuiet plan → CameTo job captured
     → AreCarried last.pairs (end_tables captured) (end_tables last.state)
+
+-- where numbered commits wait for all calls before them, just those of them are answered before a call that it saw
+abbrev pub ReadsMeetTheirCommits : Type 0
+ReadsMeetTheirCommits = (out : List ℕ) (job : JobView) (plan : Plan) (history : List Event) (last : Stage)
+    → IsSoundJob job → FencesCommits job.mode → IsDoneBy out job plan history last
+    → (i k m : ℕ) (call other : Captured) (reply : Reply) → IsCallAt job.calls k call → IsCallAt job.calls m other
+    → AnswersAt history i k reply → commits other.reply.outcome ≡ true → IsAnsweredBefore history i m ↔ (other.number ≤ call.seen)
+
+-- the plain reads that are told are the same, and where the replay has the captured schema no call differs for the server
+abbrev pub ToldIsQuiet : Type 0
+ToldIsQuiet = (out : List ℕ) (job : JobView) (plan : Plan) (history : List Event) (last : Stage) (told : Told)
+    → IsSoundJob job → IsDoneBy out job plan history last → IsToldOf job history told
+    → IfSome told.reads (AreSame job history) × (job.target.schema ≡ job.start.schema → AllAreTiming told.causes)

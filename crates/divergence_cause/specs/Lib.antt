@@ -1,0 +1,6 @@
+pub mod Cause
+pub mod Twins
+pub mod Causes
+pub mod Laws
+pub mod Text
+pub mod Inside

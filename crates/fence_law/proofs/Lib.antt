@@ -1,0 +1,9 @@
+mod Read
+mod Bare
+mod Plain
+mod Reading
+mod Marked
+mod One
+mod Walked
+mod Answering
+mod Imaged

@@ -1,0 +1,4 @@
+pub mod Ids
+pub mod Counts
+pub mod Captures
+pub mod Answers
