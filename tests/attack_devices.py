@@ -8,7 +8,7 @@ import subprocess
 from pathlib import Path
 
 import small_server
-from attack_program import CONNECT, HOST, PATIENCE, Client, Service, files_below, in_folder, outcome, ran, same, sql
+from attack_program import CONNECT, HOST, PATIENCE, Client, Service, files_below, in_folder, outcome, ran, same, sql, until
 
 EXAMPLE = Path(__file__).resolve().parent.parent / "examples/first"
 # The files of a run, in the order in which they are written.
@@ -16,6 +16,8 @@ ORDER = ("journal.txt", "report.txt", "report.csv", "tables.txt", "maps.csv", "c
 NEW = {name: (EXAMPLE / "replayed" / name).read_bytes() for name in ORDER}
 OLD = {name: b"old\n" for name in ORDER}
 FAULT = (5, "device fault\n")
+# The descriptors of a service: too few for a connection, and enough for one at a time with that of the next, which is taken before it comes.
+NONE, ONE = (4, 5), 7
 WORDS = ["run", "cap", "out", "--think", "0", "--connect", "0"]
 
 
@@ -161,12 +163,20 @@ def guests(port, count):
 
 
 def few_descriptors(program, folder):
-    """With descriptors for the port and one connection at most, a service of three ends where it cannot take the next, and no file is written."""
-    for most in range(4, 9):
+    """With descriptors for the port and less than a connection, a service ends where it cannot take the first, and no file is written. With those
+    of one more, clients that come one after the other are all served, since each gives back what it had."""
+    for most in NONE:
         with Service(program, folder, 3, preexec_fn=limited(resource.RLIMIT_NOFILE, most)) as service:
             for client in list(guests(service.port, 3)):
                 client.stream.close()
             same(f"{most} descriptors", service.ended(), FAULT)
+    with Service(program, folder, 3, into="one", preexec_fn=limited(resource.RLIMIT_NOFILE, ONE)) as service:
+        for _ in range(3):
+            until("no connection has descriptors", lambda: service.descriptors() == NONE[0])
+            with Client(service.port) as client:
+                same("a connect", client.ask(CONNECT), outcome("connected"))
+        same("one at a time", service.ended()[0], 0)
+    shutil.rmtree(folder / "one")
 
 
 @in_folder

@@ -6,8 +6,8 @@ from attack_program import CONNECT, SESSION, Client, Service, in_folder, outcome
 
 # Of a client that never reads: how long nothing more may be sent before it counts as stuck, and how much it sends at most.
 STUCK, MOST_SENT = 0.5, 64 << 20
-# How often the other client is answered beside it, and how many descriptors a connection has.
-BESIDE, ENDS = 8, 2
+# How often the other client is answered beside it.
+BESIDE = 8
 SELECT = sql("SELECT bal FROM acct WHERE id = :1", 1)
 
 
@@ -30,6 +30,7 @@ def nothing(client):
 def letters(client):
     client.send(b"a" * 8192)
     same("8,192 letters", client.answer(), (431, b"", True))
+    same("8,192 letters: the end", client.stream.recv(1), b"")
 
 
 def many_letters(client):
@@ -70,7 +71,7 @@ def leave(client, way):
 
 
 def visit(service, good, stranger, way):
-    """One stranger comes and leaves. Its thread ends, and its two descriptors stay with the others until the service ends."""
+    """One stranger comes and leaves. Its thread ends, and its descriptors are given back at once."""
     threads, descriptors = service.threads(), service.descriptors()
     client = Client(service.port, room=4096)
     stranger(client)
@@ -79,7 +80,7 @@ def visit(service, good, stranger, way):
         until("another thread", lambda: service.threads() == threads + 1)
     leave(client, way)
     until(f"{stranger.__name__}, {way}: its thread ends", lambda: service.threads() == threads)
-    same(f"{stranger.__name__}, {way}: descriptors", service.descriptors(), descriptors + ENDS)
+    same(f"{stranger.__name__}, {way}: descriptors", service.descriptors(), descriptors)
 
 
 @in_folder

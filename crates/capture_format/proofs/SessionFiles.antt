@@ -144,6 +144,6 @@ one_bad session version bytes line other bad also =
     let both : ◌≡◌ {A = Verdict} (Err line) (Err other) = once (Comes session_form) is_ended (says_one session_form session_reader) (new_view session version) 1 bytes (Err line) (Err other) bad also in
     cc
 
-pub error_read : (U : Type 0) (session version : ℕ) (bytes : List ℕ) (t : SessionView) (error : FormErr) → session < 2 ^ 32 → version < 2 ^ 32 → Says {U = U} (Err error) t (Comes session_form) is_ended (new_view session version) bytes → ReadsFile {X = Room Captured} (Err error) (λ calls. IsSessionFile session version bytes calls.items) (IsBadSession session version bytes)
-error_read U session version bytes t (Bad n) small few bad = (bad, λ calls. bad_file session version bytes n small few bad calls.items)
-error_read U session version bytes t Memory small few says = tt
+pub error_read : (session version : ℕ) (bytes : List ℕ) (error : FormErr) → session < 2 ^ 32 → version < 2 ^ 32 → Says {F = SessionView} (Err error) (λ s. s) (Comes session_form) is_ended (new_view session version) bytes → ReadsFile {X = Room Captured} (Err error) (λ calls. IsSessionFile session version bytes calls.items) (IsBadSession session version bytes)
+error_read session version bytes (Bad n) small few bad = (bad, λ calls. bad_file session version bytes n small few bad calls.items)
+error_read session version bytes Memory small few says = tt

@@ -10,7 +10,7 @@ use Rattle.capture_format.specs.declared.session_line.SessionLine.{SessionLine}
 use Rattle.capture_format.specs.declared.session_line.SessionLine.TheVariants.{Head, Call, End}
 use Rattle.capture_format.specs.SessionFile.{number_text, call_line_text, session_line_text, IsCallLine, IsSessionLine}
 use Rattle.capture_format.proofs.Cuts.{all_append}
-use Rattle.capture_format.proofs.Alphabet.{is_text, AreTextBytes, text_decimal, text_word, text_then, text_call, text_reply}
+use Rattle.capture_format.proofs.Alphabet.{is_text, AreTextBytes, text_decimal, text_word, text_call, text_reply}
 
 -- a line of a call has no line feed
 number_words : (n : ℕ) → n < 2 ^ 64 → AreTextBytes (number_text n)

@@ -95,6 +95,6 @@ one_bad bytes line other bad also =
     let both : ◌≡◌ {A = Verdict} (Err line) (Err other) = once (Comes start_form) is_ended (says_one start_form start_lines) nothing 1 bytes (Err line) (Err other) bad also in
     cc
 
-pub error_read : (U : Type 0) (bytes : List ℕ) (t : State) (error : FormErr) → Says {U = U} (Err error) t (Comes start_form) is_ended nothing bytes → ReadsFile (Err error) (IsStartFile bytes) (IsBadStart bytes)
-error_read U bytes t (Bad n) bad = (bad, bad_file bytes n bad)
-error_read U bytes t Memory says = tt
+pub error_read : (bytes : List ℕ) (error : FormErr) → Says {F = State} (Err error) (λ s. s) (Comes start_form) is_ended nothing bytes → ReadsFile (Err error) (IsStartFile bytes) (IsBadStart bytes)
+error_read bytes (Bad n) bad = (bad, bad_file bytes n bad)
+error_read bytes Memory says = tt

@@ -33,9 +33,9 @@ pub fn read_session(
     ensures { ReadsFile result
         (λ calls. IsSessionFile session version bytes.now calls.items) (IsBadSession session version bytes.now) }
 {
-    let mut draft = SessionDraft::new(alloc, session, version);
-    match read_lines(bytes, &mut draft) {
-        Ok(()) => Ok(draft.calls),
+    let draft = SessionDraft::new(alloc, session, version);
+    match read_lines(bytes, draft) {
+        Ok(read) => Ok(read.calls),
         Err(error) => Err(error),
     }
 }
@@ -90,11 +90,10 @@ impl LineFile for SessionDraft {
 
     ghost done = { is_ended };
 
-    fn add(&mut self, line: &[u8]) -> Result<(), ReadErr> {
-        match read_session_line(self.alloc, line) {
-            Ok(line) => self.add_line(line),
-            Err(error) => Err(error),
-        }
+    fn add(mut self, line: &[u8]) -> Result<SessionDraft, ReadErr> {
+        let line = read_session_line(self.alloc, line)?;
+        self.add_line(line)?;
+        Ok(self)
     }
 
     fn is_done(&self) -> bool {

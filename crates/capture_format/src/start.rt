@@ -37,12 +37,12 @@ pub struct StartFile {
 pub fn read_start(alloc: Global, bytes: &[u8]) -> Result<StartFile, FormErr>
     ensures { ReadsFile result (IsStartFile bytes.now) (IsBadStart bytes.now) }
 {
-    let mut draft = StartDraft {
+    let draft = StartDraft {
         alloc,
         stage: Stage::Empty,
     };
-    match read_lines(bytes, &mut draft) {
-        Ok(()) => Ok(draft.finish()),
+    match read_lines(bytes, draft) {
+        Ok(read) => Ok(read.finish()),
         Err(error) => Err(error),
     }
 }
@@ -88,11 +88,10 @@ impl LineFile for StartDraft {
 
     ghost done = { is_ended };
 
-    fn add(&mut self, line: &[u8]) -> Result<(), ReadErr> {
-        match read_start_line(self.alloc, line) {
-            Ok(line) => self.add_line(line),
-            Err(error) => Err(error),
-        }
+    fn add(mut self, line: &[u8]) -> Result<StartDraft, ReadErr> {
+        let line = read_start_line(self.alloc, line)?;
+        self.add_line(line)?;
+        Ok(self)
     }
 
     fn is_done(&self) -> bool {

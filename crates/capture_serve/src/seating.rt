@@ -16,7 +16,7 @@ use std::sync::{Mutex, Wait};
 use std::thread::{Scope, Threads};
 use std::time::Clock;
 
-// Serves a connection until it ends.
+// Serves a connection until it ends, and closes it at once.
 fn serve_one<'a, R: Clock + Wait, I: Source, O: Sink, D: Door>(
     rt: &R,
     alloc: Global,
@@ -36,6 +36,8 @@ fn serve_one<'a, R: Clock + Wait, I: Source, O: Sink, D: Door>(
     } = coming;
     let mut door = LockedDoor::new(alloc, session, recorder, clock);
     let end = serve_connection(rt, alloc, &mut door, &mut input, &mut output);
+    input.close();
+    output.close();
     let (said, turned) = door.into_lists();
     Served {
         input,

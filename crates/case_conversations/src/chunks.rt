@@ -52,6 +52,8 @@ impl Source for Chunks {
         self.taken = self.taken.saturating_add(n);
         Ok(n)
     }
+
+    fn close(&mut self) {}
 }
 
 /// The bytes that a text tells.

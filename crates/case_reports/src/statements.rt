@@ -8,7 +8,7 @@ use std::alloc::Global;
 /// What a statement does where it is not refused.
 #[derive(Clone, Copy, PartialEq, Eq)]
 pub enum Deed {
-    /// It reads rows, which it may hold.
+    /// It reads rows.
     Read,
     /// It reads rows and holds them.
     Hold,

@@ -77,6 +77,11 @@ impl Sink for MemSink {
         append(bytes, &mut self.held);
         Ok(())
     }
+
+    /// Does nothing.
+    fn close(&mut self)
+        ensures { self.new ≡ self.old }
+    {}
 }
 
 // Appends the bytes into the room that is there for them.

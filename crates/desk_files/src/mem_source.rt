@@ -69,6 +69,11 @@ impl Source for MemSource {
         self.taken += read;
         Ok(read)
     }
+
+    /// Does nothing.
+    fn close(&mut self)
+        ensures { self.new ≡ self.old }
+    {}
 }
 
 // Copies as many of the first bytes as there is room for, and answers how many.

@@ -87,7 +87,7 @@ impl<R: Net<Listener = TcpListener, Stream = TcpStream>> Host for RealHost<'_, R
         }
     }
 
-    /// Closes the stream. It never answers `Memory`.
+    /// Closes the stream, unless it was let go. It never answers `Memory`.
     fn back(
         &mut self,
         input: RealSource<TcpStream>,
@@ -96,8 +96,10 @@ impl<R: Net<Listener = TcpListener, Stream = TcpStream>> Host for RealHost<'_, R
         ensures ok { IsOk result }
         ensures count { self.new ≡ self.old }
     {
-        // A stream that the other side has closed cannot be shut down, and is closed all the same.
-        let _ = input.stream().shutdown(Shutdown::Both);
+        if let Some(stream) = input.stream() {
+            // A stream that the other side has closed cannot be shut down, and is closed all the same.
+            let _ = stream.shutdown(Shutdown::Both);
+        }
         Ok(())
     }
 }

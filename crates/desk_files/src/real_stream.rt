@@ -13,10 +13,11 @@ use std::marker::Model;
 /// How often a read that the system interrupted is asked in all.
 const ASKED: usize = 1024;
 
-/// What a stream of the system sends, which it does not tell. Contracts see the count of faults.
+/// What a stream of the system sends, which it does not tell. Contracts see the count of faults. Once it is closed
+/// the stream is let go, and each read fails.
 #[derive(Drop)]
 pub struct RealSource<S> {
-    stream: S,
+    stream: Option<S>,
     faults: u64,
 }
 
@@ -33,15 +34,19 @@ impl<S> RealSource<S> {
     pub fn new(stream: S) -> Self
         ensures { result ≡ 0 }
     {
-        RealSource { stream, faults: 0 }
+        RealSource {
+            stream: Some(stream),
+            faults: 0,
+        }
     }
 
-    pub(crate) fn stream(&self) -> &S {
-        &self.stream
+    /// The stream, unless it was let go.
+    pub(crate) fn stream(&self) -> Option<&S> {
+        self.stream.as_ref()
     }
 }
 
-impl<S: Read> Source for RealSource<S> {
+impl<S: Read + Drop> Source for RealSource<S> {
     ghost content = { λ _. None };
 
     ghost faults = { λ count. count };
@@ -59,12 +64,22 @@ impl<S: Read> Source for RealSource<S> {
             }
         }
     }
+
+    /// Lets the stream go.
+    fn close(&mut self)
+        ensures { self.new ≡ self.old }
+    {
+        self.stream = None;
+    }
 }
 
 // A read that is asked until the system lets it end.
-fn read_asked<S: Read>(stream: &mut S, buffer: &mut [u8]) -> io::Result<usize>
+fn read_asked<S: Read>(stream: &mut Option<S>, buffer: &mut [u8]) -> io::Result<usize>
     ensures { IfOk result (λ n. n ≤ length buffer.new) }
 {
+    let Some(stream) = stream else {
+        return Err(io::Error::from(ErrorKind::NotConnected));
+    };
     for _ in 0..ASKED {
         match stream.read(buffer) {
             Err(error) if error.kind() == ErrorKind::Interrupted => {}
@@ -74,10 +89,11 @@ fn read_asked<S: Read>(stream: &mut S, buffer: &mut [u8]) -> io::Result<usize>
     Err(io::Error::from(ErrorKind::Interrupted))
 }
 
-/// What a stream of the system is sent, which it does not tell. Contracts see the count of faults.
+/// What a stream of the system is sent, which it does not tell. Contracts see the count of faults. Once it is closed
+/// the stream is let go, and each write fails.
 #[derive(Drop)]
 pub struct RealSink<S> {
-    stream: S,
+    stream: Option<S>,
     faults: u64,
 }
 
@@ -94,11 +110,14 @@ impl<S> RealSink<S> {
     pub fn new(stream: S) -> Self
         ensures { result ≡ 0 }
     {
-        RealSink { stream, faults: 0 }
+        RealSink {
+            stream: Some(stream),
+            faults: 0,
+        }
     }
 }
 
-impl<S: Write> Sink for RealSink<S> {
+impl<S: Write + Drop> Sink for RealSink<S> {
     ghost content = { λ _. None };
 
     ghost faults = { λ count. count };
@@ -106,10 +125,24 @@ impl<S: Write> Sink for RealSink<S> {
     fn write(&mut self, bytes: &[u8]) -> Result<(), Failed>
         ensures { self.new ≡ counted (print_ending result) self.old }
     {
-        if self.stream.write_all(bytes).is_err() {
+        if write_whole(&mut self.stream, bytes).is_err() {
             self.faults = self.faults.saturating_add(1);
             return Err(Failed);
         }
         Ok(())
     }
+
+    /// Lets the stream go.
+    fn close(&mut self)
+        ensures { self.new ≡ self.old }
+    {
+        self.stream = None;
+    }
+}
+
+fn write_whole<S: Write>(stream: &mut Option<S>, bytes: &[u8]) -> io::Result<()> {
+    let Some(stream) = stream else {
+        return Err(io::Error::from(ErrorKind::NotConnected));
+    };
+    stream.write_all(bytes)
 }

@@ -1,4 +1,4 @@
-ghost use Rattle.std.specs.Prelude.{ℕ, List, Option, OnOk};
+ghost use Rattle.std.specs.Prelude.{◌≡◌, ℕ, List, Option, OnOk};
 ghost use Rattle.desk_files.specs.Outside.{Appends, AppendsPart, Leaves};
 ghost use Rattle.desk_files.specs.Answers.{print_ending};
 
@@ -18,4 +18,9 @@ pub trait Sink {
         ensures ok { OnOk result (Appends bytes.now (content self.old) (content self.new)) }
         ensures part { AppendsPart bytes.now (content self.old) (content self.new) }
         ensures leaves { Leaves (print_ending result) (content self.old) (content self.new) (faults self.old) (faults self.new) };
+
+    /// Says that nothing more is written. The object may let go of what it writes to; what it tells stays.
+    fn close(&mut self)
+        ensures content { content self.new ≡ content self.old }
+        ensures faults { faults self.new ≡ faults self.old };
 }

@@ -1,4 +1,4 @@
-ghost use Rattle.std.specs.Prelude.{◌≤◌, ℕ, List, Option, IfOk, length};
+ghost use Rattle.std.specs.Prelude.{◌≡◌, ◌≤◌, ℕ, List, Option, IfOk, length};
 ghost use Rattle.desk_files.specs.Outside.{Counts};
 ghost use Rattle.desk_files.specs.Sources.{Reads, source_ending};
 
@@ -19,4 +19,9 @@ pub trait Source {
         ensures fits { IfOk result (λ n. n ≤ length buffer.new) }
         ensures reads { Reads result buffer.new (content self.old) (content self.new) }
         ensures counts { Counts (source_ending result) (faults self.old) (faults self.new) };
+
+    /// Says that nothing more is read. The object may let go of what it reads from; what it tells stays.
+    fn close(&mut self)
+        ensures content { content self.new ≡ content self.old }
+        ensures faults { faults self.new ≡ faults self.old };
 }

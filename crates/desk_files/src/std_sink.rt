@@ -44,4 +44,9 @@ impl<R: Print> Sink for StdSink<'_, R> {
         }
         Ok(())
     }
+
+    /// Does nothing: the standard output stays open.
+    fn close(&mut self)
+        ensures { self.new ≡ self.old }
+    {}
 }

@@ -109,13 +109,6 @@ module _ (job : JobView) where
     pub has_still : (k : ℕ) → k ≢ stamp → HasAside old k → HasAside mid k
     has_still k apart has = subst (λ (o : Option View). IsSome o) (sym (others k apart)) has
 
-    -- behind the call that is asked for
-    pub kept_asked : mid.at ≡ old.at → (marks : List Bool) (there new : Behind) → there.at ≡ stamp → ((k : ℕ) → KeepsAside marks mid there k) → new.at ≡ there.at + 1 → new.aside ≡ there.aside → (k : ℕ) → k ≢ stamp → KeepsAside marks old new k
-    kept_asked at marks there new here kept next aside k apart less marked was =
-        let P : BTreeMap ℕ View → Type 0 = λ m. IsSome (get nat_cmp m k) in
-        let before : k < there.at = ⊎_elim (λ same. absurd (apart same)) (λ other. ⊎_elim (λ first. omega (arith, first, here)) (λ behind. absurd (omega (arith, less, next, here, behind))) other) (cases_order k stamp) in
-        subst P (sym aside) (kept k before marked (λ first. has_still k apart (was (omega (arith, first, at)))))
-
   pub begun : (behind : Behind) → behind.machine ≡ record { state = opening job.start; steps = 0 } → behind.at ≡ 0 → behind.aside.entries ≡ [] → IsBehind job behind
   begun behind machine at empty = record {
     came = subst (λ (n : ℕ). CameBefore job n behind.machine.state) (sym at) (sym (ap (λ (m : Running). m.state) machine));

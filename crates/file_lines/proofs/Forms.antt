@@ -1,5 +1,5 @@
 -- Files of lines that say something.
-use Rattle.std.proofs.Common.{◌≡◌, ℕ, Bool, true, false, List, [], ◌∷◌, ◌++◌, map, Option, Some, Result, Ok, Err, refl, ap, sym, subst, ◌∙◌}
+use Rattle.std.proofs.Common.{◌≡◌, ℕ, Bool, true, false, List, [], ◌∷◌, ◌++◌, map, Option, Some, Ok, Err, refl, ap, sym, subst, ◌∙◌}
 use Rattle.std.proofs.lemmas.Option.{same_Some}
 use Rattle.std.specs.List.{fold}
 use Rattle.desk_values.specs.declared.read_err.ReadErr.{ReadErr}
@@ -71,12 +71,15 @@ module _ {S L : Type 0} {read : List ℕ → Option L} (form : Form S L) (is : I
   found bytes line fits e = ap read e ∙ is.again line fits
 
   -- the bytes are no line, or memory is wanting
-  pub adds_error : (U : Type 0) (error : ReadErr) (s : S) (bytes : List ℕ) (t : S) → Reads {T = L} (Err error) (read bytes) → Adds {U = U} (Err error) t (Comes form s bytes)
-  adds_error U Bad s bytes t none = λ after comes. let never = sym none ∙ found bytes comes.line comes.fits comes.text in cc
-  adds_error U Memory s bytes t none = tt
+  pub adds_error : {F : Type 0} (state : F → S) (error : ReadErr) (s : S) (bytes : List ℕ) → Reads {T = L} (Err error) (read bytes) → Adds (Err error) state (Comes form s bytes)
+  adds_error state Bad s bytes none = λ after comes. let never = sym none ∙ found bytes comes.line comes.fits comes.text in cc
+  adds_error state Memory s bytes none = tt
 
   -- the line that they are was added
-  pub adds_line : {U : Type 0} (result : Result U ReadErr) (s : S) (bytes : List ℕ) (line : L) (t : S) → read bytes ≡ Some line → AddsLine form result s line t → Adds result t (Comes form s bytes)
-  adds_line (Ok u) s bytes line t e h = let taken = is.takes bytes line e in record { line = line; fits = taken.0; text = taken.1; may = h.0; leads = h.1 }
-  adds_line (Err Bad) s bytes line t e h = λ after comes. h (subst (form.May s) (same_Some comes.line line (sym (found bytes comes.line comes.fits comes.text) ∙ e)) comes.may)
-  adds_line (Err Memory) s bytes line t e h = tt
+  pub adds_line : {F U : Type 0} (state : F → S) (file : F) (u : U) (s : S) (bytes : List ℕ) (line : L) → read bytes ≡ Some line → AddsLine form (Ok u) s line (state file) → Adds (Ok file) state (Comes form s bytes)
+  adds_line state file u s bytes line e h = let taken = is.takes bytes line e in record { line = line; fits = taken.0; text = taken.1; may = h.0; leads = h.1 }
+
+  -- the line that they are was refused, or memory was wanting
+  pub refuses_line : {F : Type 0} (U : Type 0) (state : F → S) (error : ReadErr) (s : S) (bytes : List ℕ) (line : L) (t : S) → read bytes ≡ Some line → AddsLine form {U = U} (Err error) s line t → Adds (Err error) state (Comes form s bytes)
+  refuses_line U state Bad s bytes line t e h = λ after comes. h (subst (form.May s) (same_Some comes.line line (sym (found bytes comes.line comes.fits comes.text) ∙ e)) comes.may)
+  refuses_line U state Memory s bytes line t e h = tt

@@ -7,11 +7,11 @@ use Rattle.desk_values.specs.declared.read_err.ReadErr.TheVariants as line
 use Rattle.file_lines.specs.declared.reader.FormErr.{FormErr}
 use Rattle.file_lines.specs.declared.reader.FormErr.TheVariants.{Bad, Memory}
 
--- what adding a line answers: that it came, or that none such may
-abbrev pub Adds : {U S : Type 0} → Result U ReadErr → S → (S → Type 0) → Type 0
-Adds {U} {S} (Ok u) new Comes = Comes new
-Adds {U} {S} (Err line.Bad) new Comes = (after : S) → ¬ Comes after
-Adds {U} {S} (Err line.Memory) new Comes = Unit {0}
+-- what adding a line answers: the file that it came to, or that none such may come
+abbrev pub Adds : {F S : Type 0} → Result F ReadErr → (F → S) → (S → Type 0) → Type 0
+Adds {F} {S} (Ok file) state Comes = Comes (state file)
+Adds {F} {S} (Err line.Bad) state Comes = (after : S) → ¬ Comes after
+Adds {F} {S} (Err line.Memory) state Comes = Unit {0}
 
 -- each text, with its line feed
 abbrev pub lines_text : List (List ℕ) → List ℕ
@@ -62,11 +62,11 @@ abbrev pub SaysOne : {S : Type 0} → (S → List ℕ → S → Type 0) → Type
 SaysOne {S} Comes = (s : S) (text : List ℕ) (a b : S) → Comes s text a → Comes s text b → a ≡ b
 
 -- what reading answers: just this, unless memory is wanting
-abbrev pub Says : {U S : Type 0} → Result U FormErr → S → (S → List ℕ → S → Type 0) → (S → Bool)
+abbrev pub Says : {F S : Type 0} → Result F FormErr → (F → S) → (S → List ℕ → S → Type 0) → (S → Bool)
     → S → List ℕ → Type 0
-Says (Ok u) after Comes done s bytes = IsFile Comes done s bytes after
-Says (Err (Bad n)) after Comes done s bytes = IsBadAt Comes done s 1 bytes n
-Says (Err Memory) after Comes done s bytes = Unit {0}
+Says (Ok file) state Comes done s bytes = IsFile Comes done s bytes (state file)
+Says (Err (Bad n)) state Comes done s bytes = IsBadAt Comes done s 1 bytes n
+Says (Err Memory) state Comes done s bytes = Unit {0}
 
 -- what a reader of a whole file answers: what the bytes are the file of; or the number of the first bad line, and then
 -- they are no file

@@ -17,10 +17,12 @@ pub trait LineFile {
     /// Whether the last line came.
     ghost done: { State → Bool };
 
-    /// Adds the line with this text, which has no line feed. `Bad` exactly where it may not come next. A refusal ends the
-    /// reading: what has been said by then is of no more use.
-    fn add(&mut self, line: &[u8]) -> Result<(), ReadErr>
-        ensures { Adds result (state self.new) (comes (state self.old) line.now) };
+    /// The file with the line of this text, which has no line feed, behind those that came. `Bad` exactly where it may not
+    /// come next. A refusal leaves nothing of the file: it is taken by value, and only `Ok` gives it back.
+    fn add(self, line: &[u8]) -> Result<Self, ReadErr>
+    where
+        Self: Sized,
+        ensures { Adds result state (comes (state self) line.now) };
 
     /// Whether the last line came.
     fn is_done(&self) -> bool

@@ -18,9 +18,10 @@ pub enum FormErr {
 
 /// Reads the lines of a file, each ended by a line feed, up to the last one, behind which nothing may stand. `Bad` with
 /// the first line that is not whole or may not come where it stands; where the file stops too early, with the line that
-/// is wanting. Bytes without a line feed behind them are such a line.
-pub fn read_lines<F: LineFile>(bytes: &[u8], file: &mut F) -> Result<(), FormErr>
-    ensures { Says result (F.state file.new) F.comes F.done (F.state file.old) bytes.now }
+/// is wanting. Bytes without a line feed behind them are such a line. A refusal leaves nothing of the file: it is taken by
+/// value, and only `Ok` gives it back.
+pub fn read_lines<F: LineFile + Drop>(bytes: &[u8], mut file: F) -> Result<F, FormErr>
+    ensures { Says result F.state F.comes F.done (F.state file) bytes.now }
 {
     let mut rest = bytes;
     let mut line: u64 = 1;
@@ -28,16 +29,16 @@ pub fn read_lines<F: LineFile>(bytes: &[u8], file: &mut F) -> Result<(), FormErr
         if file.is_done() {
             return Err(FormErr::Bad { line });
         }
-        match file.add(text) {
-            Ok(()) => {}
+        file = match file.add(text) {
+            Ok(added) => added,
             Err(ReadErr::Bad) => return Err(FormErr::Bad { line }),
             Err(ReadErr::Memory) => return Err(FormErr::Memory),
-        }
+        };
         line += 1;
         rest = after;
     }
     if rest.is_empty() && file.is_done() {
-        Ok(())
+        Ok(file)
     } else {
         Err(FormErr::Bad { line })
     }

@@ -1,6 +1,9 @@
 pub mod Asked
+pub mod Behind
 pub mod Complete
 pub mod Ends
+pub mod Good
 pub mod Served
 pub mod Sizes
+pub mod Small
 pub mod Whole

@@ -1,3 +1,4 @@
 pub mod Legality
 pub mod Commands
+pub mod Register
 pub mod Generated

@@ -1,8 +1,8 @@
 //! Laws of what the words and the files come to.
 
-ghost use Rattle.law_commands.specs.Commands.Complete.{CapturesAreMade, CapturesArePrepared, CapturesAreReplayed, CapturesAreTried, DivergencesAreAccepted, ErrandsEndSo, LegalCapturesArePrepared, LegalCapturesAreReplayed, ReportsAreRegistered, RunsAreCompared, RunsAreListed, StartsAreServed};
+ghost use Rattle.law_commands.specs.Commands.Complete.{CapturesAreMade, CapturesArePrepared, CapturesAreReplayed, CapturesAreTried, DivergencesAreAccepted, ErrandsEndSo, LegalCapturesArePrepared, LegalCapturesAreReplayed, RegistersStayGood, ReportsAreRegistered, RunsAreCompared, RunsAreListed, StartsAreServed};
 ghost use Rattle.law_commands.specs.Commands.Ends.{JournalsTellTheirHistory, OneIsTold, PlansTellTheirHistory, QuietRunsCarryTables, ReadsMeetTheirCommits, RunsAgainAreQuiet, TablesAreCarried, ToldIsQuiet};
-ghost use Rattle.law_commands.specs.Commands.Reports.{ReportsAreWhole, WrittenReportsAreRegistered};
+ghost use Rattle.law_commands.specs.Commands.Reports.{ReportsAreSmall, ReportsAreWhole, RunsAreRegistered, WrittenReportsAreRegistered};
 ghost use Rattle.law_commands.specs.Commands.Served.{ServedCapturesAreLegal, ServedCapturesAreNotBad, ServedCapturesAreNotBadToPrepare, ServedCapturesArePrepared, ServedCapturesAreReplayed};
 
 use divergence_cause::laws::{one_list_of_causes, unchanged_servers_upgrade_nothing};
@@ -52,11 +52,19 @@ pub fn runs_are_asked_for()
     ensures end { ErrandsEndSo }
 {}
 
-/// What `run` writes as its report is the text of a report, with its counts those of its lines, so where the file stands as it was
-/// written and is within the limit of one, `register` takes it, and never tells it as a bad report.
+/// A register of reports stays one, whatever command is run, whatever its files are, and however it ends: the clause `line` of
+/// `replay_main` says what a command may come to.
+pub fn registers_stay_good()
+    ensures { RegistersStayGood }
+{}
+
+/// What `run` writes as its report is the text of a report, with its counts those of its lines, within the limit of a file: so
+/// `register` takes it, behind the run and wherever it is put, and never tells it as a bad report or as too long.
 pub fn reports_of_runs_are_registered()
+    ensures small { ReportsAreSmall }
     ensures whole { ReportsAreWhole }
     ensures registered { WrittenReportsAreRegistered }
+    ensures behind { RunsAreRegistered }
 {}
 
 /// The journal that is written tells one history: the one that the replay had, that is reported on and that the other files are of. Of

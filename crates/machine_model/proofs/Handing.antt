@@ -1,8 +1,8 @@
 -- What is handed out of what a call can depend on.
-use Rattle.std.proofs.Common.{◌≡◌, ℕ, ◌<◌, ◌≤◌, Bool, true, false, ◌&&◌, ◌||◌, List, [], ◌∷◌, ◌++◌, length, map, drop, append_assoc, ◌+◌, get_or, eq-eqb, Option, None, Some, Ok, refl, sym, ap, subst, ◌∙◌, if◌then◌else◌, arith}
+use Rattle.std.proofs.Common.{◌≡◌, ℕ, ◌<◌, ◌≤◌, true, false, ◌&&◌, ◌||◌, List, [], ◌∷◌, ◌++◌, length, map, drop, append_assoc, ◌+◌, get_or, eq-eqb, Option, None, Some, Ok, refl, sym, ap, subst, ◌∙◌, if◌then◌else◌, arith}
 use Rattle.std.specs.Prelude.{MatchResult, is_none, nat_eq, unwrap_or, Result, Err}
 use Rattle.std.specs.Result.{is_ok}
-use Rattle.std.specs.List.{AllZip, filter, find, flat_map, list_any}
+use Rattle.std.specs.List.{AllZip, filter, find, list_any}
 use Rattle.std.specs.List.Sorted.{IsBinarySearchResult, IsPermutation, IsSorted}
 use Rattle.std.specs.Option.{option_and_then}
 use Rattle.std.specs.Ordering.{nat_cmp}
@@ -103,7 +103,7 @@ module _ (schema : SchemaView) (binds : List Value) where
   numbered_table (savepoint name) known = refl
   numbered_table (rollback_to name) known = refl
 
-  checked_table : (parsed : Plan Name) → table_in (read schema binds (Some parsed)) ≡ table_named schema parsed
+  pub checked_table : (parsed : Plan Name) → table_in (read schema binds (Some parsed)) ≡ table_named schema parsed
   checked_table parsed = elim (first_fault schema binds parsed) as (λ (f : Option Fault). first_fault schema binds parsed ≡ f → table_in (checked (table_named schema parsed) binds (unless_told f (Ok (numbered schema parsed)))) ≡ table_named schema parsed) [
     | None ↦ λ none. numbered_table parsed (told_table parsed none)
     | Some fault ↦ λ some. refl

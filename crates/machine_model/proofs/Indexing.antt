@@ -1,6 +1,6 @@
 -- Rows that are found by their numbers and by their keys.
 use Rattle.std.proofs.Common.{◌≡◌, ◌≢◌, ℕ, zero, suc, ◌+◌, ◌<◌, ◌≤◌, true, false, ◌||◌, ltb, eqb, if◌then◌else◌, List, [], ◌∷◌, length, map, get_or, set, Option, None, Some, refl, sym, ap, subst, ◌∙◌, get_or-set_same, get_or-set_other, length-set, zero-add, arith}
-use Rattle.std.specs.Prelude.{is_some, nat_eq}
+use Rattle.std.specs.Prelude.{nat_eq}
 use Rattle.std.specs.List.{AllByRecursion, list_any}
 use Rattle.std.proofs.lemmas.Bool.{ltb-true, eqb-true, eq-eqb, ne_eqb}
 use Rattle.std.proofs.lemmas.Bool.Decides.{nat_tests}
@@ -9,10 +9,10 @@ use Rattle.desk_values.specs.declared.value.Image.{Image}
 use Rattle.machine_model.specs.declared.index.KeyIndex.{KeyIndex}
 use Rattle.machine_model.specs.Rows.{IsRising, RisesFrom, lay, lay_all, of_table, placed, shown, is_there}
 use Rattle.machine_model.specs.declared.session.Session.{Session}
-use Rattle.machine_model.specs.View.{rows_seen}
+use Rattle.machine_model.specs.View.{commits_seen, rows_seen}
 use Rattle.machine_model.specs.Writes.{is_among}
 use Rattle.machine_model.specs.Inside.Rows.{lay_tables, place, row_at}
-use Rattle.machine_model.specs.Inside.Index.{AreIndexes, FindsRows, HasRows, is_of_table, row_under}
+use Rattle.machine_model.specs.Inside.Index.{AreIndexes, FindsRows, HasRows, row_under}
 use Rattle.machine_model.proofs.Members.{each_at}
 use Rattle.machine_model.proofs.Stocking.{of_other, of_same}
 
@@ -77,7 +77,7 @@ found_among (y ∷ ys) x at = elim (eqb y.row x.row) as (λ b. (if b then Some y
 
 -- ---- rows with changes over them
 
-row_beside : (row : ℕ) (c : Image) (xs : List Image) → c.row ≢ row → row_at row (placed shown c xs) ≡ row_at row xs
+pub row_beside : (row : ℕ) (c : Image) (xs : List Image) → c.row ≢ row → row_at row (placed shown c xs) ≡ row_at row xs
 row_beside row c [] apart = elim (is_there c) as (λ b. row_at row (if b then c ∷ [] else []) ≡ None) [ true ↦ rw (ne_eqb c.row row apart) refl | false ↦ refl ]
 row_beside row c (x ∷ xs) apart = grind (arith, nat_tests, apart, row_beside row c xs apart)
 
@@ -108,31 +108,6 @@ indexes_laid indexes tables cs are table i r some within =
     let there : table < length tables = omega (arith, lay_tables_length 0 tables cs) in
     let rows : get_or (lay_tables 0 tables cs) table r ≡ lay (get_or tables table r) (of_table table cs) = lay_tables_at 0 tables cs table r there ∙ ap (λ n. lay (get_or tables table r) (of_table n cs)) (zero-add table) in
     subst (λ l. HasRows (get_or indexes table i) l (of_table table cs)) (sym rows) (has_laid (get_or indexes table i) (get_or tables table r) (of_table table cs) (are table i r some there))
-
--- ---- which rows changes have an image of
-
-none_of_table : (table row n : ℕ) (cs : List Image) → RisesFrom n cs → row < n → list_any (λ (c : Image). nat_eq c.row row) (of_table table cs) ≡ false
-none_of_table table row n [] up lt = refl
-none_of_table table row n (c ∷ cs) up lt =
-    let rest = none_of_table table row (c.row + 1) cs up.1 (omega (arith, up.0)) in
-    elim (eqb c.table table) as (λ b. list_any (λ (d : Image). nat_eq d.row row) (if b then c ∷ of_table table cs else of_table table cs) ≡ false) [
-      | true ↦ rw (ne_eqb c.row row (λ e. omega (arith, up.0))) rest
-      | false ↦ rest
-    ]
-
-pub is_of_changes : (table row n : ℕ) (cs : List Image) → RisesFrom n cs → is_of_table table (row_at row cs) ≡ list_any (λ (c : Image). nat_eq c.row row) (of_table table cs)
-is_of_changes table row n [] up = refl
-is_of_changes table row n (c ∷ cs) up =
-    elim (eqb c.row row) as (λ b. eqb c.row row ≡ b → is_of_table table (if b then Some c else row_at row cs) ≡ list_any (λ (d : Image). nat_eq d.row row) (of_table table (c ∷ cs))) [
-      | true ↦ λ same. elim (eqb c.table table) as (λ b. b ≡ list_any (λ (d : Image). nat_eq d.row row) (if b then c ∷ of_table table cs else of_table table cs)) [
-        | true ↦ rw same refl
-        | false ↦ sym (none_of_table table row (c.row + 1) cs up.1 (omega (arith, eqb-true _ _ same)))
-      ]
-      | false ↦ λ apart. elim (eqb c.table table) as (λ b. is_of_table table (row_at row cs) ≡ list_any (λ (d : Image). nat_eq d.row row) (if b then c ∷ of_table table cs else of_table table cs)) [
-        | true ↦ rw apart (is_of_changes table row (c.row + 1) cs up.1)
-        | false ↦ is_of_changes table row (c.row + 1) cs up.1
-      ]
-    ] refl
 
 -- nothing is noted yet
 pub nothing_noted : (index : KeyIndex) (rows : List Image) → HasRows index rows rows
@@ -167,11 +142,7 @@ finds_at indexes tables table index rows are within there read laid kept =
     let now : HasRows index rows [] = subst (λ i. HasRows i rows []) (sym read) first in
     now kept
 
-no_snapshot : (snapshot : Option ℕ) → is_some snapshot ≡ false → snapshot ≡ None
-no_snapshot None none = refl
-no_snapshot (Some n) none = absurd (cc)
-
--- where a session reads at the last commit, it sees the rows after all commits, with its own changes over them
-pub seen_latest : (start : List Image) (commits : List (List Image)) (session : Session) (table : ℕ) (rows changes : List Image) → is_some session.snapshot ≡ false
+-- where a session reads all commits, it sees the rows after all commits, with its own changes over them
+pub seen_latest : (start : List Image) (commits : List (List Image)) (session : Session) (table : ℕ) (rows changes : List Image) → commits_seen session.snapshot commits ≡ commits
     → rows ≡ lay_all (of_table table start) (map (of_table table) commits) → changes ≡ session.own.changes → lay rows (of_table table changes) ≡ rows_seen start commits session table
-seen_latest start commits session table rows changes none latest own = rw (latest, own, no_snapshot session.snapshot none) refl
+seen_latest start commits session table rows changes all latest own = rw (latest, own, all) refl

@@ -19,7 +19,7 @@ rises_above n (x ∷ xs) up zero d within = up.0
 rises_above n (x ∷ xs) up (suc j) d within = omega (arith, up.0, rises_above (x.row + 1) xs up.1 j d (omega arith))
 
 -- each row is at most a later one
-rises_along : (n : ℕ) (xs : List Image) → RisesFrom n xs → (i j : ℕ) (d : Image) → i ≤ j → j < length xs → (get_or xs i d).row ≤ (get_or xs j d).row
+pub rises_along : (n : ℕ) (xs : List Image) → RisesFrom n xs → (i j : ℕ) (d : Image) → i ≤ j → j < length xs → (get_or xs i d).row ≤ (get_or xs j d).row
 rises_along n [] up i j d le within = absurd (omega arith)
 rises_along n (x ∷ xs) up zero zero d le within = omega arith
 rises_along n (x ∷ xs) up zero (suc j) d le within = omega (arith, rises_above (x.row + 1) xs up.1 j d (omega arith))
@@ -144,7 +144,7 @@ lay_all_push xs (d ∷ ds) c = lay_all_push (lay xs d) ds c
 -- ---- laying rising changes goes row by row
 
 -- what stands below all changes stays in front
-lay_front : (x : Image) (xs cs : List Image) → RisesFrom (x.row + 1) cs → lay (x ∷ xs) cs ≡ x ∷ lay xs cs
+pub lay_front : (x : Image) (xs cs : List Image) → RisesFrom (x.row + 1) cs → lay (x ∷ xs) cs ≡ x ∷ lay xs cs
 lay_front x xs [] up = refl
 lay_front x xs (c ∷ cs) up =
     let below : ltb x.row c.row ≡ true = lt-ltb _ _ (omega (arith, up.0)) in

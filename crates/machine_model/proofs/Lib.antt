@@ -10,6 +10,7 @@ pub mod Looks
 pub mod Marks
 pub mod Members
 pub mod Once
+pub mod Numbers
 pub mod Ordering
 pub mod Refusing
 pub mod Repeating
@@ -21,5 +22,7 @@ pub mod SoundSteps
 pub mod Standing
 pub mod Stocking
 pub mod Telling
+pub mod Texts
 pub mod Twice
 pub mod Versions
+pub mod Visiting

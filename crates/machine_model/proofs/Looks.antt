@@ -7,7 +7,9 @@ use Rattle.desk_values.specs.declared.value.Image.{Image}
 use Rattle.machine_model.specs.Rows.{IsRising, RisesFrom, lay, lay_all, of_table, shown}
 use Rattle.machine_model.specs.Inside.Rows.{AreLatest}
 use Rattle.sql_eval.specs.Totals.{looked_at}
-use Rattle.machine_model.proofs.Laying.{lay_below, lay_over, lay_between, lay_last, rises_less}
+use Rattle.machine_model.specs.declared.session.Session.{Session}
+use Rattle.machine_model.specs.View.{commits_seen, rows_seen}
+use Rattle.machine_model.proofs.Laying.{lay_below, lay_over, lay_between, lay_last, rises_less, rising_lay, rising_lay_all}
 
 pub looked_push : (seen : List (Bor Image)) (r : Bor Image) → looked_at (seen ++ r ∷ []) ≡ looked_at seen ++ r.now ∷ []
 looked_push [] r = refl
@@ -68,3 +70,8 @@ latest_from start commits table (first ∷ others) latest (suc i) d within =
 
 pub latest_at : (start : List Image) (commits : List (List Image)) (current : List (List Image)) → AreLatest start commits 0 current → (i : ℕ) (rows : List Image) → i < length current → rows ≡ get_or current i rows → rows ≡ lay_all (of_table i start) (map (of_table i) commits)
 latest_at start commits current latest i rows within at = at ∙ (rw zero-add at (latest_from start commits 0 current latest i rows within))
+
+-- what a session sees rises
+pub rising_seen : (start : List Image) (commits : List (List Image)) (session : Session) (table : ℕ) → IsRising start → IsRising (rows_seen start commits session table)
+rising_seen start commits session table up =
+    rising_lay (lay_all (of_table table start) (map (of_table table) (commits_seen session.snapshot commits))) (of_table table session.own.changes) (rising_lay_all (of_table table start) (map (of_table table) (commits_seen session.snapshot commits)) (rising_of_table table start up))

@@ -1,7 +1,7 @@
 -- Savepoints by their names.
-use Rattle.std.proofs.Common.{◌≡◌, ◌∙◌, ℕ, zero, suc, ◌+◌, ◌<◌, Bool, true, false, List, [], ◌∷◌, ◌++◌, length, take, cond, refl, sym, ap, subst, arith}
+use Rattle.std.proofs.Common.{◌≡◌, ◌∙◌, ℕ, zero, suc, ◌+◌, ◌<◌, true, false, List, [], ◌∷◌, ◌++◌, length, take, cond, refl, sym, ap, subst, arith}
 use Rattle.std.specs.Prelude.{◌||◌, if◌then◌else◌, is_some, slice_index_or, IfSome, Option, None, Some}
-use Rattle.std.specs.List.{AllByRecursion, list_any, position, position_from, remove}
+use Rattle.std.specs.List.{AllByRecursion, position, position_from, remove}
 use Rattle.std.proofs.lemmas.Iterator.Adapters.{position_from-zero}
 use Rattle.std.proofs.lemmas.List.Edits.{remove-append_left}
 use Rattle.machine_model.specs.declared.session.Savepoint.{Savepoint}

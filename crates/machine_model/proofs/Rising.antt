@@ -1,14 +1,13 @@
 -- What a call can depend on rises: own changes, those that savepoints keep, and rows.
-use Rattle.std.proofs.Common.{◌≡◌, ℕ, List, [], ◌∷◌, map, Option, None, Some, sym, subst}
+use Rattle.std.proofs.Common.{ℕ, List, [], ◌∷◌, map, Option, None, Some, sym, subst}
 use Rattle.std.specs.List.{AllByRecursion, AllZip}
-use Rattle.desk_values.specs.declared.value.Image.{Image}
 use Rattle.machine_model.specs.declared.session.Savepoint.{Savepoint}
 use Rattle.machine_model.specs.declared.viewing.Point.{Point}
 use Rattle.machine_model.specs.declared.viewing.View.{View as Handed}
 use Rattle.machine_model.specs.Rows.{IsRising, lay_all, of_table}
 use Rattle.machine_model.specs.Sound.{HasSoundChanges, IsSoundState, KeepsSound}
 use Rattle.machine_model.specs.State.{State, disconnected, session_at}
-use Rattle.machine_model.specs.View.{View, commits_seen, view_of}
+use Rattle.machine_model.specs.View.{commits_seen, view_of}
 use Rattle.machine_model.specs.Views.{IsPointOf, IsViewOf, KeepsRising}
 use Rattle.machine_model.proofs.Looks.{rising_of_table}
 use Rattle.machine_model.proofs.Laying.{rising_lay, rising_lay_all}

@@ -1,5 +1,5 @@
 -- Whether a key stands twice among rows with changes over them: the rows that stay and those that the changes show, told apart.
-use Rattle.std.proofs.Common.{◌≡◌, ℕ, ◌+◌, ◌<◌, Bool, true, false, ◌&&◌, ◌||◌, not, ltb, eqb, if◌then◌else◌, List, [], ◌∷◌, ◌++◌, map, Option, None, Some, refl, sym, ap, ◌∙◌, arith}
+use Rattle.std.proofs.Common.{◌≡◌, ℕ, ◌+◌, ◌<◌, Bool, true, false, ◌&&◌, ◌||◌, not, ltb, eqb, if◌then◌else◌, List, [], ◌∷◌, ◌++◌, map, Option, None, Some, refl, sym, ap, subst, ◌∙◌, arith}
 use mathlib.Core.Bool.{true≢false}
 use Rattle.std.specs.List.{AllByRecursion, filter, list_any}
 use Rattle.std.proofs.Math.Bool.{and-false, or-true, or_assoc}
@@ -11,13 +11,17 @@ use Rattle.desk_values.specs.declared.value.Image.{Image}
 use Rattle.desk_values.specs.Comparison.{same_key}
 use Rattle.machine_model.specs.Rows.{IsRising, RisesFrom, is_there, lay, row_key, shown}
 use Rattle.machine_model.specs.Writes.{is_among, repeats_key}
-use Rattle.machine_model.specs.Inside.Index.{FindsRows, print_of, staying}
+use Rattle.std.specs.Option.{option_and_then}
+use Rattle.machine_model.specs.ByKey.{is_of_key, of_key}
+use Rattle.machine_model.specs.Inside.Index.{FindsRows, listed, staying}
 use Rattle.machine_model.specs.Inside.Rows.{all_shown, row_at}
-use Rattle.machine_model.proofs.Exact.{same_is}
-use Rattle.machine_model.proofs.Indexing.{own_rows}
+use Rattle.same_keys.specs.Print.{print_of}
+use Rattle.same_keys.proofs.Prints.{share}
+use Rattle.machine_model.proofs.Indexing.{own_rows, row_at_is}
 use Rattle.machine_model.proofs.Laying.{lay_between, lay_below, lay_last, lay_over}
 use Rattle.machine_model.proofs.Looks.{filtered_from}
 use Rattle.machine_model.proofs.Members.{each_filtered, each_weaker}
+use Rattle.machine_model.proofs.Numbers.{kept, rising_same, row_filtered}
 use Rattle.machine_model.proofs.Repeating.{or_swap, same_back}
 
 -- ---- two lists told apart in one
@@ -110,6 +114,10 @@ module _ (level : ℕ) where
   repeats_mixed (shows {x = x} {left = left} {right = right} mixed) = rw (any_mixed (same_key level (row_key x)) mixed, repeats_mixed mixed) (regroup_right (list_any (same_key level (row_key x)) (map row_key left)) (list_any (same_key level (row_key x)) (map row_key right)) (repeats_key level (map row_key left)) (repeats_key level (map row_key right)) (list_any (meets left) right))
 
   -- where those that stay are apart, a key stands twice that two of the others have, or one of them and one that stays
+  pub repeats_alone : (xs cs : List Image) → IsRising xs → IsRising cs → repeats_key level (map row_key (staying xs cs)) ≡ false
+      → repeats_key level (map row_key (lay xs cs)) ≡ (repeats_key level (map row_key (all_shown cs)) || list_any (meets (staying xs cs)) (all_shown cs))
+  repeats_alone xs cs up over apart = rw (repeats_mixed (laid_mixed 0 0 xs cs up over), apart) refl
+
   pub repeats_laid : (new : Image) (xs cs : List Image) → IsRising xs → IsRising cs → repeats_key level (map row_key (staying xs cs)) ≡ false
       → repeats_key level (map row_key (new ∷ lay xs cs)) ≡ (repeats_key level (map row_key (new ∷ all_shown cs)) || (meets (staying xs cs) new || list_any (meets (staying xs cs)) (all_shown cs)))
   unfolding repeats_key
@@ -137,81 +145,126 @@ some_any p q row z (y ∷ ys) at passes has = elim (eqb y.row row) as (λ b. (if
   ]
 ] at
 
+-- what an optional number leads to
+led_to : {X : Type 0} (f : ℕ → Option X) (o : Option ℕ) (z : X) → option_and_then f o ≡ Some z → (row : ℕ) × (f row ≡ Some z)
+led_to f None z is = absurd cc
+led_to f (Some row) z is = (row, is)
+
+pub listed_rises : (o : Option Image) → IsRising (listed o)
+listed_rises None = tt
+listed_rises (Some z) = (omega arith, tt)
+
 -- whether a row has a key is found out by the print of the key
 module _ (row_under : ℕ → Option ℕ) (rows : List Image) (up : IsRising rows) (finds : FindsRows row_under rows []) where
   all_found : AllByRecursion (λ y. row_under (print_of (row_key y)) ≡ Some y.row) rows
   all_found = each_weaker (λ (y : Image). row_at y.row rows ≡ Some y) (λ y. row_under (print_of (row_key y)) ≡ Some y.row) (λ y at. finds y at refl) rows (own_rows rows up)
 
-  -- rows that are found have keys of their own
-  found_apart : (n : ℕ) (x : Image) (ys : List Image) → row_under (print_of (row_key x)) ≡ Some x.row → RisesFrom n ys → x.row < n → AllByRecursion (λ y. row_under (print_of (row_key y)) ≡ Some y.row) ys → list_any (same_key 1 (row_key x)) (map row_key ys) ≡ false
-  found_apart n x [] at above lt all = refl
-  found_apart n x (y ∷ ys) at above lt all = elim (same_key 1 (row_key x) (row_key y)) as (λ b. same_key 1 (row_key x) (row_key y) ≡ b → (b || list_any (same_key 1 (row_key x)) (map row_key ys)) ≡ false) [
-    | true ↦ λ same.
-        let both : Some x.row ≡ Some y.row = sym at ∙ ap (λ k. row_under (print_of k)) (same_is (row_key x) (row_key y) same) ∙ all.0 in
-        let number : x.row ≡ y.row = cc in
-        absurd (omega (arith, above.0))
-    | false ↦ λ other. found_apart (y.row + 1) x ys at above.1 (omega (arith, above.0)) all.1
-  ] refl
-
-  none_twice : (n : ℕ) (ys : List Image) → RisesFrom n ys → AllByRecursion (λ y. row_under (print_of (row_key y)) ≡ Some y.row) ys → repeats_key 1 (map row_key ys) ≡ false
-  unfolding repeats_key
-  none_twice n [] above all = refl
-  none_twice n (y ∷ ys) above all = rw (found_apart (y.row + 1) y ys all.0 above.1 (omega arith) all.1) (none_twice (y.row + 1) ys above.1 all.1)
-
-  pub staying_apart : (cs : List Image) → repeats_key 1 (map row_key (staying rows cs)) ≡ false
-  staying_apart cs = none_twice 0 (staying rows cs) (filtered_from _ 0 rows up) (each_filtered (λ y. row_under (print_of (row_key y)) ≡ Some y.row) _ rows all_found)
-
-  module _ (level : ℕ) (one : level ≡ 1) (key : Value) (cs : List Image) where
-    -- what has the key is the row under its print
-    under_print : (y : Image) → row_at y.row rows ≡ Some y → same_key level key (row_key y) ≡ true → row_under (print_of key) ≡ Some y.row
-    under_print y at same = ap (λ (k : Value). row_under (print_of k)) (same_is key (row_key y) (rw one at same)) ∙ finds y at refl
-
-    has_not : (y : Image) → row_at y.row rows ≡ Some y → (row_under (print_of key) ≡ Some y.row → same_key level key (row_key y) ≡ true → not (is_among cs y) ≡ false) → (not (is_among cs y) && same_key level key (row_key y)) ≡ false
-    has_not y at but = elim (same_key level key (row_key y)) as (λ b. same_key level key (row_key y) ≡ b → (not (is_among cs y) && b) ≡ false) [
-      | true ↦ λ same. rw (but (under_print y at same) same) refl
-      | false ↦ λ other. and-false (not (is_among cs y))
+  module _ (level : ℕ) where
+    -- rows that are found have keys of their own
+    found_apart : (n : ℕ) (x : Image) (ys : List Image) → row_under (print_of (row_key x)) ≡ Some x.row → RisesFrom n ys → x.row < n → AllByRecursion (λ y. row_under (print_of (row_key y)) ≡ Some y.row) ys → list_any (same_key level (row_key x)) (map row_key ys) ≡ false
+    found_apart n x [] at above lt all = refl
+    found_apart n x (y ∷ ys) at above lt all = elim (same_key level (row_key x) (row_key y)) as (λ b. same_key level (row_key x) (row_key y) ≡ b → (b || list_any (same_key level (row_key x)) (map row_key ys)) ≡ false) [
+      | true ↦ λ same.
+          let both : Some x.row ≡ Some y.row = sym at ∙ ap row_under (share level (row_key x) (row_key y) same).print ∙ all.0 in
+          let number : x.row ≡ y.row = cc in
+          absurd (omega (arith, above.0))
+      | false ↦ λ other. found_apart (y.row + 1) x ys at above.1 (omega (arith, above.0)) all.1
     ] refl
 
-    nobody_has : ((y : Image) → row_at y.row rows ≡ Some y → row_under (print_of key) ≡ Some y.row → same_key level key (row_key y) ≡ true → not (is_among cs y) ≡ false) → list_any (same_key level key) (map row_key (staying rows cs)) ≡ false
-    nobody_has but = none_any (same_key level key) (λ (image : Image). not (is_among cs image)) rows (each_weaker (λ (y : Image). row_at y.row rows ≡ Some y) (λ (y : Image). (not (is_among cs y) && same_key level key (row_key y)) ≡ false) (λ y at. has_not y at (but y at)) rows (own_rows rows up))
+    none_twice : (n : ℕ) (ys : List Image) → RisesFrom n ys → AllByRecursion (λ y. row_under (print_of (row_key y)) ≡ Some y.row) ys → repeats_key level (map row_key ys) ≡ false
+    unfolding repeats_key
+    none_twice n [] above all = refl
+    none_twice n (y ∷ ys) above all = rw (found_apart (y.row + 1) y ys all.0 above.1 (omega arith) all.1) (none_twice (y.row + 1) ys above.1 all.1)
 
-    -- nothing is under the print
-    pub meets_nothing : (under : Option ℕ) → None ≡ under → under ≡ row_under (print_of key) → false ≡ list_any (same_key level key) (map row_key (staying rows cs))
-    meets_nothing under none is = sym (nobody_has (λ y at found same. absurd (none_some under none (is ∙ found))))
+    pub staying_apart : (cs : List Image) → repeats_key level (map row_key (staying rows cs)) ≡ false
+    staying_apart cs = none_twice 0 (staying rows cs) (filtered_from _ 0 rows up) (each_filtered (λ y. row_under (print_of (row_key y)) ≡ Some y.row) _ rows all_found)
 
-    module _ (row : ℕ) (is : Some row ≡ row_under (print_of key)) where
-      same_number : (y : Image) → row_under (print_of key) ≡ Some y.row → row ≡ y.row
-      same_number y found = same_Some row y.row (is ∙ found)
+    -- what stands under the print of a key: each row with the key is that
+    module _ (key : Value) (there : Option Image) (is : there ≡ option_and_then (λ row. row_at row rows) (row_under (print_of key))) where
+      found_there : (y : Image) → row_at y.row rows ≡ Some y → same_key level key (row_key y) ≡ true → there ≡ Some y
+      found_there y at same = is ∙ ap (option_and_then (λ row. row_at row rows)) (ap row_under (share level key (row_key y) same).print ∙ finds y at refl) ∙ at
 
-      -- no row has the number that is
-      pub meets_nobody : (there : Option Image) → None ≡ there → there ≡ row_at row rows → false ≡ list_any (same_key level key) (map row_key (staying rows cs))
-      meets_nobody there none at = sym (nobody_has (λ y own found same. absurd (none_some there none (at ∙ ap (λ n. row_at n rows) (same_number y found) ∙ own))))
+      -- what is there stands among the rows
+      stands_there : (z : Image) → there ≡ Some z → row_at z.row rows ≡ Some z
+      stands_there z here = let led = led_to (λ row. row_at row rows) (row_under (print_of key)) z (sym is ∙ here) in subst (λ row. row_at row rows ≡ Some z) (sym (row_at_is led.0 rows z led.1)) led.1
 
-      -- one has it
-      pub meets_one : (z : Image) → Some z ≡ row_at row rows → (not (is_among cs z) && same_key level key (row_key z)) ≡ list_any (same_key level key) (map row_key (staying rows cs))
-      meets_one z at =
-          let one_row : (y : Image) → row_at y.row rows ≡ Some y → row_under (print_of key) ≡ Some y.row → z ≡ y = λ y own found. same_Some z y (at ∙ ap (λ n. row_at n rows) (same_number y found) ∙ own) in
+      has_not : (cs : List Image) (y : Image) → row_at y.row rows ≡ Some y → (there ≡ Some y → same_key level key (row_key y) ≡ true → not (is_among cs y) ≡ false) → (not (is_among cs y) && same_key level key (row_key y)) ≡ false
+      has_not cs y at but = elim (same_key level key (row_key y)) as (λ b. same_key level key (row_key y) ≡ b → (not (is_among cs y) && b) ≡ false) [
+        | true ↦ λ same. rw (but (found_there y at same) same) refl
+        | false ↦ λ other. and-false (not (is_among cs y))
+      ] refl
+
+      nobody_has : (cs : List Image) → ((y : Image) → row_at y.row rows ≡ Some y → there ≡ Some y → same_key level key (row_key y) ≡ true → not (is_among cs y) ≡ false) → list_any (same_key level key) (map row_key (staying rows cs)) ≡ false
+      nobody_has cs but = none_any (same_key level key) (λ (image : Image). not (is_among cs image)) rows (each_weaker (λ (y : Image). row_at y.row rows ≡ Some y) (λ (y : Image). (not (is_among cs y) && same_key level key (row_key y)) ≡ false) (λ y at. has_not cs y at (but y at)) rows (own_rows rows up))
+
+      pub meets_nobody : (cs : List Image) → there ≡ None → false ≡ list_any (same_key level key) (map row_key (staying rows cs))
+      meets_nobody cs none = sym (nobody_has cs (λ y own found same. absurd (none_some there (sym none) found)))
+
+      -- the one that is there has the key, or none does
+      meets_one : (cs : List Image) (z : Image) → there ≡ Some z → (not (is_among cs z) && same_key level key (row_key z)) ≡ list_any (same_key level key) (map row_key (staying rows cs))
+      meets_one cs z here =
+          let one_row : (y : Image) → there ≡ Some y → z ≡ y = λ y found. same_Some z y (sym here ∙ found) in
           elim (not (is_among cs z)) as (λ b. not (is_among cs z) ≡ b → (b && same_key level key (row_key z)) ≡ list_any (same_key level key) (map row_key (staying rows cs))) [
             | true ↦ λ stands. elim (same_key level key (row_key z)) as (λ b. same_key level key (row_key z) ≡ b → b ≡ list_any (same_key level key) (map row_key (staying rows cs))) [
-              | true ↦ λ has. sym (some_any (same_key level key) (λ (image : Image). not (is_among cs image)) row z rows (sym at) stands has)
-              | false ↦ λ other. sym (nobody_has (λ y own found same. absurd (true≢false (sym same ∙ ap (λ (i : Image). same_key level key (row_key i)) (sym (one_row y own found)) ∙ other))))
+              | true ↦ λ has. sym (some_any (same_key level key) (λ (image : Image). not (is_among cs image)) z.row z rows (stands_there z here) stands has)
+              | false ↦ λ other. sym (nobody_has cs (λ y own found same. absurd (true≢false (sym same ∙ ap (λ (i : Image). same_key level key (row_key i)) (sym (one_row y found)) ∙ other))))
             ] refl
-            | false ↦ λ gone. sym (nobody_has (λ y own found same. ap (λ (i : Image). not (is_among cs i)) (sym (one_row y own found)) ∙ gone))
+            | false ↦ λ gone. sym (nobody_has cs (λ y own found same. ap (λ (i : Image). not (is_among cs i)) (sym (one_row y found)) ∙ gone))
           ] refl
 
-      pub meets_same : (z : Image) → Some z ≡ row_at row rows → (changed same : Bool) → changed ≡ false → changed ≡ is_among cs z → same ≡ same_key level key (row_key z) → same ≡ list_any (same_key level key) (map row_key (staying rows cs))
-      meets_same z at changed same stands is_changed is_same = let stays : is_among cs z ≡ false = sym is_changed ∙ stands in is_same ∙ rw stays at (meets_one z at)
+      pub meets_same : (cs : List Image) (z : Image) → there ≡ Some z → (changed same : Bool) → changed ≡ false → changed ≡ is_among cs z → same ≡ same_key level key (row_key z) → same ≡ list_any (same_key level key) (map row_key (staying rows cs))
+      meets_same cs z here changed same stands is_changed is_same = let stays : is_among cs z ≡ false = sym is_changed ∙ stands in is_same ∙ rw stays at (meets_one cs z here)
 
-      pub meets_gone : (z : Image) → Some z ≡ row_at row rows → (changed : Bool) → changed ≡ true → changed ≡ is_among cs z → not changed ≡ list_any (same_key level key) (map row_key (staying rows cs))
-      meets_gone z at changed gone is_changed = let goes : is_among cs z ≡ true = sym is_changed ∙ gone in ap not gone ∙ rw goes at (meets_one z at)
+      pub meets_gone : (cs : List Image) (z : Image) → there ≡ Some z → (changed : Bool) → changed ≡ true → changed ≡ is_among cs z → not changed ≡ list_any (same_key level key) (map row_key (staying rows cs))
+      meets_gone cs z here changed gone is_changed = let goes : is_among cs z ≡ true = sym is_changed ∙ gone in ap not gone ∙ rw goes at (meets_one cs z here)
 
-  -- what was looked at says whether a key stands twice
-  module _ (level : ℕ) (one : level ≡ 1) (new : Image) (cs : List Image) (over : IsRising cs) (seen : List Image) (shows_all : seen ≡ all_shown cs) where
-    told_apart : repeats_key level (map row_key (new ∷ lay rows cs)) ≡ (repeats_key level (map row_key (new ∷ seen)) || (meets level (staying rows cs) new || list_any (meets level (staying rows cs)) seen))
-    told_apart = rw shows_all (repeats_laid level new rows cs up over (rw one (staying_apart cs)))
+      -- the rows of the key are those of what is there
+      abbrev has_key : Image → Bool
+      has_key image = is_of_key level key image
 
-    pub twice_changed : true ≡ repeats_key level (map row_key (new ∷ seen)) → true ≡ repeats_key level (map row_key (new ∷ lay rows cs))
-    twice_changed changed = rw (← changed) at (sym told_apart)
+      listed_else : (row : ℕ) (o : Option Image) → there ≡ o → ((z : Image) → row_at row rows ≡ Some z → kept has_key (Some z) ≡ None) → None ≡ kept has_key (row_at row (listed o))
+      listed_else row None here but = refl
+      listed_else row (Some z) here but = elim (eqb z.row row) as (λ b. eqb z.row row ≡ b → None ≡ kept has_key (if b then Some z else None)) [
+        | true ↦ λ same. sym (but z (subst (λ (r : ℕ). row_at r rows ≡ Some z) (eqb-true z.row row same) (stands_there z here)))
+        | false ↦ λ apart. refl
+      ] refl
 
-    pub twice_staying : (met some : Bool) → false ≡ repeats_key level (map row_key (new ∷ seen)) → met ≡ meets level (staying rows cs) new → some ≡ list_any (meets level (staying rows cs)) seen → (met || some) ≡ repeats_key level (map row_key (new ∷ lay rows cs))
-    twice_staying met some changed meets_is some_is = rw (← changed, ← meets_is, ← some_is) at (sym told_apart)
+      listed_at : (row : ℕ) (o at : Option Image) → there ≡ o → row_at row rows ≡ at → kept has_key at ≡ kept has_key (row_at row (listed o))
+      listed_at row o None here at = listed_else row o here (λ z stands. absurd (none_some (row_at row rows) (sym at) stands))
+      listed_at row o (Some y) here at = elim (same_key level key (row_key y)) as (λ b. same_key level key (row_key y) ≡ b → kept has_key (Some y) ≡ kept has_key (row_at row (listed o))) [
+        | true ↦ λ same.
+            let number : y.row ≡ row = row_at_is row rows y at in
+            let own : row_at y.row rows ≡ Some y = ap (λ (r : ℕ). row_at r rows) number ∙ at in
+            let first : row_at row (y ∷ []) ≡ Some y = rw (eq-eqb y.row row number) refl in
+            sym (ap (λ (p : Option Image). kept has_key (row_at row (listed p))) (sym here ∙ found_there y own same) ∙ ap (kept has_key) first)
+        | false ↦ λ other.
+            let fails : (z : Image) → row_at row rows ≡ Some z → kept has_key (Some z) ≡ None = λ z stands.
+            let is_y : y ≡ z = same_Some y z (sym at ∙ stands) in
+            ap (λ (i : Image). kept has_key (Some i)) (sym is_y) ∙ ap (λ (b : Bool). if b then Some y else None) (same_back level (row_key y) key ∙ other) in
+            fails y at ∙ listed_else row o here fails
+      ] refl
+
+      pub of_key_there : (o : Option Image) → there ≡ o → of_key level key (listed o) ≡ of_key level key rows
+      of_key_there o here = rising_same 0 (of_key level key (listed o)) (of_key level key rows) (filtered_from has_key 0 (listed o) (listed_rises o)) (filtered_from has_key 0 rows up) (λ row.
+          row_filtered has_key row 0 (listed o) (listed_rises o) ∙ sym (listed_at row o (row_at row rows) here refl) ∙ sym (row_filtered has_key row 0 rows up))
+
+    -- what was looked at says whether a key stands twice
+    module _ (cs : List Image) (over : IsRising cs) (seen : List Image) (shows_all : seen ≡ all_shown cs) where
+      laid_apart : repeats_key level (map row_key (lay rows cs)) ≡ (repeats_key level (map row_key seen) || list_any (meets level (staying rows cs)) seen)
+      laid_apart = rw shows_all (repeats_alone level rows cs up over (staying_apart cs))
+
+      pub laid_changed : true ≡ repeats_key level (map row_key seen) → true ≡ repeats_key level (map row_key (lay rows cs))
+      laid_changed changed = rw (← changed) at (sym laid_apart)
+
+      pub laid_staying : (some : Bool) → false ≡ repeats_key level (map row_key seen) → some ≡ list_any (meets level (staying rows cs)) seen → some ≡ repeats_key level (map row_key (lay rows cs))
+      laid_staying some changed some_is = rw (← changed, ← some_is) at (sym laid_apart)
+
+      module _ (new : Image) where
+        told_apart : repeats_key level (map row_key (new ∷ lay rows cs)) ≡ (repeats_key level (map row_key (new ∷ seen)) || (meets level (staying rows cs) new || list_any (meets level (staying rows cs)) seen))
+        told_apart = rw shows_all (repeats_laid level new rows cs up over (staying_apart cs))
+
+        pub twice_changed : true ≡ repeats_key level (map row_key (new ∷ seen)) → true ≡ repeats_key level (map row_key (new ∷ lay rows cs))
+        twice_changed changed = rw (← changed) at (sym told_apart)
+
+        pub twice_staying : (met some : Bool) → false ≡ repeats_key level (map row_key (new ∷ seen)) → met ≡ meets level (staying rows cs) new → some ≡ list_any (meets level (staying rows cs)) seen → (met || some) ≡ repeats_key level (map row_key (new ∷ lay rows cs))
+        twice_staying met some changed meets_is some_is = rw (← changed, ← meets_is, ← some_is) at (sym told_apart)

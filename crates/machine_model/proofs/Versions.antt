@@ -1,5 +1,5 @@
 -- A server of version 1 tells of no savepoint that is not there.
-use Rattle.std.proofs.Common.{◌≡◌, ◌∙◌, ℕ, Bool, true, false, List, [], ◌∷◌, refl, sym, ap, subst}
+use Rattle.std.proofs.Common.{◌≡◌, ◌∙◌, ℕ, Bool, true, false, List, [], refl, sym, ap, subst}
 use Rattle.std.specs.Prelude.{◌&&◌, ◌||◌, if◌then◌else◌, is_none, is_some, nat_eq, Option, None, Some, Result, Ok, Err}
 use Rattle.std.specs.Option.{option_and_then}
 use Rattle.std.proofs.lemmas.Bool.{false≢true}
@@ -61,7 +61,7 @@ unless_quiet : (view : View) (draws : List Value) (fault : Option Fault) (a : An
 unless_quiet view draws None a quiet is = is
 unless_quiet view draws (Some fault) a quiet is = quiet
 
-names_mapped : {A B : Type 0} (by : Naming A B) (plan : Plan A) → names_savepoint (map_plan by plan) ≡ names_savepoint plan
+pub names_mapped : {A B : Type 0} (by : Naming A B) (plan : Plan A) → names_savepoint (map_plan by plan) ≡ names_savepoint plan
 names_mapped by (select table asked condition keys held) = refl
 names_mapped by (next sequence) = refl
 names_mapped by (insert table named entries) = refl

@@ -1,5 +1,6 @@
 pub mod Limits
 pub mod Answer
+pub mod ByKey
 pub mod Causes
 pub mod Clean
 pub mod Draws

@@ -1,5 +1,5 @@
 -- Savepoints of a session, the oldest first: each is what its transaction had of its own when it was set.
-use Rattle.std.specs.Prelude.{ℕ, Bool, true, false, if◌then◌else◌, List, [], ◌∷◌, ◌++◌}
+use Rattle.std.specs.Prelude.{ℕ, Bool, if◌then◌else◌, List, [], ◌∷◌, ◌++◌}
 use Rattle.std.specs.List.{list_any}
 use Rattle.std.specs.Str.{bytes_eq}
 use Rattle.machine_model.specs.declared.session.Savepoint.{Savepoint}

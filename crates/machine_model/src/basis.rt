@@ -1,25 +1,37 @@
-//! What an INSERT can depend on, and whether it makes a key stand twice.
+//! What a statement can depend on: which rows it visits, and whether it leaves a key twice.
 
-ghost use Rattle.std.specs.Prelude.{◌≡◌, ◌∷◌, map, IfOk, IfSome};
-ghost use Rattle.std.specs.List.{list_any};
+ghost use Rattle.std.specs.Prelude.{◌≡◌, ◌∷◌, map, IfOk, IfSome, true};
+ghost use Rattle.std.specs.List.{AllByRecursion, list_any};
+ghost use Rattle.std.specs.Option.{option_and_then, option_copied};
+ghost use Rattle.desk_values.specs.declared.value.Image.{Image as AnyImage};
 ghost use Rattle.desk_values.specs.Comparison.{same_key};
+ghost use Rattle.sql_tree.specs.Plain.{condition_of};
 ghost use Rattle.sql_eval.specs.Totals.{looked_at};
-ghost use Rattle.machine_model.specs.Rows.{lay, of_table, row_key};
-ghost use Rattle.machine_model.specs.View.{rows_seen};
+ghost use Rattle.machine_model.specs.ByKey.{is_of_key, of_key, visited};
+ghost use Rattle.machine_model.specs.Rows.{IsRising, is_there, lay, of_table, row_key};
+ghost use Rattle.machine_model.specs.Found.{matching, where_faults};
+ghost use Rattle.machine_model.specs.View.{commits_seen};
 ghost use Rattle.machine_model.specs.Writes.{is_among, repeats_key};
-ghost use Rattle.machine_model.specs.Inside.Index.{IsBasis, IsIndexed, staying};
+ghost use Rattle.machine_model.specs.Inside.Evaluation.{env_of};
+ghost use Rattle.same_keys.specs.Print.{print_of};
+ghost use Rattle.machine_model.specs.Inside.Index.{IsBasis, IsIndexed, listed, row_under, rows_of_basis, staying};
+ghost use Rattle.machine_model.specs.Inside.Rows.{row_at};
 
 use crate::evaluation::Evaluation;
+use crate::found::sifted;
 use crate::holds::Others;
 use crate::images::row_key;
-use crate::index::{KeyIndex, print_of};
-use crate::repeats::makes_key_twice;
+use crate::index::KeyIndex;
+use crate::repeats::{makes_key_twice, repeats_key};
 use crate::rows::{Rows, TableRows, row_among};
-use crate::seeing::{rows_seen, shown_of};
+use crate::seeing::{laid, looked, of_table, rows_seen, shown_of};
 use crate::session::Session;
-use desk_values::{Image, Memory, same_key};
+use desk_values::{Image, Memory, Value, same_key};
+use key_conditions::key_sought;
+use same_keys::print_of;
+use sql_eval::{Checked, Faults};
 
-/// What an INSERT can depend on; no row is looked at yet.
+/// What a statement on a table can depend on; no row is looked at yet.
 #[derive(Clone, Copy)]
 pub struct Basis<'a> {
     /// Whose statement it is.
@@ -38,50 +50,213 @@ pub struct Basis<'a> {
     pub indexes: &'a [KeyIndex],
 }
 
-/// Committed rows of a table, what finds them by their keys, and changes that are laid over them.
+/// Committed rows of a table, what finds them by their keys, and changes of the table that are laid over them.
 #[derive(Clone, Copy)]
-struct Indexed<'a> {
+struct Indexed<'a, 'c> {
     rows: &'a [Image],
     index: &'a KeyIndex,
-    /// Changes of all tables.
-    changes: &'a [Image],
-    table: u32,
+    changes: &'c [&'a Image],
+}
+
+/// The rows that match a condition, and its faults at any of the rows. Only those are looked at that are visited.
+pub fn visit<'a>(
+    with: Evaluation<'_>,
+    basis: Basis<'a>,
+    condition: &Option<Checked>,
+) -> Result<(Vec<&'a Image>, Faults), Memory>
+    requires { IsBasis basis }
+    ensures rows { IfOk result
+        (λ r. looked_at r.0.items ≡ matching (env_of with.entry) (condition_of condition.now) (rows_of_basis basis.entry)) }
+    ensures faults { IfOk result
+        (λ r. r.1 ≡ where_faults (env_of with.entry) (condition_of condition.now) (rows_of_basis basis.entry)) }
+{
+    let rows = visited(with, basis, condition)?;
+    sifted(with, condition, &rows)
+}
+
+/// The rows that a statement with this condition visits: those of the key that it asks for, or else all.
+fn visited<'a>(
+    with: Evaluation<'_>,
+    basis: Basis<'a>,
+    condition: &Option<Checked>,
+) -> Result<Vec<&'a Image>, Memory>
+    requires { IsBasis basis }
+    ensures { IfOk result
+        (λ rows. looked_at rows.items ≡ visited (env_of with.entry) (condition_of condition.now) (rows_of_basis basis.entry)) }
+{
+    let key = key_sought(with.alloc, with.level, with.binds, condition)?;
+    match key {
+        None => all_rows(with, basis),
+        Some(key) => rows_of_key(with, basis, &key),
+    }
+}
+
+/// The table's rows as the session sees them.
+fn all_rows<'a>(with: Evaluation<'_>, basis: Basis<'a>) -> Result<Vec<&'a Image>, Memory>
+    requires { IsBasis basis }
+    ensures { IfOk result (λ rows. looked_at rows.items ≡ rows_of_basis basis.entry) }
+{
+    rows_seen(
+        with.alloc,
+        basis.start,
+        basis.commits,
+        basis.current,
+        basis.session,
+        basis.table,
+    )
+}
+
+/// Those of them that have a key.
+fn rows_of_key<'a>(
+    with: Evaluation<'_>,
+    basis: Basis<'a>,
+    key: &Value,
+) -> Result<Vec<&'a Image>, Memory>
+    requires { IsBasis basis }
+    ensures { IfOk result (λ rows. looked_at rows.items ≡ of_key with.entry.level key.now (rows_of_basis basis.entry)) }
+{
+    let rows = rows_about(with, basis, key)?;
+    of_key(with, key, &rows)
+}
+
+/// Rows among which are those that have a key, by what is found of the key, or else all.
+fn rows_about<'a>(
+    with: Evaluation<'_>,
+    basis: Basis<'a>,
+    key: &Value,
+) -> Result<Vec<&'a Image>, Memory>
+    requires { IsBasis basis }
+    ensures { IfOk result
+        (λ rows. of_key with.entry.level key.now (looked_at rows.items) ≡ of_key with.entry.level key.now (rows_of_basis basis.entry)) }
+{
+    let changes = of_table(
+        with.alloc,
+        basis.session.own.changes.as_slice(),
+        basis.table,
+    )?;
+    match indexed_rows(basis, &changes) {
+        Some(indexed) => {
+            let found = found_row(with, indexed, key)?;
+            laid(with.alloc, &found, &changes)
+        }
+        None => all_rows(with, basis),
+    }
+}
+
+/// Those of the rows that have a key.
+fn of_key<'a>(
+    with: Evaluation<'_>,
+    key: &Value,
+    rows: &[&'a Image],
+) -> Result<Vec<&'a Image>, Memory>
+    ensures { IfOk result (λ found. looked_at found.items ≡ of_key with.entry.level key.now (looked_at rows.now)) }
+{
+    let mut found = Vec::new(with.alloc);
+    for image in rows {
+        if is_of_key(with, key, image) {
+            found.push(*image)?;
+        }
+    }
+    Ok(found)
+}
+
+fn is_of_key(with: Evaluation<'_>, key: &Value, image: &Image) -> bool
+    ensures { result ≡ is_of_key with.entry.level key.now image.now }
+{
+    same_key(with.level, row_key(with, image), key)
+}
+
+/// The committed row that the index has for a key, if it has one.
+fn found_row<'a>(
+    with: Evaluation<'_>,
+    indexed: Indexed<'a, '_>,
+    key: &Value,
+) -> Result<Vec<&'a Image>, Memory>
+    requires { IsIndexed indexed }
+    ensures rising { IfOk result (λ found. IsRising (looked_at found.items)) }
+    ensures found { IfOk result
+        (λ found. of_key with.entry.level key.now (looked_at found.items) ≡ of_key with.entry.level key.now indexed.entry.rows.now) }
+{
+    listed(with, row_under(indexed, key))
+}
+
+/// A row that there may be, as a list.
+fn listed<'a>(with: Evaluation<'_>, row: Option<&'a Image>) -> Result<Vec<&'a Image>, Memory>
+    ensures { IfOk result (λ rows. looked_at rows.items ≡ listed (option_copied row.entry)) }
+{
+    let mut rows = Vec::new(with.alloc);
+    if let Some(image) = row {
+        rows.push(image)?;
+    }
+    Ok(rows)
+}
+
+/// The committed row that stands under the print of a key.
+fn row_under<'a>(indexed: Indexed<'a, '_>, key: &Value) -> Option<&'a Image>
+    requires { IsIndexed indexed }
+    ensures { option_copied result ≡ option_and_then (λ row. row_at row indexed.entry.rows.now) (row_under indexed.entry.index.now (print_of key.now)) }
+{
+    let row = indexed.index.row_of(print_of(key))?;
+    row_among(indexed.rows, row)
 }
 
 /// Whether the new row has the key of another, or two others have one.
 pub fn makes_twice(with: Evaluation<'_>, basis: Basis<'_>, new: &Image) -> Result<bool, Memory>
     requires { IsBasis basis }
-    ensures { IfOk result
-        (λ b. b ≡ repeats_key with.entry.level
-        (map row_key (new.now ∷ rows_seen basis.entry.start.now basis.entry.commits.now basis.entry.session.now basis.entry.table))) }
+    ensures { IfOk result (λ b. b ≡ repeats_key with.entry.level (map row_key (new.now ∷ rows_of_basis basis.entry))) }
 {
-    match indexed_rows(basis, with.level) {
+    let changes = of_table(
+        with.alloc,
+        basis.session.own.changes.as_slice(),
+        basis.table,
+    )?;
+    match indexed_rows(basis, &changes) {
         Some(indexed) => makes_indexed_twice(with, indexed, new),
         None => {
-            let rows = rows_seen(
-                with.alloc,
-                basis.start,
-                basis.commits,
-                basis.current,
-                basis.session,
-                basis.table,
-            )?;
+            let rows = all_rows(with, basis)?;
             makes_key_twice(with, new, &rows)
         }
     }
 }
 
-/// What the session's rows are found by, where it reads at the last commit and an index is kept. At another level than 1
-/// keys with other prints can be one.
-fn indexed_rows<'a>(basis: Basis<'a>, level: u32) -> Option<Indexed<'a>>
-    requires { IsBasis basis }
-    ensures indexed { IfSome result IsIndexed }
-    ensures level { IfSome result (λ indexed. level ≡ 1) }
-    ensures rows { IfSome result
-        (λ indexed. lay indexed.rows.now (of_table indexed.table indexed.changes.now)
-        ≡ rows_seen basis.entry.start.now basis.entry.commits.now basis.entry.session.now basis.entry.table) }
+/// Whether two rows have one key, once these images stand in the place of those of their numbers.
+pub fn leaves_twice(
+    with: Evaluation<'_>,
+    basis: Basis<'_>,
+    images: &[Image],
+) -> Result<bool, Memory>
+    requires is_basis { IsBasis basis }
+    requires rising { IsRising images.now }
+    requires there { AllByRecursion (λ (image : AnyImage). is_there image ≡ true) images.now }
+    ensures { IfOk result (λ b. b ≡ repeats_key with.entry.level (map row_key (lay (rows_of_basis basis.entry) images.now))) }
 {
-    if level != 1 || basis.session.snapshot.is_some() {
+    let own = of_table(
+        with.alloc,
+        basis.session.own.changes.as_slice(),
+        basis.table,
+    )?;
+    let news = looked(with.alloc, images)?;
+    let changes = laid(with.alloc, &own, &news)?;
+    match indexed_rows(basis, &changes) {
+        Some(indexed) => have_indexed_twice(with, indexed),
+        None => {
+            let rows = all_rows(with, basis)?;
+            let after = laid(with.alloc, &rows, &news)?;
+            repeats_key(with, &after)
+        }
+    }
+}
+
+/// What a table's rows are found by, with these changes over them, where the session reads all commits and an index is kept.
+fn indexed_rows<'a, 'c>(basis: Basis<'a>, changes: &'c [&'a Image]) -> Option<Indexed<'a, 'c>>
+    requires basis { IsBasis basis }
+    requires rising { IsRising (looked_at changes.now) }
+    ensures indexed { IfSome result IsIndexed }
+    ensures changes { IfSome result (λ indexed. looked_at indexed.changes.now ≡ looked_at changes.now) }
+    ensures rows { IfSome result
+        (λ indexed. lay indexed.rows.now (of_table basis.entry.table basis.entry.session.now.own.changes) ≡ rows_of_basis basis.entry) }
+{
+    if !reads_latest(basis) {
         return None;
     }
     let rows = basis.current.get(basis.table as usize)?;
@@ -92,37 +267,57 @@ fn indexed_rows<'a>(basis: Basis<'a>, level: u32) -> Option<Indexed<'a>>
     Some(Indexed {
         rows: rows.as_slice(),
         index,
-        changes: basis.session.own.changes.as_slice(),
-        table: basis.table,
+        changes,
     })
+}
+
+/// Whether the session reads all commits.
+fn reads_latest(basis: Basis<'_>) -> bool
+    ensures { result ≡ true → commits_seen basis.entry.session.now.snapshot basis.entry.commits.now ≡ basis.entry.commits.now }
+{
+    match basis.session.snapshot {
+        None => true,
+        Some(number) => number as usize >= basis.commits.len(),
+    }
 }
 
 /// Whether the new row has the key of another, or two others have one, where rows are found by their keys.
 fn makes_indexed_twice(
     with: Evaluation<'_>,
-    indexed: Indexed<'_>,
+    indexed: Indexed<'_, '_>,
     new: &Image,
 ) -> Result<bool, Memory>
-    requires level { with.level ≡ 1 }
-    requires indexed { IsIndexed indexed }
+    requires { IsIndexed indexed }
     ensures { IfOk result
         (λ b. b ≡ repeats_key with.entry.level
-        (map row_key (new.now ∷ lay indexed.entry.rows.now (of_table indexed.entry.table indexed.entry.changes.now)))) }
+        (map row_key (new.now ∷ lay indexed.entry.rows.now (looked_at indexed.entry.changes.now)))) }
 {
-    let changed = shown_of(with.alloc, indexed.changes, indexed.table)?;
+    let changed = shown_of(with.alloc, indexed.changes)?;
     if makes_key_twice(with, new, &changed)? {
         return Ok(true);
     }
     Ok(meets_staying(with, indexed, new) || some_meets_staying(with, indexed, &changed))
 }
 
+/// Whether two rows have one key, where they are found by their keys.
+fn have_indexed_twice(with: Evaluation<'_>, indexed: Indexed<'_, '_>) -> Result<bool, Memory>
+    requires { IsIndexed indexed }
+    ensures { IfOk result
+        (λ b. b ≡ repeats_key with.entry.level (map row_key (lay indexed.entry.rows.now (looked_at indexed.entry.changes.now)))) }
+{
+    let changed = shown_of(with.alloc, indexed.changes)?;
+    if repeats_key(with, &changed)? {
+        return Ok(true);
+    }
+    Ok(some_meets_staying(with, indexed, &changed))
+}
+
 /// Whether one of these has the key of a row that stays.
-fn some_meets_staying(with: Evaluation<'_>, indexed: Indexed<'_>, images: &[&Image]) -> bool
-    requires level { with.level ≡ 1 }
-    requires indexed { IsIndexed indexed }
+fn some_meets_staying(with: Evaluation<'_>, indexed: Indexed<'_, '_>, images: &[&Image]) -> bool
+    requires { IsIndexed indexed }
     ensures { result ≡ list_any
         (λ image. list_any (same_key with.entry.level (row_key image))
-        (map row_key (staying indexed.entry.rows.now (of_table indexed.entry.table indexed.entry.changes.now))))
+        (map row_key (staying indexed.entry.rows.now (looked_at indexed.entry.changes.now))))
         (looked_at images.now) }
 {
     for image in images {
@@ -134,30 +329,27 @@ fn some_meets_staying(with: Evaluation<'_>, indexed: Indexed<'_>, images: &[&Ima
 }
 
 /// Whether this has the key of a row that stays.
-fn meets_staying(with: Evaluation<'_>, indexed: Indexed<'_>, image: &Image) -> bool
-    requires level { with.level ≡ 1 }
-    requires indexed { IsIndexed indexed }
+fn meets_staying(with: Evaluation<'_>, indexed: Indexed<'_, '_>, image: &Image) -> bool
+    requires { IsIndexed indexed }
     ensures { result
         ≡ list_any (same_key with.entry.level (row_key image.now))
-        (map row_key (staying indexed.entry.rows.now (of_table indexed.entry.table indexed.entry.changes.now))) }
+        (map row_key (staying indexed.entry.rows.now (looked_at indexed.entry.changes.now))) }
 {
     let key = row_key(with, image);
-    let Some(row) = indexed.index.row_of(print_of(key)) else {
-        return false;
-    };
-    let Some(other) = row_among(indexed.rows, row) else {
+    let Some(other) = row_under(indexed, key) else {
         return false;
     };
     !is_changed(indexed, other) && same_key(with.level, key, row_key(with, other))
 }
 
 /// Whether there is a change of this row.
-fn is_changed(indexed: Indexed<'_>, image: &Image) -> bool
+fn is_changed(indexed: Indexed<'_, '_>, image: &Image) -> bool
     requires { IsIndexed indexed }
-    ensures { result ≡ is_among (of_table indexed.entry.table indexed.entry.changes.now) image.now }
+    ensures { result ≡ is_among (looked_at indexed.entry.changes.now) image.now }
 {
-    match row_among(indexed.changes, image.row) {
-        Some(change) => change.table == indexed.table,
-        None => false,
+    let changes = indexed.changes;
+    match changes.binary_search_by_key(&image.row, |change| change.row) {
+        Ok(_) => true,
+        Err(_) => false,
     }
 }

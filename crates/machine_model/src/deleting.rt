@@ -9,16 +9,16 @@ ghost use Rattle.machine_model.specs.Rows.{row_key, row_numbers};
 ghost use Rattle.machine_model.specs.Writes.{gone};
 ghost use Rattle.machine_model.specs.Found.{matching};
 ghost use Rattle.machine_model.specs.Answer.{delete_causes, delete_effect, deletion, ruled};
-ghost use Rattle.machine_model.specs.Inside.Decision.{Decides, view_of_seen};
+ghost use Rattle.machine_model.specs.Inside.Decision.{Decides, view_of_basis};
+ghost use Rattle.machine_model.specs.Inside.Index.{IsBasis, rows_of_basis};
 
+use crate::basis::{Basis, visit};
 use crate::causes::Causes;
 use crate::deciding::{done, refusal, row_numbers, touch_too_many};
 use crate::effect::{Decision, Effect, Writing};
 use crate::evaluation::Evaluation;
-use crate::found::sifted;
 use crate::holds::hold_some_row;
 use crate::images::row_key;
-use crate::seen::Seen;
 use desk_values::{Copied, Fault, Image, List, Memory, Outcome, Values};
 use sql_eval::Checked;
 use std::alloc::Global;
@@ -26,21 +26,22 @@ use std::alloc::Global;
 /// What a DELETE is answered, and what it does.
 pub fn delete(
     with: Evaluation<'_>,
-    seen: Seen<'_>,
+    basis: Basis<'_>,
     condition: &Option<Checked>,
 ) -> Result<Decision, Memory>
-    ensures { let env = env_of with.entry in let view = view_of_seen seen.entry in
+    requires { IsBasis basis }
+    ensures { let env = env_of with.entry in let view = view_of_basis basis.entry in
         IfOk result (λ d. Decides view
-        (ruled seen.entry.table view [] (delete_causes env view (condition_of condition.now))
+        (ruled basis.entry.table view [] (delete_causes env view (condition_of condition.now))
         (delete_effect env view (condition_of condition.now))) d) }
 {
-    let (found, fault) = judged(with, seen, condition)?;
+    let (found, fault) = judged(with, basis, condition)?;
     let draws = List::new(with.alloc);
     match fault {
         Some(fault) => Ok(refusal(fault, draws)),
         None => {
             let effect = deletion(with, &found)?;
-            Ok(done(seen.table, draws, effect))
+            Ok(done(basis.table, draws, effect))
         }
     }
 }
@@ -48,21 +49,22 @@ pub fn delete(
 /// The rows that match, and why they may not go.
 fn judged<'a>(
     with: Evaluation<'_>,
-    seen: Seen<'a>,
+    basis: Basis<'a>,
     condition: &Option<Checked>,
 ) -> Result<(Vec<&'a Image>, Option<Fault>), Memory>
+    requires { IsBasis basis }
     ensures found { IfOk result
-        (λ r. looked_at r.0.items ≡ matching (env_of with.entry) (condition_of condition.now) (looked_at seen.entry.rows.now)) }
+        (λ r. looked_at r.0.items ≡ matching (env_of with.entry) (condition_of condition.now) (rows_of_basis basis.entry)) }
     ensures fault { IfOk result
-        (λ r. r.1 ≡ ranked (delete_causes (env_of with.entry) (view_of_seen seen.entry) (condition_of condition.now))) }
+        (λ r. r.1 ≡ ranked (delete_causes (env_of with.entry) (view_of_basis basis.entry) (condition_of condition.now))) }
 {
-    let (found, faults) = sifted(with, condition, seen.rows)?;
-    let too_many = touch_too_many(&seen.session.own.changes, &found);
+    let (found, faults) = visit(with, basis, condition)?;
+    let too_many = touch_too_many(&basis.session.own.changes, &found);
     let first = Causes::first(faults, too_many);
     if let Some(fault) = first.ranked() {
         return Ok((found, Some(fault)));
     }
-    let locked = hold_some_row(seen.others, &found);
+    let locked = hold_some_row(basis.others, &found);
     let causes = Causes { locked, ..first };
     Ok((found, causes.ranked()))
 }

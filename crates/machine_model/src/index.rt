@@ -1,4 +1,4 @@
-//! Where keys stand: of each table the committed rows by their keys, so that an INSERT need not look at every row.
+//! Where keys stand: of each table the committed rows by their keys, so that a statement need not look at every row.
 
 ghost use Rattle.std.specs.Prelude.{◌≡◌, ◌∷◌, [], ℕ, List, Some, IfOk, nat_eq};
 ghost use Rattle.std.specs.Bool.{OnTrue};
@@ -7,21 +7,16 @@ ghost use Rattle.std.specs.Option.{option_copied};
 ghost use Rattle.desk_values.specs.declared.value.Image.{Image as AnyImage};
 ghost use Rattle.machine_model.specs.Rows.{IsRising, row_key};
 ghost use Rattle.machine_model.specs.Step.{committed_in};
-ghost use Rattle.machine_model.specs.Inside.Index.{AreIndexes, HasRows, has_print, is_others, print_of, row_under, text_print};
+ghost use Rattle.same_keys.specs.Print.{print_of};
+ghost use Rattle.machine_model.specs.Inside.Index.{AreIndexes, HasRows, has_print, is_others, row_under};
 ghost use Rattle.machine_model.specs.Inside.Rows.{row_at, stocked};
-ghost use Rattle.machine_model.specs.declared.index.TheConstants.{EMPTY_PRINT};
 
 use crate::images::first_value;
 use crate::rows::{TableRows, row_among};
-use desk_values::{Image, Memory, Outcome, Value};
+use desk_values::{Image, Memory, Outcome};
+use same_keys::print_of;
 use std::alloc::Global;
 use std::collections::HashMap;
-
-/// The print of the empty text. It is odd, so that bytes of 0 at the front of a text count too.
-const EMPTY_PRINT: u64 = 14_695_981_039_346_656_037;
-
-/// By what the print of a text is multiplied for each byte, an odd number.
-const PRINT_FACTOR: u64 = 1_099_511_628_211;
 
 /// The committed rows of a table by the prints of their keys. It is kept until two rows have one print or memory is short;
 /// from then on rows are looked through.
@@ -123,31 +118,6 @@ fn print_of_row(image: &Image) -> u64
         Some(key) => print_of(key),
         None => 0,
     }
-}
-
-/// A number that values share which are one key.
-pub fn print_of(key: &Value) -> u64
-    ensures { result ≡ print_of key.now }
-{
-    match key {
-        Value::Null => 0,
-        Value::Int(number) => number.cast_unsigned(),
-        Value::Text(text) => text_print(text.as_str().as_bytes()),
-        Value::Row(number) | Value::Draw(_, number) => *number,
-    }
-}
-
-/// The print of a text, by its bytes.
-fn text_print(bytes: &[u8]) -> u64
-    ensures { result ≡ text_print EMPTY_PRINT bytes.now }
-{
-    let mut print = EMPTY_PRINT;
-    for byte in bytes {
-        print = print
-            .wrapping_mul(PRINT_FACTOR)
-            .wrapping_add(u64::from(*byte));
-    }
-    print
 }
 
 /// Indexes of tables.

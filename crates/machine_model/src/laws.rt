@@ -11,6 +11,7 @@ ghost use Rattle.desk_values.specs.Good.{HasGoodShape, MayTell};
 ghost use Rattle.desk_schema.specs.Start.{StartView};
 ghost use Rattle.desk_schema.specs.File.{IsStart};
 ghost use Rattle.sql_tree.specs.declared.tree.Key.{Key};
+ghost use Rattle.machine_model.specs.ByKey.{VisitedAnswer};
 ghost use Rattle.machine_model.specs.Found.{ordered, row_order};
 ghost use Rattle.machine_model.specs.State.{State, opening, tables};
 ghost use Rattle.machine_model.specs.Step.{replies_of, reply_in, step};
@@ -60,4 +61,10 @@ pub fn rows_keep_values()
     ensures level_one { (value : Value) → stored 1 value ≡ value }
     ensures others { (level : ℕ) (value : Value) → ¬ (value ≡ Text []) → stored level value ≡ value }
     ensures null { stored 2 (Text []) ≡ Null }
+{}
+
+/// A SELECT and a DELETE are answered by the rows that they visit as by all rows that the session sees, and so is an UPDATE, but for
+/// whether a key stands twice.
+pub fn visited_rows_answer()
+    ensures { VisitedAnswer }
 {}

@@ -30,7 +30,6 @@ mod repeats;
 mod rows;
 mod savepoints;
 mod seeing;
-mod seen;
 mod selecting;
 mod session;
 mod tables;

@@ -10,13 +10,15 @@ ghost use Rattle.machine_model.specs.Clean.{is_clean};
 ghost use Rattle.machine_model.specs.Views.{IsViewOf, KeepsRising};
 ghost use Rattle.machine_model.specs.State.{disconnected, is_connected, is_given, opening, session_at, tables};
 ghost use Rattle.machine_model.specs.View.{others, plain_view, rows_seen, view_of};
-ghost use Rattle.machine_model.specs.Request.{connect as connect_request, disconnect as disconnect_request, read, known_in, names_savepoint, request_of, statement as statement_request, statement_in, unsound};
+ghost use Rattle.machine_model.specs.Request.{connect as connect_request, disconnect as disconnect_request, read, names_savepoint, request_of, statement as statement_request, statement_in, unsound};
 ghost use Rattle.machine_model.specs.Answer.{answer, gone_back, reply_of};
 ghost use Rattle.machine_model.specs.Step.{Gives, after, after_made, answer_in, answer_to, committed_in, view_for};
-ghost use Rattle.machine_model.specs.Inside.Decision.{Decides, Executes, committed_by, done_so, view_of_basis, view_of_seen};
+ghost use Rattle.machine_model.specs.Inside.Decision.{Decides, Executes, committed_by, done_so, view_of_basis};
 ghost use Rattle.desk_values.specs.Good.{IsGoodReply};
 ghost use Rattle.machine_model.specs.Inside.Evaluation.{env_of};
 ghost use Rattle.machine_model.specs.Inside.Index.{IsBasis};
+ghost use Rattle.machine_model.specs.Inside.Machine.{known_request};
+ghost use Rattle.statement_cache.specs.Kept.{outcome_of, outcome_of_text};
 ghost use Rattle.machine_model.specs.Sound.{AreStanding, IsSoundState};
 ghost use Rattle.machine_model.specs.Rows.{IsRising, lay_all};
 
@@ -35,7 +37,6 @@ use crate::laws::tables_stand;
 use crate::permission::statement_fault;
 use crate::rows::{Rows, TableRows};
 use crate::seeing::rows_seen;
-use crate::seen::Seen;
 use crate::selecting::select;
 use crate::session::{Savepoint, Session};
 use crate::tables::tables_of;
@@ -48,10 +49,8 @@ use desk_values::{
     Binds, Call, Copied, Fault, Image, Images, List, Memory, Outcome, Reply, SESSION_LIMIT, Txt,
     Value, Values,
 };
-use sql_eval::{
-    CheckErr, Checked, Columns, Ready, ReadyInputs, ReadyItems, ReadyKeys, ReadySets, check,
-};
-use sql_reader::{SqlErr, Statement, read_statement};
+use sql_eval::{Checked, Columns, Ready, ReadyInputs, ReadyItems, ReadyKeys, ReadySets};
+use statement_cache::{Kept, Statements, read_kept};
 use std::alloc::Global;
 use std::marker::Model;
 
@@ -77,6 +76,7 @@ pub struct PlainMachine {
     next_row: u64,
     next_values: Vec<u64>,
     sessions: Vec<Session>,
+    statements: Statements,
     steps: u64,
     no_values: Values,
     null: Value,
@@ -89,6 +89,7 @@ impl Model for PlainMachine {
     ghost use Rattle.machine_model.specs.Machine.{Running};
     ghost use Rattle.machine_model.specs.Inside.Index.{AreIndexes};
     ghost use Rattle.machine_model.specs.Inside.Machine.{Keeps};
+    ghost use Rattle.statement_cache.specs.Kept.{AreRight};
 
     ghost Value = { Running };
 
@@ -116,7 +117,8 @@ impl Model for PlainMachine {
           steps = a.steps;
         })
         (stocked a.current.items)
-        × (a.no_values ≡ []) × (a.null ≡ NoValue) × AreIndexes a.indexes.items (stocked a.current.items) [] };
+        × (a.no_values ≡ []) × (a.null ≡ NoValue) × AreIndexes a.indexes.items (stocked a.current.items) []
+        × AreRight a.start.schema a.statements };
 }
 
 impl PlainMachine {
@@ -140,6 +142,7 @@ impl PlainMachine {
             next_row,
             next_values,
             sessions,
+            statements: Statements::new(alloc),
             steps: 0,
             no_values: List::new(alloc),
             null: Value::Null,
@@ -255,6 +258,34 @@ impl PlainMachine {
         ensures steps { OnOk result (self.new.steps ≡ self.old.steps + 1) }
         ensures err { OnErr result (self.new ≡ self.old) }
     {
+        self.learn(call);
+        self.stepped(session, call)
+    }
+
+    /// Executes a call of a session. Its reply is given three times: the copies are made before anything changes.
+    pub fn step_copies(&mut self, session: u32, call: &Call) -> Result<Copies, Memory>
+        requires session { session < 64 }
+        requires steps { self.old.steps < 1048576 }
+        ensures ok { IfOk result (λ copies. Gives self.old.state session call.now copies.first self.new.state) }
+        ensures second { IfOk result (λ copies. copies.second ≡ copies.first) }
+        ensures third { IfOk result (λ copies. copies.third ≡ copies.first) }
+        ensures good { IfOk result (λ copies. IsGoodReply copies.first) }
+        ensures steps { OnOk result (self.new.steps ≡ self.old.steps + 1) }
+        ensures err { OnErr result (self.new ≡ self.old) }
+    {
+        self.learn(call);
+        self.stepped_copies(session, call)
+    }
+
+    /// The step of a call whose text is kept, or read anew.
+    fn stepped(&mut self, session: u32, call: &Call) -> Result<Reply, Memory>
+        requires session { session < 64 }
+        requires steps { self.old.steps < 1048576 }
+        ensures ok { IfOk result (λ reply. Gives self.old.state session call.now reply self.new.state) }
+        ensures good { IfOk result (λ reply. IsGoodReply reply) }
+        ensures steps { OnOk result (self.new.steps ≡ self.old.steps + 1) }
+        ensures err { OnErr result (self.new ≡ self.old) }
+    {
         self.know_sound();
         let decision = self.decision(session as usize, call)?;
         let reply = self.follow(session as usize, decision)?;
@@ -262,8 +293,8 @@ impl PlainMachine {
         Ok(reply)
     }
 
-    /// Executes a call of a session. Its reply is given three times: the copies are made before anything changes.
-    pub fn step_copies(&mut self, session: u32, call: &Call) -> Result<Copies, Memory>
+    /// The same step, with its reply three times.
+    fn stepped_copies(&mut self, session: u32, call: &Call) -> Result<Copies, Memory>
         requires session { session < 64 }
         requires steps { self.old.steps < 1048576 }
         ensures ok { IfOk result (λ copies. Gives self.old.state session call.now copies.first self.new.state) }
@@ -369,6 +400,15 @@ impl PlainMachine {
         }
     }
 
+    /// Reads the text of a call, unless it is kept.
+    fn learn(&mut self, call: &Call)
+        ensures { self.new ≡ self.old }
+    {
+        if let Call::Sql(text, binds) = call {
+            self.statements.learn(self.start.schema(), text, binds);
+        }
+    }
+
     /// What a text of SQL is answered, and what it does.
     fn sql(&self, session: usize, text: &Txt, binds: &Binds) -> Result<Decision, Memory>
         requires { session < 64 }
@@ -377,50 +417,41 @@ impl PlainMachine {
             (statement_in self.now.state.start.schema.version text.now) in
             Decides (view_for self.now.state session request) (answer_to self.now.state session request) decision) }
     {
-        match read_statement(self.alloc, text) {
-            Ok(statement) => self.known(session, &statement, binds),
-            Err(SqlErr::Syntax) => Ok(refused(self.alloc, Fault::Syntax)),
-            Err(SqlErr::Memory) => Err(Memory),
+        match self.statements.find(text, binds) {
+            Some(kept) => self.kept(session, kept, binds),
+            None => {
+                let kept = read_kept(self.alloc, self.start.schema(), text, binds)?;
+                self.kept(session, &kept, binds)
+            }
         }
     }
 
-    /// What a statement is answered that this server has, or has not.
-    fn known(
-        &self,
-        session: usize,
-        statement: &Statement,
-        binds: &Binds,
-    ) -> Result<Decision, Memory>
+    /// What a text is answered that is this to a server.
+    fn kept(&self, session: usize, kept: &Kept, binds: &Binds) -> Result<Decision, Memory>
         requires { session < 64 }
-        ensures { IfOk result
+        ensures { (text : List ℕ) → outcome_of_text self.now.state.start.schema text binds.now ≡ outcome_of kept.now → IfOk result
             (λ decision. let request = read self.now.state.start.schema binds.now
-            (known_in self.now.state.start.schema.version (plan_of statement.now)) in
+            (statement_in self.now.state.start.schema.version text) in
             Decides (view_for self.now.state session request) (answer_to self.now.state session request) decision) }
     {
-        if self.start.schema().version() == 1 && names_savepoint(statement) {
-            return Ok(refused(self.alloc, Fault::Syntax));
+        match kept {
+            Kept::Checked(ready) => self.known(session, ready, binds),
+            Kept::Refused(fault) => Ok(self.unsound(session, *fault)),
+            Kept::Unreadable => Ok(refused(self.alloc, Fault::Syntax)),
         }
-        self.parsed(session, statement, binds)
     }
 
-    /// What a statement is answered, and what it does.
-    fn parsed(
-        &self,
-        session: usize,
-        statement: &Statement,
-        binds: &Binds,
-    ) -> Result<Decision, Memory>
+    /// What a checked statement is answered that this server has, or has not.
+    fn known(&self, session: usize, ready: &Ready, binds: &Binds) -> Result<Decision, Memory>
         requires { session < 64 }
         ensures { IfOk result
-            (λ decision. Decides
-            (view_for self.now.state session (read self.now.state.start.schema binds.now (Some (plan_of statement.now))))
-            (answer_to self.now.state session (read self.now.state.start.schema binds.now (Some (plan_of statement.now)))) decision) }
+            (λ decision. let request = known_request self.now.state.start.schema.version (plan_of ready.now) binds.now in
+            Decides (view_for self.now.state session request) (answer_to self.now.state session request) decision) }
     {
-        match check(self.alloc, self.start.schema(), statement, binds) {
-            Ok(ready) => self.checked(session, &ready, binds),
-            Err(CheckErr::Refused(fault)) => Ok(self.unsound(session, fault)),
-            Err(CheckErr::Memory) => Err(Memory),
+        if self.start.schema().version() == 1 && names_savepoint(ready) {
+            return Ok(refused(self.alloc, Fault::Syntax));
         }
+        self.checked(session, ready, binds)
     }
 
     /// A statement that a check refuses.
@@ -525,11 +556,9 @@ impl PlainMachine {
             (λ decision. Executes self.now.state session binds.now
             (select_plan table (asked_of items.now) (condition_of condition.now) keys.now for_update) decision) }
     {
-        let rows = self.rows(session, table)?;
-        let seen = self.seen(session, table, &rows);
         select(
             self.evaluation(binds),
-            seen,
+            self.basis(session, table),
             items,
             condition,
             keys,
@@ -576,10 +605,14 @@ impl PlainMachine {
             (λ decision. Executes self.now.state session binds.now
             (update_plan table (map change_of settings.now) (condition_of condition.now)) decision) }
     {
-        let rows = self.rows(session, table)?;
-        let seen = self.seen(session, table, &rows);
         let columns = self.columns(table);
-        update(self.evaluation(binds), seen, columns, settings, condition)
+        update(
+            self.evaluation(binds),
+            self.basis(session, table),
+            columns,
+            settings,
+            condition,
+        )
     }
 
     fn delete(
@@ -593,9 +626,11 @@ impl PlainMachine {
         ensures { IfOk result
             (λ decision. Executes self.now.state session binds.now (delete_plan table (condition_of condition.now)) decision) }
     {
-        let rows = self.rows(session, table)?;
-        let seen = self.seen(session, table, &rows);
-        delete(self.evaluation(binds), seen, condition)
+        delete(
+            self.evaluation(binds),
+            self.basis(session, table),
+            condition,
+        )
     }
 
     /// The columns of a table.
@@ -630,22 +665,6 @@ impl PlainMachine {
     }
 
     /// What a statement on a table can depend on.
-    fn seen<'a>(&'a self, session: usize, table: u32, rows: &'a [&'a Image]) -> Seen<'a>
-        requires session { session < 64 }
-        requires rows { looked_at rows.now
-            ≡ rows_seen self.now.state.start.rows self.now.state.commits (session_at self.now.state session) table }
-        ensures view { view_of_seen result ≡ view_of self.now.state session (Some table) }
-        ensures table { result.table ≡ table }
-    {
-        Seen {
-            session: self.session(session),
-            others: self.others(session),
-            table,
-            rows,
-        }
-    }
-
-    /// What an INSERT into a table can depend on.
     fn basis(&self, session: usize, table: u32) -> Basis<'_>
         requires { session < 64 }
         ensures is_basis { IsBasis result }
@@ -750,13 +769,10 @@ fn row_after(made: Option<u64>, next_row: u64) -> u64
 }
 
 /// Whether the statement is one on savepoints.
-fn names_savepoint(statement: &Statement) -> bool
-    ensures { result ≡ names_savepoint (plan_of statement.now) }
+fn names_savepoint(ready: &Ready) -> bool
+    ensures { result ≡ names_savepoint (plan_of ready.now) }
 {
-    matches!(
-        statement,
-        Statement::Savepoint(_) | Statement::RollbackTo(_)
-    )
+    matches!(ready, Ready::Savepoint(_) | Ready::RollbackTo(_))
 }
 
 /// Each sequence that was drawn from moves by 1.

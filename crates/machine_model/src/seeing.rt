@@ -22,7 +22,7 @@ fn show<'a>(seen: &mut Vec<&'a Image>, change: &'a Image) -> Result<(), Memory>
 }
 
 /// The rows with the changes laid over them.
-fn laid<'a>(
+pub fn laid<'a>(
     alloc: Global,
     rows: &[&'a Image],
     changes: &[&'a Image],
@@ -62,25 +62,23 @@ fn picked<'a>(alloc: Global, images: &'a [Image], table: u32) -> Result<Vec<&'a 
     Ok(seen)
 }
 
-/// Those of one table, but rows that are gone.
-pub fn shown_of<'a>(
-    alloc: Global,
-    images: &'a [Image],
-    table: u32,
-) -> Result<Vec<&'a Image>, Memory>
-    ensures { IfOk result (λ seen. looked_at seen.items ≡ all_shown (of_table table images.now)) }
+/// Those that are not gone.
+pub fn shown_of<'a>(alloc: Global, changes: &[&'a Image]) -> Result<Vec<&'a Image>, Memory>
+    ensures { IfOk result (λ seen. looked_at seen.items ≡ all_shown (looked_at changes.now)) }
 {
     let mut seen = Vec::new(alloc);
-    for image in images {
-        if image.table == table {
-            show(&mut seen, image)?;
-        }
+    for change in changes {
+        show(&mut seen, *change)?;
     }
     Ok(seen)
 }
 
 /// Those of one table, which rise too.
-fn of_table<'a>(alloc: Global, images: &'a [Image], table: u32) -> Result<Vec<&'a Image>, Memory>
+pub fn of_table<'a>(
+    alloc: Global,
+    images: &'a [Image],
+    table: u32,
+) -> Result<Vec<&'a Image>, Memory>
     requires { IsRising images.now }
     ensures value { IfOk result (λ seen. looked_at seen.items ≡ of_table table images.now) }
     ensures rising { IfOk result (λ seen. IsRising (looked_at seen.items)) }
@@ -90,7 +88,7 @@ fn of_table<'a>(alloc: Global, images: &'a [Image], table: u32) -> Result<Vec<&'
 }
 
 /// All of them.
-fn looked<'a>(alloc: Global, images: &'a [Image]) -> Result<Vec<&'a Image>, Memory>
+pub fn looked<'a>(alloc: Global, images: &'a [Image]) -> Result<Vec<&'a Image>, Memory>
     ensures { IfOk result (λ seen. looked_at seen.items ≡ images.now) }
 {
     let mut seen = Vec::new(alloc);

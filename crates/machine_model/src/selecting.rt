@@ -10,41 +10,43 @@ ghost use Rattle.machine_model.specs.Causes.{ranked};
 ghost use Rattle.machine_model.specs.Found.{matching, row_faults, values_for};
 ghost use Rattle.machine_model.specs.Answer.{are_totals, asked_faults, is_over, ruled, select_causes, select_effect, select_rows, selection, total_in, totals_in};
 ghost use Rattle.machine_model.specs.View.{is_held};
-ghost use Rattle.machine_model.specs.Inside.Decision.{Decides, view_of_seen};
+ghost use Rattle.machine_model.specs.Inside.Decision.{Decides, view_of_basis};
+ghost use Rattle.machine_model.specs.Inside.Index.{IsBasis, rows_of_basis};
 
+use crate::basis::{Basis, visit};
 use crate::causes::Causes;
 use crate::deciding::{ROW_LIMIT, done, refusal, row_numbers};
 use crate::effect::{Decision, Effect, Writing};
 use crate::evaluation::Evaluation;
-use crate::found::{sifted, total_value, values_for, values_of};
+use crate::found::{total_value, values_for, values_of};
 use crate::holds::hold_some_row;
 use crate::order::ordered;
-use crate::seen::Seen;
 use desk_values::{Copied, Fault, Image, List, Memory, Outcome, RowList, Values};
 use sql_eval::{Checked, Faults, ReadyAgg, ReadyItems, ReadyKey, ReadyKeys};
 
 /// What a SELECT is answered, and what it holds.
 pub fn select(
     with: Evaluation<'_>,
-    seen: Seen<'_>,
+    basis: Basis<'_>,
     items: &ReadyItems,
     condition: &Option<Checked>,
     keys: &ReadyKeys,
     for_update: bool,
 ) -> Result<Decision, Memory>
-    ensures { let env = env_of with.entry in let view = view_of_seen seen.entry in
+    requires { IsBasis basis }
+    ensures { let env = env_of with.entry in let view = view_of_basis basis.entry in
         IfOk result (λ d. Decides view
-        (ruled seen.entry.table view []
+        (ruled basis.entry.table view []
         (select_causes env view (asked_of items.now) (condition_of condition.now) for_update)
         (select_effect env view (asked_of items.now) (condition_of condition.now) keys.now for_update)) d) }
 {
-    let (found, fault) = judged(with, seen, items, condition, for_update)?;
+    let (found, fault) = judged(with, basis, items, condition, for_update)?;
     let draws = List::new(with.alloc);
     match fault {
         Some(fault) => Ok(refusal(fault, draws)),
         None => {
             let effect = selection(with, items, keys.as_slice(), for_update, found)?;
-            Ok(done(seen.table, draws, effect))
+            Ok(done(basis.table, draws, effect))
         }
     }
 }
@@ -53,45 +55,46 @@ pub fn select(
 #[tactic(auto, using(crate::proofs::Adding::any_filtered))]
 fn judged<'a>(
     with: Evaluation<'_>,
-    seen: Seen<'a>,
+    basis: Basis<'a>,
     items: &ReadyItems,
     condition: &Option<Checked>,
     for_update: bool,
 ) -> Result<(Vec<&'a Image>, Option<Fault>), Memory>
+    requires { IsBasis basis }
     ensures found { IfOk result
-        (λ r. looked_at r.0.items ≡ matching (env_of with.entry) (condition_of condition.now) (looked_at seen.entry.rows.now)) }
+        (λ r. looked_at r.0.items ≡ matching (env_of with.entry) (condition_of condition.now) (rows_of_basis basis.entry)) }
     ensures fault { IfOk result
         (λ r. r.1 ≡ ranked
-        (select_causes (env_of with.entry) (view_of_seen seen.entry) (asked_of items.now) (condition_of condition.now) for_update)) }
+        (select_causes (env_of with.entry) (view_of_basis basis.entry) (asked_of items.now) (condition_of condition.now) for_update)) }
 {
-    let (found, faults) = sifted(with, condition, seen.rows)?;
+    let (found, faults) = visit(with, basis, condition)?;
     let faults = faults.joined(asked_faults(with, items, &found)?);
     let causes = Causes {
         divides: faults.divides,
         overflows: faults.overflows,
-        too_many: are_too_many(seen, items, &found),
-        locked: are_locked(seen, for_update, &found),
+        too_many: are_too_many(basis, items, &found),
+        locked: are_locked(basis, for_update, &found),
         ..Causes::none()
     };
     Ok((found, causes.ranked()))
 }
 
 /// Whether more than 1,000 rows would be answered, or the transaction has changed more than that.
-fn are_too_many(seen: Seen<'_>, items: &ReadyItems, found: &[&Image]) -> bool
+fn are_too_many(basis: Basis<'_>, items: &ReadyItems, found: &[&Image]) -> bool
     ensures { result
         ≡ ((not (are_totals (asked_of items.now)) && is_over (length (looked_at found.now)))
-        || is_over (length seen.entry.session.now.own.changes)) }
+        || is_over (length basis.entry.session.now.own.changes)) }
 {
     let one_row = matches!(items, ReadyItems::Aggs(_));
-    (!one_row && found.len() > ROW_LIMIT) || seen.session.own.changes.len() > ROW_LIMIT
+    (!one_row && found.len() > ROW_LIMIT) || basis.session.own.changes.len() > ROW_LIMIT
 }
 
 /// Whether the rows are to be held, and another session holds one.
-fn are_locked(seen: Seen<'_>, for_update: bool, found: &[&Image]) -> bool
+fn are_locked(basis: Basis<'_>, for_update: bool, found: &[&Image]) -> bool
     ensures { result
-        ≡ (for_update && list_any (is_held (seen.entry.others.before.now ++ seen.entry.others.after.now)) (looked_at found.now)) }
+        ≡ (for_update && list_any (is_held (basis.entry.others.before.now ++ basis.entry.others.after.now)) (looked_at found.now)) }
 {
-    for_update && hold_some_row(seen.others, found)
+    for_update && hold_some_row(basis.others, found)
 }
 
 /// The faults of what is asked of the rows.

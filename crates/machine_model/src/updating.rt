@@ -4,25 +4,25 @@ ghost use Rattle.std.specs.Prelude.{◌≡◌, ◌∷◌, ◌++◌, ◌||◌, []
 ghost use Rattle.sql_tree.specs.Plain.{change_of, condition_of};
 ghost use Rattle.sql_eval.specs.Faults.{any_fault, joined};
 ghost use Rattle.sql_eval.specs.Totals.{looked_at};
-ghost use Rattle.machine_model.specs.Inside.Evaluation.{env_of, replaced};
+ghost use Rattle.machine_model.specs.Inside.Evaluation.{env_of};
+ghost use Rattle.machine_model.specs.Inside.Index.{IsBasis, rows_of_basis};
 ghost use Rattle.desk_values.specs.declared.call.Outcome.TheVariants.{Count};
 ghost use Rattle.machine_model.specs.Causes.{ranked};
 ghost use Rattle.machine_model.specs.Inside.FirstCauses.{meets_hold, update_first};
-ghost use Rattle.machine_model.specs.Found.{matches, matching, row_faults, value_in};
-ghost use Rattle.machine_model.specs.Rows.{row_key, row_numbers};
-ghost use Rattle.machine_model.specs.Writes.{keys_moved, moved_keys, repeats_key, sources, updated};
+ghost use Rattle.machine_model.specs.Found.{matching, row_faults, value_in};
+ghost use Rattle.machine_model.specs.Rows.{row_numbers};
+ghost use Rattle.machine_model.specs.Writes.{keys_moved, moved_keys, sources, updated};
 ghost use Rattle.machine_model.specs.Answer.{meets_lock, ruled, update_causes, update_effect};
-ghost use Rattle.machine_model.specs.Inside.Decision.{Decides, view_of_seen};
+ghost use Rattle.machine_model.specs.Inside.Decision.{Decides, view_of_basis};
 
+use crate::basis::{Basis, leaves_twice, visit};
 use crate::causes::Causes;
 use crate::deciding::{done, refusal, row_numbers, touch_too_many};
 use crate::effect::{Decision, Effect, Writing};
 use crate::evaluation::Evaluation;
-use crate::found::{evaluated, is_match, sifted, values_of};
+use crate::found::{evaluated, values_of};
 use crate::holds::{hold_key, hold_some_row};
 use crate::images::{row_key, same_row_key, stored, tested};
-use crate::repeats::repeats_key;
-use crate::seen::Seen;
 use desk_schema::Column;
 use desk_values::{Copied, Fault, Image, List, Memory, Outcome, Values};
 use sql_eval::{Checked, Faults, ReadySets, ReadySetting};
@@ -53,15 +53,16 @@ struct Changed {
 /// What an UPDATE is answered, and what it does.
 pub fn update(
     with: Evaluation<'_>,
-    seen: Seen<'_>,
+    basis: Basis<'_>,
     columns: &[Column],
     settings: &ReadySets,
     condition: &Option<Checked>,
 ) -> Result<Decision, Memory>
-    ensures { let env = env_of with.entry in let view = view_of_seen seen.entry in
+    requires { IsBasis basis }
+    ensures { let env = env_of with.entry in let view = view_of_basis basis.entry in
         let changes = map change_of settings.now in
         IfOk result (λ d. Decides view
-        (ruled seen.entry.table view [] (update_causes env columns.now view changes (condition_of condition.now))
+        (ruled basis.entry.table view [] (update_causes env columns.now view changes (condition_of condition.now))
         (update_effect env view changes (condition_of condition.now))) d) }
 {
     let says = Says {
@@ -70,16 +71,16 @@ pub fn update(
         condition,
     };
     let draws = List::new(with.alloc);
-    let (found, first) = first_causes(with, seen, says)?;
+    let (found, first) = first_causes(with, basis, says)?;
     if let Some(fault) = first.ranked() {
         return Ok(refusal(fault, draws));
     }
-    let changed = changed_rows(with, seen, says.settings, &found)?;
-    match update_fault(with, seen, says, &changed, first)? {
+    let changed = changed_rows(with, basis, says.settings, &found)?;
+    match update_fault(with, basis, says, &changed, first)? {
         Some(fault) => Ok(refusal(fault, draws)),
         None => {
             let effect = changing(with.alloc, &found, changed)?;
-            Ok(done(seen.table, draws, effect))
+            Ok(done(basis.table, draws, effect))
         }
     }
 }
@@ -87,19 +88,20 @@ pub fn update(
 /// The rows that match, and the causes that are found first.
 fn first_causes<'a>(
     with: Evaluation<'_>,
-    seen: Seen<'a>,
+    basis: Basis<'a>,
     says: Says<'_>,
 ) -> Result<(Vec<&'a Image>, Causes), Memory>
+    requires { IsBasis basis }
     ensures found { IfOk result
         (λ r. looked_at r.0.items
-        ≡ matching (env_of with.entry) (condition_of says.entry.condition.now) (looked_at seen.entry.rows.now)) }
+        ≡ matching (env_of with.entry) (condition_of says.entry.condition.now) (rows_of_basis basis.entry)) }
     ensures first { IfOk result
-        (λ r. r.1 ≡ update_first (env_of with.entry) (view_of_seen seen.entry)
+        (λ r. r.1 ≡ update_first (env_of with.entry) (view_of_basis basis.entry)
         (map change_of says.entry.settings.now) (condition_of says.entry.condition.now) (looked_at r.0.items)) }
 {
-    let (found, faults) = sifted(with, says.condition, seen.rows)?;
+    let (found, faults) = visit(with, basis, says.condition)?;
     let faults = all_faults(with, says.settings, &found, faults)?;
-    let too_many = touch_too_many(&seen.session.own.changes, &found);
+    let too_many = touch_too_many(&basis.session.own.changes, &found);
     Ok((found, Causes::first(faults, too_many)))
 }
 
@@ -123,29 +125,30 @@ fn all_faults(
 /// Why the rows that match may not be changed so.
 fn update_fault(
     with: Evaluation<'_>,
-    seen: Seen<'_>,
+    basis: Basis<'_>,
     says: Says<'_>,
     changed: &Changed,
     first: Causes,
 ) -> Result<Option<Fault>, Memory>
-    requires first { let env = env_of with in let view = view_of_seen seen in
+    requires is_basis { IsBasis basis }
+    requires first { let env = env_of with in let view = view_of_basis basis in
         let condition = condition_of says.condition.now in
         first ≡ update_first env view (map change_of says.settings.now) condition (matching env condition view.rows) }
     requires images { let env = env_of with in
         changed.now.images.items
         ≡ map (updated env (map change_of says.settings.now))
-        (matching env (condition_of says.condition.now) (view_of_seen seen).rows) }
-    requires locked { let env = env_of with in let view = view_of_seen seen in
+        (matching env (condition_of says.condition.now) (view_of_basis basis).rows) }
+    requires locked { let env = env_of with in let view = view_of_basis basis in
         changed.now.locked
-        ≡ meets_hold (seen.others.before.now ++ seen.others.after.now) env view
+        ≡ meets_hold (basis.others.before.now ++ basis.others.after.now) env view
         (map change_of says.settings.now) (matching env (condition_of says.condition.now) view.rows) }
     ensures { IfOk result
         (λ fault. fault
-        ≡ ranked (update_causes (env_of with.entry) says.entry.columns.now (view_of_seen seen.entry)
+        ≡ ranked (update_causes (env_of with.entry) says.entry.columns.now (view_of_basis basis.entry)
         (map change_of says.entry.settings.now) (condition_of says.entry.condition.now))) }
 {
     let images = changed.images.as_slice();
-    let duplicate = leave_key_twice(with, says.condition, seen.rows, images)?;
+    let duplicate = leaves_twice(with, basis, images)?;
     let causes = Causes {
         locked: changed.locked,
         duplicate,
@@ -197,7 +200,7 @@ fn updated(with: Evaluation<'_>, settings: &[ReadySetting], image: &Image) -> Re
 /// These rows as the UPDATE leaves them.
 fn changed_rows(
     with: Evaluation<'_>,
-    seen: Seen<'_>,
+    basis: Basis<'_>,
     settings: &[ReadySetting],
     found: &[&Image],
 ) -> Result<Changed, Memory>
@@ -207,16 +210,16 @@ fn changed_rows(
         (λ changed. changed.keys ≡ moved_keys (env_of with.entry) (map change_of settings.now) (looked_at found.now)) }
     ensures locked { IfOk result
         (λ changed. changed.locked
-        ≡ meets_hold (seen.entry.others.before.now ++ seen.entry.others.after.now) (env_of with.entry)
-        (view_of_seen seen.entry) (map change_of settings.now) (looked_at found.now)) }
+        ≡ meets_hold (basis.entry.others.before.now ++ basis.entry.others.after.now) (env_of with.entry)
+        (view_of_basis basis.entry) (map change_of settings.now) (looked_at found.now)) }
 {
     let mut changed = Changed {
         images: Vec::new(with.alloc),
         keys: List::new(with.alloc),
-        locked: hold_some_row(seen.others, found),
+        locked: hold_some_row(basis.others, found),
     };
     for image in found {
-        change_row(with, seen, settings, *image, &mut changed)?;
+        change_row(with, basis, settings, *image, &mut changed)?;
     }
     Ok(changed)
 }
@@ -224,7 +227,7 @@ fn changed_rows(
 /// Adds a row as the UPDATE leaves it.
 fn change_row(
     with: Evaluation<'_>,
-    seen: Seen<'_>,
+    basis: Basis<'_>,
     settings: &[ReadySetting],
     image: &Image,
     changed: &mut Changed,
@@ -236,58 +239,17 @@ fn change_row(
         (changed.new.keys ≡ changed.old.keys ++ keys_moved (env_of with.entry) (map change_of settings.now) image.now) }
     ensures locked { OnOk result
         (changed.new.locked
-        ≡ (changed.old.locked || meets_lock (env_of with.entry) (view_of_seen seen.entry) (map change_of settings.now) image.now)) }
+        ≡ (changed.old.locked || meets_lock (env_of with.entry) (view_of_basis basis.entry) (map change_of settings.now) image.now)) }
 {
     let new = updated(with, settings, image)?;
     if !same_row_key(with, image, &new) {
         let key = row_key(with, &new);
         changed.keys.push(row_key(with, image).copy()?)?;
         changed.keys.push(key.copy()?)?;
-        changed.locked |= hold_key(with.level, seen.others, seen.table, key);
+        changed.locked |= hold_key(with.level, basis.others, basis.table, key);
     }
     changed.images.push(new)?;
     Ok(())
-}
-
-/// Whether two of the rows have one key, once the new images stand in the place of those that match.
-fn leave_key_twice(
-    with: Evaluation<'_>,
-    condition: &Option<Checked>,
-    rows: &[&Image],
-    images: &[Image],
-) -> Result<bool, Memory>
-    ensures { IfOk result
-        (λ b. b ≡ repeats_key with.entry.level
-        (map row_key (replaced (matches (env_of with.entry) (condition_of condition.now)) (looked_at rows.now) images.now))) }
-{
-    let after = rows_after(with, condition, rows, images)?;
-    repeats_key(with, &after)
-}
-
-/// The rows with the next of the new images in the place of each that matches.
-fn rows_after<'a>(
-    with: Evaluation<'_>,
-    condition: &Option<Checked>,
-    rows: &[&'a Image],
-    images: &'a [Image],
-) -> Result<Vec<&'a Image>, Memory>
-    ensures { IfOk result
-        (λ after. looked_at after.items
-        ≡ replaced (matches (env_of with.entry) (condition_of condition.now)) (looked_at rows.now) images.now) }
-{
-    let mut after = Vec::new(with.alloc);
-    let mut left = images;
-    for image in rows {
-        let mut stands = *image;
-        if is_match(with, condition, *image) {
-            if let [new, rest @ ..] = left {
-                stands = new;
-                left = rest;
-            }
-        }
-        after.push(stands)?;
-    }
-    Ok(after)
 }
 
 /// These rows are changed so.

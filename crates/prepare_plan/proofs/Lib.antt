@@ -1,3 +1,4 @@
-pub mod Walking
-pub mod Seating
 pub mod Places
+pub mod Seating
+pub mod Telling
+pub mod Walking

@@ -9,6 +9,9 @@ use Rattle.captured_calls.specs.declared.refusal.Refusal.{Refusal}
 use Rattle.prepare_plan.specs.declared.seats.Seat.{Seat}
 use Rattle.prepare_plan.specs.declared.seats.Seat.TheVariants.{Empty, Taken, Crowded}
 use Rattle.captured_calls.specs.Tests.{bad_stamp}
+use Rattle.sql_tree.specs.Plain.{Plan, set_read_only}
+use Rattle.sql_eval.specs.SchemaNames.{table_of}
+use Rattle.captured_calls.specs.Facts.{all_tables, only_table}
 use Rattle.prepare_plan.specs.Answered.{told_as}
 
 -- the calls that are looked at
@@ -53,3 +56,8 @@ ordered calls = ordered_or (bad_stamp calls) calls
 
 abbrev pub ordered_seen : Room Captured → Result (List Captured) Refusal
 ordered_seen calls = Ok calls.items
+
+-- the tables that a checked statement speaks of
+abbrev pub refs_of_plan : Plan ℕ → ℕ
+refs_of_plan set_read_only = all_tables
+refs_of_plan plan = only_table (table_of plan)

@@ -1,6 +1,6 @@
 //! What is known of each call: the tables that it speaks of and those that it wrote.
 
-ghost use Rattle.std.specs.Prelude.{◌≡◌, ◌<◌, ◌≤◌, ◌^◌, length, IfOk};
+ghost use Rattle.std.specs.Prelude.{◌≡◌, ◌<◌, ◌≤◌, ◌^◌, length, IfOk, IfSome};
 ghost use Rattle.std.specs.Option.{option_copied};
 ghost use Rattle.std.specs.List.{AllByRecursion};
 ghost use Rattle.desk_values.specs.Good.{IsGoodImage};
@@ -11,13 +11,19 @@ ghost use Rattle.captured_calls.specs.Facts.{facts_of, fact_of, refs_of, refs_of
 ghost use Rattle.std.specs.Prelude.{Some};
 ghost use Rattle.desk_schema.specs.Schema.{place_ignoring_case, table_names};
 ghost use Rattle.captured_calls.specs.Inside.{IsFit};
+ghost use Rattle.prepare_plan.specs.Inside.{refs_of_plan};
+ghost use Rattle.std.specs.Prelude.{List as AnyList};
+ghost use Rattle.desk_values.specs.declared.value.Value.{Value};
+ghost use Rattle.statement_cache.specs.Kept.{AreRight, outcome_of, outcome_of_text};
 
 use crate::recorded::is_numbered;
 use desk_schema::Schema;
-use desk_values::{Call, Captured, Image, List, Memory, Outcome, Txt};
+use desk_values::{Binds, Call, Captured, Image, List, Memory, Outcome, TABLE_LIMIT, Txt};
 use object_depends::{Fact, FactList};
+use sql_eval::Ready;
 use sql_reader::{SqlErr, read_statement};
 use sql_tree::Statement;
+use statement_cache::{Kept, Statements};
 use std::alloc::Global;
 
 /// The facts of the calls.
@@ -32,22 +38,30 @@ pub(crate) fn facts_of(
     ensures { IfOk result (λ facts. facts ≡ facts_of schema.now calls.now) }
 {
     let mut facts = List::new(alloc);
+    let mut statements = Statements::new(alloc);
     for call in calls {
-        facts.push(fact_of(alloc, schema, call)?)?;
+        facts.push(fact_of(alloc, schema, &mut statements, call)?)?;
     }
     Ok(facts)
 }
 
-fn fact_of(alloc: Global, schema: &Schema, call: &Captured) -> Result<Fact, Memory>
+fn fact_of(
+    alloc: Global,
+    schema: &Schema,
+    statements: &mut Statements,
+    call: &Captured,
+) -> Result<Fact, Memory>
     requires fit { IsFit call.now }
     requires tables { length schema.now.tables ≤ 32 }
-    ensures { IfOk result (λ fact. fact ≡ fact_of schema.now call.now) }
+    requires right { AreRight schema.now statements.old }
+    ensures fact { IfOk result (λ fact. fact ≡ fact_of schema.now call.now) }
+    ensures right { AreRight schema.now statements.new }
 {
     let writes = writes_of(call);
     let refs = if is_numbered(call) {
         writes
     } else {
-        refs_of_call(alloc, schema, &call.call)?
+        refs_of_call(alloc, schema, statements, &call.call)?
     };
     Ok(Fact {
         session: call.session,
@@ -80,16 +94,79 @@ fn tables_of_images(images: &[Image]) -> u32
     tables
 }
 
-/// The tables that a call speaks of.
-fn refs_of_call(alloc: Global, schema: &Schema, call: &Call) -> Result<u32, Memory>
-    requires { length schema.now.tables ≤ 32 }
-    ensures { IfOk result (λ refs. refs ≡ refs_of_call schema.now call.now) }
+/// The tables that a call speaks of. Its text is read once, but for one that a check refuses.
+fn refs_of_call(
+    alloc: Global,
+    schema: &Schema,
+    statements: &mut Statements,
+    call: &Call,
+) -> Result<u32, Memory>
+    requires tables { length schema.now.tables ≤ 32 }
+    requires right { AreRight schema.now statements.old }
+    ensures refs { IfOk result (λ refs. refs ≡ refs_of_call schema.now call.now) }
+    ensures right { AreRight schema.now statements.new }
 {
     match call {
-        Call::Sql(text, _) => refs_of_text(alloc, schema, text),
+        Call::Sql(text, binds) => {
+            statements.learn(schema, text, binds);
+            refs_of_known(alloc, schema, statements, text, binds)
+        }
         Call::Connect(_) => Ok(0),
         Call::Disconnect => Ok(0),
     }
+}
+
+/// The tables that a text speaks of, where some texts are kept.
+fn refs_of_known(
+    alloc: Global,
+    schema: &Schema,
+    statements: &Statements,
+    text: &Txt,
+    binds: &Binds,
+) -> Result<u32, Memory>
+    requires tables { length schema.now.tables ≤ 32 }
+    requires right { AreRight schema.now statements.now }
+    ensures { IfOk result (λ refs. refs ≡ refs_of_statement schema.now (statement_of text.now)) }
+{
+    match statements.find(text, binds) {
+        Some(kept) => refs_of_kept(alloc, schema, text, kept),
+        None => refs_of_text(alloc, schema, text),
+    }
+}
+
+/// The tables that a text speaks of that is this to a server.
+fn refs_of_kept(alloc: Global, schema: &Schema, text: &Txt, kept: &Kept) -> Result<u32, Memory>
+    requires { length schema.now.tables ≤ 32 }
+    ensures { (binds : AnyList Value) → outcome_of_text schema.now text.now binds ≡ outcome_of kept.now
+        → IfOk result (λ refs. refs ≡ refs_of_statement schema.now (statement_of text.now)) }
+{
+    match kept {
+        Kept::Checked(ready) => Ok(refs_of_ready(ready)),
+        Kept::Refused(_) => refs_of_text(alloc, schema, text),
+        Kept::Unreadable => Ok(0),
+    }
+}
+
+/// The tables that a checked statement speaks of.
+fn refs_of_ready(ready: &Ready) -> u32
+    ensures { IfSome (table_of (plan_of ready.now)) (λ table. table < 32) → result ≡ refs_of_plan (plan_of ready.now) }
+{
+    match ready {
+        Ready::SetReadOnly => u32::MAX,
+        Ready::Select(table, _, _, _, _) => only_within(*table),
+        Ready::Insert(table, _, _) => only_within(*table),
+        Ready::Update(table, _, _) => only_within(*table),
+        Ready::Delete(table, _) => only_within(*table),
+        Ready::Next(_) | Ready::Commit | Ready::Rollback => 0,
+        Ready::Savepoint(_) | Ready::RollbackTo(_) => 0,
+    }
+}
+
+/// The set of one table, none where there is no such.
+fn only_within(table: u32) -> u32
+    ensures { table < 32 → result ≡ 2 ^ table }
+{
+    if table < TABLE_LIMIT { only(table) } else { 0 }
 }
 
 fn refs_of_text(alloc: Global, schema: &Schema, text: &Txt) -> Result<u32, Memory>

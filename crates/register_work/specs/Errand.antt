@@ -1,8 +1,8 @@
 -- What an errand to a keeper comes to: its answer, or the cause why there is none.
-use Rattle.std.specs.Prelude.{◌≡◌, ◌≢◌, ℕ, ◌+◌, ◌<◌, ◌≤◌, ◌⊎◌, Bool, true, false, List, [], ◌∷◌, ◌++◌, Option, None, Some}
+use Rattle.std.specs.Prelude.{◌≡◌, ◌≢◌, ℕ, ◌<◌, ◌≤◌, ◌⊎◌, Bool, true, false, List, [], ◌∷◌, ◌++◌, Option, None, Some}
 use Rattle.std.specs.List.{list_any}
 use Rattle.std.specs.Option.{option_map}
-use Rattle.std.specs.FinMap.{entries, get, insert}
+use Rattle.std.specs.FinMap.{entries, get}
 use Rattle.desk_files.specs.Outside.{Answered, DeviceFailed, MemoryShort, Told}
 use Rattle.replay_history.specs.declared.report.Class.{Class}
 use Rattle.replay_history.specs.declared.report.Line.{Line}
@@ -15,7 +15,7 @@ use Rattle.run_register.specs.declared.kept.KeepErr.TheVariants as keep_err
 use Rattle.run_register.specs.declared.comparison.Difference.{Difference}
 use Rattle.run_register.specs.declared.comparison.Difference.TheVariants.{New, Gone, Changed}
 use Rattle.run_register.specs.Comparison.{AreDifferences}
-use Rattle.run_register.specs.Register.{RunMap, accepts_of, registered}
+use Rattle.run_register.specs.Register.{RunMap, accepts_of, after_accepting, after_adding}
 use Rattle.register_work.specs.declared.errand.Errand.{Errand}
 use Rattle.register_work.specs.declared.errand.Errand.TheVariants.{Register, Runs, Accept, Compare}
 use Rattle.register_work.specs.declared.errand.Answer.{Answer}
@@ -73,7 +73,7 @@ pub record IsFirstBad (runs : List (List ℕ × List ℕ)) (name : List ℕ) (li
 -- the name was free or had just these bytes, and has them now
 pub record IsRegistered (name bytes : List ℕ) (report : Report) (k : Keeping) (answer : Answer) : Type 0 where
   pub before : Told k.runs_before (λ told. (get told name ≡ None) ⊎ (get told name ≡ Some bytes))
-  pub runs : k.runs_after ≡ option_map (λ told. registered told (name, bytes)) k.runs_before
+  pub runs : k.runs_after ≡ option_map (after_adding Answered (name, bytes)) k.runs_before
   pub divergences : k.divergences_after ≡ k.divergences_before
   pub faults : k.faults_after ≡ k.faults_before
   pub text : answer.text ≡ registered_line name report
@@ -95,7 +95,7 @@ pub record IsAccepted (name : List ℕ) (stamp : ℕ) (class : Class) (k : Keepi
   pub run : IsRun k.runs_before name report
   pub call : stamp < report.calls
   pub runs : k.runs_after ≡ k.runs_before
-  pub divergences : k.divergences_after ≡ option_map (λ told. insert told (name, (stamp, class_number class)) tt) k.divergences_before
+  pub divergences : k.divergences_after ≡ option_map (after_accepting Answered (name, (stamp, class_number class))) k.divergences_before
   pub faults : k.faults_after ≡ k.faults_before
   pub text : answer.text ≡ accepted_line name stamp class
   pub news : answer.news ≡ false
@@ -105,11 +105,6 @@ abbrev pub is_news : Difference → Bool
 is_news (New l) = true
 is_news (Gone l) = false
 is_news (Changed l class) = true
-
--- the stamps of these lines rise, from this one on
-abbrev pub RiseFrom : ℕ → List Line → Type 0
-RiseFrom least [] = Unit {0}
-RiseFrom least (l ∷ lines) = (least ≤ l.stamp) × RiseFrom (l.stamp + 1) lines
 
 -- these lines of a first run and of a second are compared, less what was accepted
 pub record TellsDifferences (a b : List ℕ) (first second : List Line) (accepted : List Accepted) (answer : Answer) : Type 0 where

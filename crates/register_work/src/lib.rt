@@ -6,7 +6,6 @@
 
 mod doing;
 mod errand;
-pub mod laws;
 mod lines;
 mod reading;
 mod unkept;

@@ -252,10 +252,15 @@ IsErrandOf (Accept run stamp class) (errand.Accept name call kind) = (name ≡ r
 IsErrandOf (Compare base other) (errand.Compare a b) = (a ≡ base) × (b ≡ other)
 IsErrandOf command other = ⊥
 
--- the task is one of this command: a replay of some capture in these ways on what it may run on, into this folder, and so on
+-- a capture that the tests take: what they give of some calls
+abbrev pub MayBeTaken : Legal → Type 0
+MayBeTaken legal = (start : StartView) × (lists : List (List Captured)) × (legal_from start (verdict start lists) ≡ Ok legal)
+
+-- the task is one of this command: a replay of some capture that the tests take, in these ways on what it may run on, into this folder,
+-- and so on
 abbrev pub IsTaskOf : Command → Task → Type 0
-IsTaskOf (Run capture out ways) (ToReplay folder job) = (folder ≡ out) × ((legal : Legal) × (target : StartView) × (remap : List ServicePair) × MayRunOn ways.change legal.start target × MaySend ways.remap remap × (job ≡ run_job legal target remap ways))
-IsTaskOf (Prepare capture out) (ToTell folder facts) = folder ≡ out
+IsTaskOf (Run capture out ways) (ToReplay folder job) = (folder ≡ out) × ((legal : Legal) × (target : StartView) × (remap : List ServicePair) × MayBeTaken legal × MayRunOn ways.change legal.start target × MaySend ways.remap remap × (job ≡ run_job legal target remap ways))
+IsTaskOf (Prepare capture out) (ToTell folder facts) = (folder ≡ out) × ((legal : Legal) × MayBeTaken legal × (facts ≡ legal.facts))
 IsTaskOf (Serve capture start connections port) (ToServe folder begins most door) = (folder ≡ capture) × (most ≡ connections) × (door ≡ port)
 IsTaskOf (Generate n out) (ToMake calls folder) = (calls ≡ n) × (folder ≡ out)
 IsTaskOf (Trial n) (ToTry calls) = calls ≡ n

@@ -61,6 +61,11 @@ impl<S: Source + Drop, E: Eprint> Source for TellingSource<'_, S, E> {
         }
         read
     }
+
+    fn close(&mut self) {
+        self.tell_end();
+        self.source.close();
+    }
 }
 
 impl<'a, H: Host + Drop, E: Eprint + Sync> Host for TellingHost<'a, H, E> {

@@ -184,9 +184,9 @@ bad_file bytes n bad mode events is = let both = one bytes (Err n) (Ok (whole_vi
 pub one_bad : (bytes : List ℕ) (n other : ℕ) → IsBadJournal bytes n → IsBadJournal bytes other → n ≡ other
 one_bad bytes n other bad also = let both = one bytes (Err n) (Err other) bad also in cc
 
-pub error_read : (U : Type 0) (bytes : List ℕ) (t : JournalView) (error : FormErr) → Says {U = U} (Err error) t (Comes journal_form) is_ended new_view bytes → ReadsFile {X = Journal} (Err error) (λ journal. IsJournal bytes journal.mode journal.history.items) (IsBadJournal bytes)
-error_read U bytes t (Bad n) bad = (bad, λ journal. bad_file bytes n bad journal.mode journal.history.items)
-error_read U bytes t Memory says = tt
+pub error_read : (bytes : List ℕ) (error : FormErr) → Says {F = JournalView} (Err error) (λ s. s) (Comes journal_form) is_ended new_view bytes → ReadsFile {X = Journal} (Err error) (λ journal. IsJournal bytes journal.mode journal.history.items) (IsBadJournal bytes)
+error_read bytes (Bad n) bad = (bad, λ journal. bad_file bytes n bad journal.mode journal.history.items)
+error_read bytes Memory says = tt
 
 -- what was written is read
 pub read_back : (mode : Mode) (events : List AnyEvent) → AllFit events → (result : Result Journal FormErr) → ReadsFile result (λ journal. IsJournal (journal_text mode events) journal.mode journal.history.items) (IsBadJournal (journal_text mode events)) → MatchResult result (λ journal. (journal.mode ≡ mode) × (journal.history.items ≡ events)) (λ error. error ≡ Memory)

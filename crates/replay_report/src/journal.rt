@@ -28,9 +28,9 @@ pub struct Journal {
 pub fn read_journal(alloc: Global, bytes: &[u8]) -> Result<Journal, FormErr>
     ensures { ReadsFile result (λ journal. IsJournal bytes.now journal.mode journal.history.items) (IsBadJournal bytes.now) }
 {
-    let mut draft = JournalDraft::new(alloc);
-    match read_lines(bytes, &mut draft) {
-        Ok(()) => Ok(draft.into_journal()),
+    let draft = JournalDraft::new(alloc);
+    match read_lines(bytes, draft) {
+        Ok(read) => Ok(read.into_journal()),
         Err(error) => Err(error),
     }
 }
@@ -71,11 +71,10 @@ impl LineFile for JournalDraft {
 
     ghost done = { is_ended };
 
-    fn add(&mut self, line: &[u8]) -> Result<(), ReadErr> {
-        match read_journal_line(self.alloc, line) {
-            Ok(line) => self.add_line(line),
-            Err(error) => Err(error),
-        }
+    fn add(mut self, line: &[u8]) -> Result<JournalDraft, ReadErr> {
+        let line = read_journal_line(self.alloc, line)?;
+        self.add_line(line)?;
+        Ok(self)
     }
 
     fn is_done(&self) -> bool {

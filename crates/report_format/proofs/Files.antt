@@ -438,9 +438,9 @@ bad_file bytes n bad report is = let read = read_bytes bytes report is in let bo
 pub one_bad : (bytes : List ℕ) (n other : ℕ) → IsBadReport bytes n → IsBadReport bytes other → n ≡ other
 one_bad bytes n other bad also = let both = one bytes (Err n) (Err other) bad also in cc
 
-pub error_read : (U : Type 0) (bytes : List ℕ) (t : ReportView) (error : FormErr) → Says {U = U} (Err error) t (Comes report_form) is_ended_report new_report bytes → ReadsFile {X = Report} (Err error) (IsReport bytes) (IsBadReport bytes)
-error_read U bytes t (Bad n) bad = (bad, bad_file bytes n bad)
-error_read U bytes t Memory says = tt
+pub error_read : (bytes : List ℕ) (error : FormErr) → Says {F = ReportView} (Err error) (λ s. s) (Comes report_form) is_ended_report new_report bytes → ReadsFile {X = Report} (Err error) (IsReport bytes) (IsBadReport bytes)
+error_read bytes (Bad n) bad = (bad, bad_file bytes n bad)
+error_read bytes Memory says = tt
 
 -- what was written is read
 pub read_back : (report : Report) → IsWhole report → (result : Result Report FormErr) → ReadsFile result (IsReport (report_text report)) (IsBadReport (report_text report)) → MatchResult result (λ read. read ≡ report) (λ error. error ≡ Memory)

@@ -50,11 +50,10 @@ impl LineFile for Draft {
 
     ghost done = { is_ended_report };
 
-    fn add(&mut self, line: &[u8]) -> Result<(), ReadErr> {
-        match read_report_line(line) {
-            Ok(line) => self.add_line(line),
-            Err(error) => Err(error),
-        }
+    fn add(mut self, line: &[u8]) -> Result<Draft, ReadErr> {
+        let line = read_report_line(line)?;
+        self.add_line(line)?;
+        Ok(self)
     }
 
     fn is_done(&self) -> bool {

@@ -14,9 +14,9 @@ use std::alloc::Global;
 pub fn read_report(alloc: Global, bytes: &[u8]) -> Result<Report, FormErr>
     ensures { ReadsFile result (IsReport bytes.now) (IsBadReport bytes.now) }
 {
-    let mut draft = Draft::new(alloc);
-    match read_lines(bytes, &mut draft) {
-        Ok(()) => Ok(draft.into_report()),
+    let draft = Draft::new(alloc);
+    match read_lines(bytes, draft) {
+        Ok(read) => Ok(read.into_report()),
         Err(error) => Err(error),
     }
 }

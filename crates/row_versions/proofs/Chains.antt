@@ -24,7 +24,7 @@ or_if false v rest other = refl
 -- ---- reading
 
 -- a row without a last place is not there
-no_place : (k row n : ℕ) (xs : List Version) → last_from k row xs ≡ None → row_at (seen_of xs) row n ≡ None
+pub no_place : (k row n : ℕ) (xs : List Version) → last_from k row xs ≡ None → row_at (seen_of xs) row n ≡ None
 no_place k row n [] h = refl
 no_place k row n (x ∷ xs) h = by (last_from (k + 1) row xs) refl (nat_eq x.image.row row) refl (no_place (k + 1) row n xs)
   where
@@ -195,7 +195,7 @@ up_to_all low n (y ∷ xs) x a h =
 
 -- ---- what is kept
 
-is_at_nat : (a b : ℕ) → is_at (nat_cmp a) b ≡ nat_eq a b
+pub is_at_nat : (a b : ℕ) → is_at (nat_cmp a) b ≡ nat_eq a b
 is_at_nat a b = by (nat_eq a b) refl (nat_lt a b) refl
   where
     by : (e : Bool) → nat_eq a b ≡ e → (l : Bool) → nat_lt a b ≡ l → is_at (nat_cmp a) b ≡ nat_eq a b
@@ -261,7 +261,7 @@ found_here (x ∷ xs) (suc at) v w h e = found_here xs at v w h e
 less : (a b : ℕ) → a < b → nat_cmp a b ≡ Less
 less a b h = sym (nat_cmp_is a b Less h)
 
-is_less : (a b : ℕ) → nat_cmp a b ≡ Less → a < b
+pub is_less : (a b : ℕ) → nat_cmp a b ≡ Less → a < b
 is_less a b h = by (nat_lt a b) refl
   where
     by : (l : Bool) → nat_lt a b ≡ l → a < b

@@ -1,7 +1,8 @@
 -- Versions of rows in the order in which they were written.
-use Rattle.std.specs.Prelude.{◌≡◌, ℕ, ◌+◌, ◌≤◌, Bool, true, ◌&&◌, nat_eq, nat_le, if◌then◌else◌, List, [], ◌∷◌, map, Option, None, Some}
+use Rattle.std.specs.Prelude.{◌≡◌, ◌⊎◌, ℕ, ◌+◌, ◌≤◌, Bool, true, ◌&&◌, nat_eq, nat_le, if◌then◌else◌, List, [], ◌∷◌, map, Option, None, Some}
 use Rattle.std.specs.List.{filter, list_any}
 use Rattle.std.specs.Option.{option_map}
+use denote.Ref.{Bor}
 use Rattle.desk_values.specs.declared.value.Image.{Image}
 use Rattle.row_versions.specs.declared.versions.Version.{Version}
 
@@ -40,9 +41,34 @@ left_of (Some image) = option_map (λ _. image) image.left
 abbrev pub ReadsStay : ℕ → List Written → List Written → Type 0
 ReadsStay number old new = (row later : ℕ) → number ≤ later → left_of (row_at new row later) ≡ left_of (row_at old row later)
 
--- each that stands in the new list stands in the old one
-abbrev pub IsOutOf : List Written → List Written → Type 0
-IsOutOf new old = (test : Written → Bool) → list_any test new ≡ true → list_any test old ≡ true
+-- the new list is the old one but for some that are left out
+abbrev pub IsPartOf : List Written → List Written → Type 0
+IsPartOf [] old = Unit {0}
+IsPartOf (written ∷ new) [] = ⊥
+IsPartOf (written ∷ new) (first ∷ old) = ((written ≡ first) × IsPartOf new old) ⊎ IsPartOf (written ∷ new) old
+
+-- ---- all rows at a number
+
+-- the rows rise, from this number on
+abbrev pub RowsRise : ℕ → List Image → Type 0
+RowsRise low [] = Unit {0}
+RowsRise low (image ∷ images) = (low ≤ image.row) × RowsRise (image.row + 1) images
+
+-- the image of a row among images
+abbrev pub image_of : ℕ → List Image → Option Image
+image_of row [] = None
+image_of row (image ∷ images) = if nat_eq image.row row then Some image else image_of row images
+
+-- these are the rows at a number, in order, each as it was last written up to it, where it is not gone
+pub record AreRowsAt (list : List Written) (number : ℕ) (images : List Image) : Type 0 where
+  pub rise : RowsRise 0 images
+  pub each : (row : ℕ) → image_of row images ≡ left_of (row_at list row number)
+
+-- what is looked at
+abbrev pub looked : List (Bor Image) → List Image
+looked images = map (λ (image : Bor Image). image.now) images
+
+-- ---- the next row
 
 -- a row over this one stands in the list, and none between them
 abbrev pub IsNextRow : List Written → ℕ → Option ℕ → Type 0

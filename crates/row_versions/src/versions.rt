@@ -2,16 +2,16 @@
 //! place of each row's last.
 
 ghost use Rattle.std.specs.Prelude.{◌≡◌, ℕ, List, cond, ◌+◌, ◌≤◌, ◌<◌, [], ◌∷◌, ◌++◌, All, Bool, true, false, length, IfOk, OnOk, OnErr};
-ghost use Rattle.std.specs.BTreeMap.{get, is_at};
+ghost use Rattle.std.specs.BTreeMap.{IsOrdered, get, is_at};
 ghost use Rattle.std.specs.Option.{IsSome, option_copied};
 ghost use Rattle.std.specs.Ordering.{nat_cmp};
 ghost use Rattle.row_versions.specs.declared.versions.Version.{Version as AnyVersion};
-ghost use Rattle.row_versions.specs.History.{IsNextRow, IsOutOf, ReadsStay, row_at, seen_of, up_to};
-ghost use Rattle.row_versions.specs.Inside.Links.{AreLinked, Ascends, last_place};
+ghost use Rattle.row_versions.specs.History.{AreRowsAt, IsNextRow, IsPartOf, ReadsStay, left_of, looked, row_at, seen_of, up_to};
+ghost use Rattle.row_versions.specs.Inside.Links.{AreLinked, Ascends, all_left, found_in, last_place, listed, needed};
 
-use desk_values::{Image, Memory};
+use desk_values::{Copied, Image, Memory};
 use std::alloc::Global;
-use std::collections::BTreeMap;
+use std::collections::{BTreeMap, BTreeSet};
 use std::marker::Model;
 use std::ops::Bound;
 
@@ -31,7 +31,12 @@ pub struct Versions {
     list: Vec<Version>,
     last: BTreeMap<u64, usize>,
     floor: u64,
+    // How many versions there were when some were let go, or a number below which none is.
+    left: usize,
 }
+
+/// Fewer versions are not looked through for some to let go.
+const LEFT_AT_LEAST: usize = 64;
 
 impl Model for Versions {
     ghost use Rattle.row_versions.specs.History.{History, seen_of};
@@ -54,6 +59,7 @@ impl Versions {
             list: Vec::new(alloc),
             last: BTreeMap::new(alloc),
             floor: 0,
+            left: LEFT_AT_LEAST,
         }
     }
 
@@ -94,15 +100,45 @@ impl Versions {
         Some(*next)
     }
 
-    /// Reads go by this number and later ones from now on, so that versions which no such read finds may be let go; none is let
-    /// go yet. A row that is gone counts as one without an image. Takes no memory.
+    /// The rows at a number that is not below the floor, in order: of each the last image with a number up to it, where it is not
+    /// gone. Goes through the rows once.
+    pub fn rows_at(&self, n: u64) -> Result<Vec<&Image>, Memory>
+        requires { self.now.floor ≤ n }
+        ensures { IfOk result (λ rows. AreRowsAt self.now.list n (looked rows.items)) }
+    {
+        rows_of(*self.list.allocator(), &self.list, &self.last, n)
+    }
+
+    /// Reads go by this number and later ones from now on. Versions that no such read finds are let go, each time that there are twice
+    /// as many as there were left, where there is memory to write the others anew. A row that is gone counts as one without an image.
+    #[tactic(auto, using(crate::proofs::Needing::whole_part))]
     pub fn forget_below(&mut self, n: u64)
         requires { self.old.floor ≤ n }
         ensures reads { ReadsStay n self.old.list self.new.list }
-        ensures fewer { IsOutOf self.new.list self.old.list }
+        ensures fewer { IsPartOf self.new.list self.old.list }
         ensures floor { self.new.floor ≡ n }
     {
         self.floor = n;
+        if self.list.len() / 2 >= self.left {
+            if let Ok(versions) = self.pruned() {
+                *self = versions;
+            }
+        }
+    }
+
+    // Those that reads from the floor on find.
+    fn pruned(&self) -> Result<Versions, Memory>
+        ensures reads { IfOk result (λ versions. ReadsStay self.now.floor self.now.list versions.list) }
+        ensures fewer { IfOk result (λ versions. IsPartOf versions.list self.now.list) }
+        ensures floor { IfOk result (λ versions. versions.floor ≡ self.now.floor) }
+    {
+        let alloc = *self.list.allocator();
+        let found = needed(alloc, &self.list, self.floor)?;
+        let mut versions = Versions::new(alloc);
+        put_all(&mut versions, &found)?;
+        versions.floor = self.floor;
+        versions.left = found.len().max(LEFT_AT_LEAST);
+        Ok(versions)
     }
 
     /// Takes out each version with a number over this one, which is not below the floor. Takes no memory.
@@ -173,4 +209,67 @@ fn version_at(list: &[Version], row: u64, last: Option<usize>, n: u64) -> Option
         next = version.before;
     }
     None
+}
+
+// The rows at a number, by the rows that the map has.
+fn rows_of<'a>(
+    alloc: Global,
+    list: &'a [Version],
+    last: &BTreeMap<u64, usize>,
+    n: u64,
+) -> Result<Vec<&'a Image>, Memory>
+    requires linked { AreLinked list.now }
+    requires lasts { (row : ℕ) → get nat_cmp last.now row ≡ last_place row list.now }
+    ensures rows { IfOk result (λ rows. looked rows.items ≡ all_left (seen_of list.now) n last.now.entries) }
+    ensures order { IsOrdered nat_cmp last.now }
+{
+    let mut rows = Vec::new(alloc);
+    for (row, _) in last {
+        let at = last.get(row).copied();
+        push_left(&mut rows, version_at(list, *row, at, n))?;
+    }
+    Ok(rows)
+}
+
+// Puts an image behind the others, where there is one that is not gone.
+fn push_left<'a>(rows: &mut Vec<&'a Image>, image: Option<&'a Image>) -> Result<(), Memory>
+    ensures { OnOk result (looked rows.new.items ≡ looked rows.old.items ++ listed (left_of (option_copied image.entry))) }
+{
+    if let Some(image) = image {
+        if image.left.is_some() {
+            rows.push(image)?;
+        }
+    }
+    Ok(())
+}
+
+// Puts these behind the others.
+fn put_all(versions: &mut Versions, found: &[&Version]) -> Result<(), Memory>
+    requires { Ascends 0 (versions.old.list ++ seen_of (found_in found.now)) }
+    ensures list { OnOk result (versions.new.list ≡ versions.old.list ++ seen_of (found_in found.now)) }
+    ensures floor { versions.new.floor ≡ versions.old.floor }
+{
+    for version in found {
+        versions.put(version.number, version.image.copy()?)?;
+    }
+    Ok(())
+}
+
+// Those that reads from a number on find.
+fn needed<'a>(alloc: Global, list: &'a [Version], n: u64) -> Result<Vec<&'a Version>, Memory>
+    ensures { IfOk result (λ found. found_in found.items ≡ needed n list.now) }
+{
+    let mut seen = BTreeSet::new(alloc);
+    let mut found = Vec::new(alloc);
+    let mut front = list;
+    while let [rest @ .., version] = front {
+        if version.number > n {
+            found.push(version)?;
+        } else if seen.insert(version.image.row)? && version.image.left.is_some() {
+            found.push(version)?;
+        }
+        front = rest;
+    }
+    found.reverse();
+    Ok(found)
 }

@@ -1,5 +1,5 @@
 -- What differs between two runs, less what was accepted.
-use Rattle.std.specs.Prelude.{ℕ, Bool, ◌&&◌, ◌||◌, ◌==◌, if◌then◌else◌, List, [], ◌∷◌, ◌++◌, Option, None, Some}
+use Rattle.std.specs.Prelude.{ℕ, ◌+◌, ◌≤◌, Bool, ◌&&◌, ◌||◌, ◌==◌, if◌then◌else◌, List, [], ◌∷◌, ◌++◌, Option, None, Some}
 use Rattle.std.specs.List.{find, flat_map, list_any}
 use Rattle.std.specs.List.Sorted.{IsPermutation, IsNonDecreasingBy}
 use Rattle.replay_history.specs.declared.report.Class.{Class}
@@ -41,6 +41,11 @@ abbrev pub stamp_of : Difference → ℕ
 stamp_of (New l) = l.stamp
 stamp_of (Gone l) = l.stamp
 stamp_of (Changed l class) = l.stamp
+
+-- the stamps of these lines rise, from this one on
+abbrev pub RiseFrom : ℕ → List Line → Type 0
+RiseFrom least [] = Unit {0}
+RiseFrom least (l ∷ lines) = (least ≤ l.stamp) × RiseFrom (l.stamp + 1) lines
 
 -- these are all of them, by stamp
 pub record AreDifferences (a b : List Line) (accepted : List Accept) (found : List Difference) : Type 0 where

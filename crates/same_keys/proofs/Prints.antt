@@ -1,16 +1,15 @@
 -- Keys that are one.
-use Rattle.std.proofs.Common.{◌≡◌, ℕ, ◌+◌, ◌*◌, ◌^◌, ◌%◌, ◌==◌, ◌&&◌, Bool, true, false, if◌then◌else◌, nat_eq, List, [], ◌∷◌, ◌++◌, reverse, refl, sym, ap, ◌∙◌, arith}
+use Rattle.std.proofs.Common.{◌≡◌, ℕ, ◌==◌, ◌&&◌, Bool, true, false, if◌then◌else◌, nat_eq, List, refl, sym, ap, ◌∙◌, arith}
 use Rattle.std.specs.Ordering.{int_cmp, nat_cmp, is_eq, ordering_reverse}
 use Rattle.std.specs.Cmp.{IsEquivalence, IsTotalOrder, int_cmp_total, nat_eq_equiv}
 use Rattle.std.specs.Cmp.Lexicographic.{slice_cmp}
 use Rattle.std.specs.declared.cmp.Ordering.{Ordering}
 use Rattle.std.specs.declared.cmp.Ordering.TheVariants.{Less, Equal, Greater}
-use Rattle.std.proofs.lemmas.List.{reverse-append, reverse-reverse}
 use Rattle.std.proofs.lemmas.Map.Lookups.{exact_bytes, exact_signed}
 use Rattle.std.proofs.lemmas.Cmp.{nat_list_cmp_total}
 use Rattle.desk_values.specs.declared.value.Value.{Value}
 use Rattle.desk_values.specs.declared.value.Value.TheVariants.{Null, Int, Text, Row, Draw}
-use Rattle.desk_values.specs.Comparison.{same_key, skip_spaces, text_order, without_trailing_spaces}
+use Rattle.desk_values.specs.Comparison.{same_key, text_order, without_trailing_spaces}
 use Rattle.same_keys.specs.Print.{ArePrints, print_of, text_print}
 
 is_equal : (o : Ordering) → is_eq o ≡ true → o ≡ Equal
@@ -33,39 +32,14 @@ order_counted level a b = by (level == 2)
 texts_one : (level : ℕ) (a b : List ℕ) → same_key level (Text a) (Text b) ≡ true → counted level a ≡ counted level b
 texts_one level a b h = exact_bytes _ _ (sym (order_counted level a b) ∙ is_equal (text_order level a b) h)
 
--- ---- prints
-
-abbrev step : ℕ → ℕ → ℕ
-step print byte = if byte == 32 then print else (print * 1099511628211 % 2 ^ 64 + byte) % 2 ^ 64
-
-print_step : (print byte : ℕ) (bytes : List ℕ) → text_print print (byte ∷ bytes) ≡ text_print (step print byte) bytes
-print_step print byte bytes = by (byte == 32)
+-- texts that are one are so without the spaces at their ends
+trimmed : (level : ℕ) (a b : List ℕ) → counted level a ≡ counted level b → without_trailing_spaces a ≡ without_trailing_spaces b
+unfolding counted
+trimmed level a b = by (level == 2)
   where
-    by : (b : Bool) → (if b then text_print print bytes else text_print ((print * 1099511628211 % 2 ^ 64 + byte) % 2 ^ 64) bytes) ≡ text_print (if b then print else (print * 1099511628211 % 2 ^ 64 + byte) % 2 ^ 64) bytes
-    by true = refl
-    by false = refl
-
-print_last : (print : ℕ) (xs : List ℕ) (byte : ℕ) → text_print print (xs ++ byte ∷ []) ≡ step (text_print print xs) byte
-print_last print [] byte = print_step print byte []
-print_last print (x ∷ xs) byte = print_step print x (xs ++ byte ∷ []) ∙ print_last (step print x) xs byte ∙ ap (λ (p : ℕ). step p byte) (sym (print_step print x xs))
-
--- without the spaces that lead the reversed text
-print_skipped : (print : ℕ) (xs : List ℕ) → text_print print (reverse (skip_spaces xs)) ≡ text_print print (reverse xs)
-print_skipped print [] = refl
-print_skipped print (x ∷ xs) = by (x == 32) refl (print_skipped print xs)
-  where
-    by : (b : Bool) → (x == 32) ≡ b → text_print print (reverse (skip_spaces xs)) ≡ text_print print (reverse xs) → text_print print (reverse (skip_spaces (x ∷ xs))) ≡ text_print print (reverse (x ∷ xs))
-    by false e rest = ap (λ (b : Bool). text_print print (reverse (if b then skip_spaces xs else x ∷ xs))) e
-    by true e rest = ap (λ (b : Bool). text_print print (reverse (if b then skip_spaces xs else x ∷ xs))) e ∙ rest
-        ∙ sym (ap (text_print print) (reverse-append (x ∷ []) xs) ∙ print_last print (reverse xs) x ∙ ap (λ (b : Bool). if b then text_print print (reverse xs) else (text_print print (reverse xs) * 1099511628211 % 2 ^ 64 + x) % 2 ^ 64) e)
-
-print_counted : (print level : ℕ) (text : List ℕ) → text_print print (counted level text) ≡ text_print print text
-unfolding counted without_trailing_spaces
-print_counted print level text = by (level == 2)
-  where
-    by : (l : Bool) → text_print print (if l then reverse (skip_spaces (reverse text)) else text) ≡ text_print print text
-    by true = print_skipped print (reverse text) ∙ ap (text_print print) (reverse-reverse text)
-    by false = refl
+    by : (l : Bool) → (if l then without_trailing_spaces a else a) ≡ (if l then without_trailing_spaces b else b) → without_trailing_spaces a ≡ without_trailing_spaces b
+    by true e = e
+    by false e = ap without_trailing_spaces e
 
 -- ---- keys
 
@@ -82,7 +56,7 @@ same_value level a b e = record { print = ap print_of e; others = λ c. ap (same
 pub share : (level : ℕ) (a b : Value) → same_key level a b ≡ true → ArePrints level a b
 share level (Text a) (Text b) h =
     let e = texts_one level a b h in
-    record { print = sym (print_counted _ level a) ∙ ap (text_print _) e ∙ print_counted _ level b; others = others_text level a b e }
+    record { print = ap (text_print _) (trimmed level a b e); others = others_text level a b e }
 share level (Int a) (Int b) h = same_value level (Int a) (Int b) (ap Int (exact_signed a b (is_equal (int_cmp a b) h)))
 share level (Row a) (Row b) h = same_value level (Row a) (Row b) (let e : a ≡ b = grind (arith, h) in ap Row e)
 share level (Draw p a) (Draw q b) h = same_value level (Draw p a) (Draw q b) (grind (arith, h))

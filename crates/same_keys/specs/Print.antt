@@ -1,19 +1,20 @@
 -- A number that keys share which are one key, at each level.
-use Rattle.std.specs.Prelude.{◌≡◌, ℕ, ◌+◌, ◌*◌, ◌^◌, ◌%◌, ◌==◌, true, if◌then◌else◌, List, [], ◌∷◌}
+use Rattle.std.specs.Prelude.{◌≡◌, ℕ, ◌+◌, ◌*◌, ◌^◌, ◌%◌, true, List, [], ◌∷◌}
 use Rattle.std.specs.Int.{w64, cast_unsigned}
 use Rattle.desk_values.specs.declared.value.Value.{Value}
 use Rattle.desk_values.specs.declared.value.Value.TheVariants.{Null, Int, Text, Row, Draw}
-use Rattle.desk_values.specs.Comparison.{same_key}
+use Rattle.desk_values.specs.Comparison.{same_key, without_trailing_spaces}
 
--- the print of a text, byte by byte; spaces do not count, so those at its end do not either
+-- the print of bytes, one after another
 abbrev pub text_print : ℕ → List ℕ → ℕ
 text_print print [] = print
-text_print print (byte ∷ bytes) = if byte == 32 then text_print print bytes else text_print ((print * 1099511628211 % 2 ^ 64 + byte) % 2 ^ 64) bytes
+text_print print (byte ∷ bytes) = text_print ((print * 1099511628211 % 2 ^ 64 + byte) % 2 ^ 64) bytes
 
+-- spaces at the end of a text do not count
 abbrev pub print_of : Value → ℕ
 print_of Null = 0
 print_of (Int n) = cast_unsigned w64 n
-print_of (Text text) = text_print 14695981039346656037 text
+print_of (Text text) = text_print 14695981039346656037 (without_trailing_spaces text)
 print_of (Row n) = n
 print_of (Draw sequence n) = n
 

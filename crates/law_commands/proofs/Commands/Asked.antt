@@ -8,7 +8,7 @@ use Rattle.register_work.specs.declared.unkept.Unkept.TheVariants.{NoRun, OtherR
 use Rattle.register_work.specs.Errand.{AreGood, IsCause}
 use Rattle.register_work.specs.Keeping.{Keeping}
 use Rattle.register_work.specs.Lines.{unkept_status}
-use Rattle.register_work.proofs.OneEnd.{good_alone}
+use Rattle.law_commands.proofs.Register.OneEnd.{good_alone}
 use Rattle.replay_cli.specs.declared.plan.Plan.{Plan}
 use Rattle.replay_cli.specs.Done.{IsKept}
 use Rattle.replay_cli.specs.Lines.{done_status}

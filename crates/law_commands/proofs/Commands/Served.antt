@@ -63,7 +63,7 @@ names_are out (suc n) =
 -- ---- files
 
 -- what a file holds stays where none of the later writes is of its name
-kept : (writes : List Write) (files : FileMap) (name : List ℕ) → AllByRecursion (λ (write : Write). name ≢ write.name) writes → get (with_all writes files) name ≡ get files name
+pub kept : (writes : List Write) (files : FileMap) (name : List ℕ) → AllByRecursion (λ (write : Write). name ≢ write.name) writes → get (with_all writes files) name ≡ get files name
 kept [] files name others = refl
 kept (write ∷ writes) files name others = kept writes (insert files write.name write.bytes) name others.1 ∙ get-insert_other files write.name write.bytes name others.0
 

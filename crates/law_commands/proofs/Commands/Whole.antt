@@ -24,6 +24,7 @@ use Rattle.replay_report.proofs.Reports.{by_own_answer}
 use Rattle.report_format.specs.ReportFile.{AreLinesFrom, IsWhole, count_in, counts_in}
 use Rattle.law_commands.specs.Commands.Reports.{ReportsAreWhole, WrittenReportsAreRegistered}
 use Rattle.law_commands.proofs.Commands.Complete.{registered}
+use Rattle.law_commands.proofs.Commands.Small.{reports_small}
 
 -- ---- the line of one call
 
@@ -145,5 +146,7 @@ pub reports_whole : ReportsAreWhole
 reports_whole job history last sound replay = record { whole = whole job history last sound replay.0; text = refl }
 
 pub written_registered : WrittenReportsAreRegistered
-written_registered words files out run job plan history last command sound done there =
-    registered words files out run (report_text (report_in job history)) (report_in job history) command there (reports_whole job history last sound done.0)
+written_registered words files out run job history last command sound replay there =
+    let report = report_in job history in
+    let is = reports_whole job history last sound replay in
+    registered words files out run (report_text report) report command (there, reports_small report is.whole) is

@@ -1,5 +1,5 @@
 -- When the files of a folder are a capture, told without the steps of a command.
-use Rattle.std.specs.Prelude.{◌≡◌, ◌≢◌, ℕ, ◌+◌, ◌≤◌, ◌⊎◌, List, [], ◌∷◌, length, Option, None, Some, Ok}
+use Rattle.std.specs.Prelude.{◌≡◌, ◌≢◌, ℕ, ◌+◌, ◌≤◌, ◌⊎◌, List, [], ◌∷◌, length, Option, None, Some, Result, Ok}
 use Rattle.std.specs.FinMap.{get}
 use Rattle.std.specs.List.{sum_by}
 use Rattle.desk_values.specs.declared.capture.Captured.{Captured}
@@ -16,6 +16,7 @@ use Rattle.remap_ids.specs.Services.{ServicePair, services_of}
 use Rattle.desk_schema.specs.Start.{StartView}
 use Rattle.desk_schema.specs.Change.{ChangesTo, records_in}
 use Rattle.desk_words.specs.declared.ways.Ways.{Ways}
+use Rattle.desk_words.specs.declared.words.Command.{Command}
 use Rattle.desk_words.specs.declared.words.Command.TheVariants.{Run, Prepare, Serve, Generate, Trial, Register, Runs, Accept, Compare}
 use Rattle.desk_words.specs.Command.{command_of}
 use Rattle.replay_history.specs.declared.report.Class.{Class}
@@ -25,8 +26,10 @@ use Rattle.run_register.specs.Register.{RunMap}
 use Rattle.register_work.specs.declared.errand.Errand.{Errand}
 use Rattle.register_work.specs.declared.errand.Errand.TheVariants as errand
 use Rattle.register_work.specs.Errand.{AreGood}
+use Rattle.replay_cli.specs.declared.failure.Failure.{Failure}
+use Rattle.replay_cli.specs.declared.plan.Plan.{Plan}
 use Rattle.replay_cli.specs.Decision.{Verdict, ToReplay, ToTell, ToServe, ToMake, ToTry, ToKeep, run_job}
-use Rattle.replay_cli.specs.Ending.{Ends}
+use Rattle.replay_cli.specs.Ending.{Ends, MayComeTo}
 use Rattle.replay_cli.specs.FileNames.{report_name, session_names, start_name}
 use Rattle.replay_cli.specs.Hosting.{Hosting}
 
@@ -141,3 +144,8 @@ MayEnd (errand.Compare a b) n = (n ≡ 0) ⊎ ((n ≡ 1) ⊎ ((n ≡ 6) ⊎ ((n 
 abbrev pub ErrandsEndSo : Type 0
 ErrandsEndSo = (asked : Errand) (files after : FileMap) (fb fa : ℕ) (h : Hosting) (result : ℕ) (before printed : Option (List ℕ))
     → TellsReports h → Ends (Ok (ToKeep asked)) files after fb fa h result before printed → result ≢ 5 → MayEnd asked result
+
+-- whatever a command comes to, a register of reports stays one
+abbrev pub RegistersStayGood : Type 0
+RegistersStayGood = (command : Option Command) (h : Hosting) (done : Result Plan Failure)
+    → TellsReports h → MayComeTo command h done → (runs : RunMap) × (h.keeper.runs_after ≡ Some runs) × AreGood runs

@@ -1,12 +1,10 @@
 -- What a decision comes to: the same answer, without its parts that stay in the session.
-use Rattle.std.specs.Prelude.{◌≡◌, ℕ, ◌+◌, take, Bool, false, true, List, [], ◌++◌, Option, None, Some}
+use Rattle.std.specs.Prelude.{◌≡◌, ℕ, take, Bool, false, true, List, [], ◌++◌, Option, None, Some}
 use Rattle.desk_values.specs.declared.value.Image.{Image}
 use Rattle.desk_values.specs.declared.call.Reply.{Reply}
-use Rattle.sql_eval.specs.Totals.{looked_at}
 use Rattle.machine_model.specs.declared.effect.Deed.{Deed}
 use Rattle.machine_model.specs.declared.effect.Deed.TheVariants.{Nothing, Connects, Disconnects, Commits, RollsBack, ReadsOnly, Writes, Marks, RollsBackTo}
 use Rattle.machine_model.specs.declared.effect.Decision.{Decision}
-use Rattle.machine_model.specs.declared.seen.Seen.{Seen}
 use Rattle.machine_model.specs.declared.basis.Basis.{Basis}
 use Rattle.desk_schema.specs.declared.schema.Rights.{Rights}
 use Rattle.sql_tree.specs.Plain.{Plan}
@@ -22,12 +20,7 @@ use Rattle.machine_model.specs.Request.{statement}
 use Rattle.machine_model.specs.Writes.{holding}
 use Rattle.machine_model.specs.Answer.{Answer, executed}
 
--- the view of what is looked at
-abbrev pub view_of_seen : Seen → View
-view_of_seen seen =
-    with_table (plain_view seen.session.now) (seen.others.before.now ++ seen.others.after.now) seen.table (looked_at seen.rows.now)
-
--- the view of what an INSERT can depend on
+-- the view of what a statement can depend on
 abbrev pub view_of_basis : Basis → View
 view_of_basis basis = with_table (plain_view basis.session.now)
     (basis.others.before.now ++ basis.others.after.now) basis.table

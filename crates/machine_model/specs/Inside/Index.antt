@@ -1,36 +1,17 @@
 -- Where keys stand: what is kept of the committed rows of a table to find a row by its key.
-use Rattle.std.specs.Prelude.{◌≡◌, ℕ, ◌+◌, ◌*◌, ◌^◌, ◌%◌, ◌<◌, Bool, true, false, ◌&&◌, nat_eq, not, List, [], ◌∷◌, length, slice_index_or, Option, None, Some}
-use Rattle.std.specs.Int.{w64, cast_unsigned}
+use Rattle.std.specs.Prelude.{◌≡◌, ℕ, ◌<◌, Bool, true, false, ◌&&◌, nat_eq, not, List, [], ◌∷◌, length, slice_index_or, Option, None, Some}
 use Rattle.std.specs.List.{filter}
 use Rattle.std.specs.HashMap.{get}
-use Rattle.desk_values.specs.declared.value.Value.{Value}
-use Rattle.desk_values.specs.declared.value.Value.TheVariants.{Null, Int, Text, Row, Draw}
 use Rattle.desk_values.specs.declared.value.Image.{Image}
 use Rattle.machine_model.specs.declared.index.KeyIndex.{KeyIndex}
 use Rattle.machine_model.specs.declared.basis.Basis.{Basis}
 use Rattle.machine_model.specs.declared.basis.Indexed.{Indexed}
-use Rattle.machine_model.specs.declared.index.TheConstants.{EMPTY_PRINT, PRINT_FACTOR}
+use Rattle.same_keys.specs.Print.{print_of}
+use Rattle.sql_eval.specs.Totals.{looked_at}
 use Rattle.machine_model.specs.Inside.Rows.{AreLatest, row_at, stocked}
 use Rattle.machine_model.specs.Rows.{IsRising, of_table, row_key}
+use Rattle.machine_model.specs.View.{rows_seen}
 use Rattle.machine_model.specs.Writes.{is_among}
-
--- a number that texts share which are equal: the print, byte by byte
-abbrev pub text_print : ℕ → List ℕ → ℕ
-text_print print [] = print
-text_print print (byte ∷ bytes) = text_print ((print * PRINT_FACTOR % 2 ^ 64 + byte) % 2 ^ 64) bytes
-
--- a number that values share which are one key
-abbrev pub print_of : Value → ℕ
-print_of Null = 0
-print_of (Int n) = cast_unsigned w64 n
-print_of (Text text) = text_print EMPTY_PRINT text
-print_of (Row n) = n
-print_of (Draw sequence n) = n
-
--- there is a row, of this table
-abbrev pub is_of_table : ℕ → Option Image → Bool
-is_of_table table None = false
-is_of_table table (Some image) = nat_eq image.table table
 
 -- there is a row, whose key has this print
 abbrev pub has_print : ℕ → Option Image → Bool
@@ -65,14 +46,23 @@ AreIndexes indexes tables changes = (table : ℕ) (i : KeyIndex) (r : List Image
 abbrev pub staying : List Image → List Image → List Image
 staying rows changes = filter (λ (image : Image). not (is_among changes image)) rows
 
--- what an INSERT can depend on, as a machine keeps it
+-- what a statement can depend on, as a machine keeps it
 pub record IsBasis (basis : Basis) : Type 0 where
   pub rising : IsRising basis.start.now
   pub latest : AreLatest basis.start.now basis.commits.now 0 (stocked basis.current.now)
   pub indexed : AreIndexes basis.indexes.now (stocked basis.current.now) []
 
+-- a table's rows as the session sees them
+abbrev pub rows_of_basis : Basis → List Image
+rows_of_basis basis = rows_seen basis.start.now basis.commits.now basis.session.now basis.table
+
 -- rows that are found by their keys, and changes that rise
 pub record IsIndexed (indexed : Indexed) : Type 0 where
   pub rows : IsRising indexed.rows.now
-  pub changes : IsRising indexed.changes.now
+  pub changes : IsRising (looked_at indexed.changes.now)
   pub finds : FindsRows (row_under indexed.index.now) indexed.rows.now []
+
+-- a row that there may be, as a list
+abbrev pub listed : Option Image → List Image
+listed None = []
+listed (Some image) = image ∷ []

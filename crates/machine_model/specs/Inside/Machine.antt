@@ -1,5 +1,8 @@
 -- What a machine keeps beside its state.
-use Rattle.std.specs.Prelude.{ℕ, ◌+◌, ◌≤◌, List}
+use Rattle.std.specs.Prelude.{ℕ, ◌+◌, ◌≤◌, ◌&&◌, nat_eq, if◌then◌else◌, List}
+use Rattle.desk_values.specs.declared.value.Value.{Value}
+use Rattle.sql_tree.specs.Plain.{Plan}
+use Rattle.machine_model.specs.Request.{Request, names_savepoint, statement, unreadable}
 use Rattle.std.specs.List.{All}
 use Rattle.desk_values.specs.declared.value.Image.{Image}
 use Rattle.machine_model.specs.Sound.{IsSoundState}
@@ -17,3 +20,7 @@ pub record Keeps (running : Running) (current : List (List Image)) : Type 0 wher
   pub steps : running.steps ≤ step_limit
   pub next_row : running.state.next_row ≤ 549755813888 + running.steps
   pub next_values : All (λ (n : ℕ). n ≤ 549755813888 + running.steps) running.state.next_values
+
+-- what a checked statement asks for of a server of this version: at version 1 one on savepoints is none
+abbrev pub known_request : ℕ → Plan ℕ → List Value → Request
+known_request version plan binds = if nat_eq version 1 && names_savepoint plan then unreadable else statement plan binds

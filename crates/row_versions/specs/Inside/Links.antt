@@ -1,9 +1,12 @@
 -- Where the versions of a row stand.
-use Rattle.std.specs.Prelude.{◌≡◌, ℕ, ◌+◌, ◌≤◌, nat_eq, if◌then◌else◌, List, [], ◌∷◌, take, slice_get, Option, None, Some}
+use Rattle.std.specs.Prelude.{◌≡◌, ℕ, ◌+◌, ◌≤◌, ◌&&◌, Bool, true, not, nat_eq, nat_le, is_some, if◌then◌else◌, List, [], ◌∷◌, take, map, slice_get, Option, None, Some}
+use Rattle.std.specs.List.{flat_map, list_any}
+use denote.Ref.{Bor}
+use Rattle.desk_values.specs.declared.value.Image.{Image}
 use Rattle.std.specs.BTreeMap.{BTreeMap, get}
 use Rattle.std.specs.Ordering.{nat_cmp}
 use Rattle.row_versions.specs.declared.versions.Version.{Version}
-use Rattle.row_versions.specs.History.{Written, or_else, seen_of}
+use Rattle.row_versions.specs.History.{Written, left_of, or_else, row_at, seen_of}
 
 -- the numbers rise, or stay
 abbrev pub Ascends : ℕ → List Written → Type 0
@@ -26,3 +29,32 @@ pub record IsKept (list : List Version) (last : BTreeMap ℕ ℕ) : Type 0 where
   pub ascends : Ascends 0 (seen_of list)
   pub linked : AreLinked list
   pub lasts : (row : ℕ) → get nat_cmp last row ≡ last_place row list
+
+-- ---- the rows at a number
+
+-- an image that there may be, as a list
+abbrev pub listed : Option Image → List Image
+listed None = []
+listed (Some image) = image ∷ []
+
+-- what is left of each row that the map has
+abbrev pub all_left : List Written → ℕ → List (ℕ × ℕ) → List Image
+all_left list number entries = flat_map (λ (entry : ℕ × ℕ). listed (left_of (row_at list entry.0 number))) entries
+
+-- ---- what reads need
+
+-- a version of the row stands among them, with a number up to this one
+abbrev pub has_row : ℕ → ℕ → List Version → Bool
+has_row row number list = list_any (λ (version : Version). nat_eq version.image.row row && nat_le version.number number) list
+
+-- reads from this number on find the version: it is over the number, or the last up to it of a row that is not gone
+abbrev pub is_needed : ℕ → Version → List Version → Bool
+is_needed number version later = if nat_le version.number number then is_some version.image.left && not (has_row version.image.row number later) else true
+
+abbrev pub needed : ℕ → List Version → List Version
+needed number [] = []
+needed number (version ∷ later) = if is_needed number version later then version ∷ needed number later else needed number later
+
+-- versions that are looked at
+abbrev pub found_in : List (Bor Version) → List Version
+found_in found = map (λ (version : Bor Version). version.now) found

@@ -5,7 +5,7 @@ use Rattle.capture_format.proofs.SessionFiles.{file_read, error_read}
 use Rattle.capture_format.proofs.session.read_session.Goals as goal
 
 pub returns-in-Ok : goal.returns-in-Ok
-returns-in-Ok c = subst (IsSessionFile c.args.session c.args.version c.args.bytes.now) (ap (λ (s : SessionView). s.calls) (sym c.draft.view_is)) (file_read c.args.session c.args.version c.args.bytes.now c.read_lines.new.file (rw c.new-draft.ensures at c.in-Ok.ensures))
+returns-in-Ok c = subst (IsSessionFile c.args.session c.args.version c.args.bytes.now) (ap (λ (s : SessionView). s.calls) (sym c.read.view_is)) (file_read c.args.session c.args.version c.args.bytes.now c.in-Ok.read (rw c.new-draft.ensures at c.in-Ok.ensures))
 
 pub returns-in-Err : goal.returns-in-Err
-returns-in-Err c = error_read (Unit {0}) c.args.session c.args.version c.args.bytes.now c.read_lines.new.file c.in-Err.error (let small = c.ranges.session in omega (arith, small)) (let small = c.ranges.version in omega (arith, small)) (rw c.new-draft.ensures at c.in-Err.ensures)
+returns-in-Err c = error_read c.args.session c.args.version c.args.bytes.now c.in-Err.error (let small = c.ranges.session in omega (arith, small)) (let small = c.ranges.version in omega (arith, small)) (rw c.new-draft.ensures at c.in-Err.ensures)

@@ -1,4 +1,4 @@
-use Rattle.std.proofs.Common.{◌<◌, length, subst, sym, ◌∙◌, arith}
+use Rattle.std.proofs.Common.{◌<◌, length, refl, subst, sym, ◌∙◌, arith}
 use Rattle.std.proofs.lemmas.List.{get_or_default}
 use Rattle.machine_model.specs.Rows.{IsRising}
 use Rattle.machine_model.specs.Inside.Rows.{stocked}
@@ -14,8 +14,8 @@ returns-clause-indexed c =
     let within : basis.table < length tables = omega (arith, stocked_length basis.current.now, c.in_ok-rows.ensures.lookup.3.0) in
     record {
       rows = subst IsRising (sym c.as_slice.ensures.value) c.as_slice.ensures.rising;
-      changes = subst IsRising (sym c.as_slice-2.ensures.value) c.as_slice-2.ensures.rising;
-      finds = finds_at basis.indexes.now tables basis.table c.in_ok-index.index.now c.as_slice.result.now c.requires.indexed c.in_ok-index.ensures.lookup.3.0 within c.in_ok-index.ensures.lookup.1
+      changes = c.requires.rising;
+      finds = finds_at basis.indexes.now tables basis.table c.in_ok-index.index.now c.as_slice.result.now c.requires.basis.indexed c.in_ok-index.ensures.lookup.3.0 within c.in_ok-index.ensures.lookup.1
           (c.as_slice.ensures.value ∙ stock_at basis.current.now basis.table c.in_ok-rows.rows.now c.in_ok-rows.ensures.lookup.3.0 c.in_ok-rows.ensures.lookup.1 ∙ get_or_default tables basis.table _ _ within) (sym c.is_kept.ensures ∙ c.if-not-is_kept.false);
     }
 
@@ -24,5 +24,5 @@ returns-clause-rows c =
     let basis = c.args.basis in
     let tables = stocked basis.current.now in
     let within : basis.table < length tables = omega (arith, stocked_length basis.current.now, c.in_ok-rows.ensures.lookup.3.0) in
-    let latest = c.as_slice.ensures.value ∙ latest_at basis.start.now basis.commits.now tables c.requires.latest basis.table _ within (stock_at basis.current.now basis.table c.in_ok-rows.rows.now c.in_ok-rows.ensures.lookup.3.0 c.in_ok-rows.ensures.lookup.1) in
-    seen_latest basis.start.now basis.commits.now basis.session.now basis.table c.as_slice.result.now c.as_slice-2.result.now (sym c.is_some.ensures ∙ c.if-is_some.false) latest c.as_slice-2.ensures.value
+    let latest = c.as_slice.ensures.value ∙ latest_at basis.start.now basis.commits.now tables c.requires.basis.latest basis.table _ within (stock_at basis.current.now basis.table c.in_ok-rows.rows.now c.in_ok-rows.ensures.lookup.3.0 c.in_ok-rows.ensures.lookup.1) in
+    seen_latest basis.start.now basis.commits.now basis.session.now basis.table c.as_slice.result.now basis.session.now.own.changes (c.reads_latest.ensures c.if-not-reads_latest.false) latest refl

@@ -12,7 +12,7 @@ use Rattle.machine_model.specs.View.{View, is_held}
 use Rattle.machine_model.specs.Found.{Environment, matches, matching, where_faults}
 use Rattle.machine_model.specs.Answer.{delete_causes}
 use Rattle.machine_model.specs.Answer.{too_many_rows}
-use Rattle.machine_model.specs.Inside.Decision.{view_of_seen}
+use Rattle.machine_model.specs.Inside.Decision.{view_of_basis}
 use Rattle.machine_model.proofs.Adding.{any_filtered}
 use Rattle.machine_model.proofs.Refusing.{first_of, first_told, rest_told}
 use Rattle.machine_model.proofs.deleting.judged.Goals as goal
@@ -24,7 +24,7 @@ first_is_first env view condition first found faults too_many first_is faults_ar
 pub returns-in-Some-clause-fault : goal.returns-in-Some-clause-fault
 returns-in-Some-clause-fault c =
     let env = env_of c.args.with in
-    let view = view_of_seen c.args.seen in
+    let view = view_of_basis c.args.basis in
     let condition = condition_of c.args.condition.now in
     first_told (delete_causes env view condition) c.first-first.result _ c.in-Some.ensures
     (first_is_first env view condition _ _ _ _ c.first-first.ensures c.in_ok-found.ensures.faults c.touch_too_many-too_many.ensures (ap looked_at c.deref.ensures.value ∙ c.in_ok-found.ensures.rows))
@@ -32,9 +32,9 @@ returns-in-Some-clause-fault c =
 pub returns-clause-fault : goal.returns-clause-fault
 returns-clause-fault c =
     let env = env_of c.args.with in
-    let view = view_of_seen c.args.seen in
+    let view = view_of_basis c.args.basis in
     let condition = condition_of c.args.condition.now in
-    let others = is_held (c.args.seen.others.before.now ++ c.args.seen.others.after.now) in
+    let others = is_held (c.args.basis.others.before.now ++ c.args.basis.others.after.now) in
     c.ranked-2.ensures ∙ ap ranked (rest_told (delete_causes env view condition) c.first-first.result _
     (first_is_first env view condition _ _ _ _ c.first-first.ensures c.in_ok-found.ensures.faults c.touch_too_many-too_many.ensures (ap looked_at c.deref.ensures.value ∙ c.in_ok-found.ensures.rows))
     (c.hold_some_row-locked.ensures ∙ ap (list_any others) (ap looked_at c.deref-2.ensures.value ∙ c.in_ok-found.ensures.rows) ∙ any_filtered others (matches env condition) view.rows) refl)

@@ -23,8 +23,8 @@ module _ (level : ℕ) (locked : List Value) (old new : Value) where
 pub returns-clause-locked : goal.returns-clause-locked
 returns-clause-locked c =
     let level = c.args.with.level in
-    let table = c.args.seen.table in
-    let others = c.args.seen.others.before.now ++ c.args.seen.others.after.now in
+    let table = c.args.basis.table in
+    let others = c.args.basis.others.before.now ++ c.args.basis.others.after.now in
     let image = c.args.image.now in
     let new = updated (env_of c.args.with) (map (change_of {N = ℕ}) c.args.settings.now) image in
     elim c.if-not-same_row_key.branch [

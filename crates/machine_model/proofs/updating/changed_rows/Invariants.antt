@@ -3,7 +3,7 @@ use Rattle.std.specs.List.{list_any}
 use Rattle.sql_tree.specs.Plain.{change_of}
 use Rattle.sql_eval.specs.Totals.{looked_at}
 use Rattle.machine_model.specs.Inside.Evaluation.{env_of}
-use Rattle.machine_model.specs.Inside.Decision.{view_of_seen}
+use Rattle.machine_model.specs.Inside.Decision.{view_of_basis}
 use Rattle.machine_model.specs.Answer.{meets_lock}
 use Rattle.machine_model.specs.Writes.{moved_keys, updated}
 use Rattle.machine_model.proofs.updating.changed_rows.Given as goal
@@ -12,5 +12,5 @@ abbrev pub invariant-loop-image : goal.invariant-loop-image
 invariant-loop-image l = record {
   images : l.changed.images.items ++ map (updated (env_of l.with) (map change_of l.settings)) (looked_at (drop l.image-index l.found)) ≡ map (updated (env_of l.with) (map change_of l.settings)) (looked_at l.found);
   keys : l.changed.keys ++ moved_keys (env_of l.with) (map change_of l.settings) (looked_at (drop l.image-index l.found)) ≡ moved_keys (env_of l.with) (map change_of l.settings) (looked_at l.found);
-  locked : (l.changed.locked || list_any (meets_lock (env_of l.with) (view_of_seen l.seen) (map change_of l.settings)) (looked_at (drop l.image-index l.found))) ≡ (l.initial.changed.locked || list_any (meets_lock (env_of l.with) (view_of_seen l.seen) (map change_of l.settings)) (looked_at l.found));
+  locked : (l.changed.locked || list_any (meets_lock (env_of l.with) (view_of_basis l.basis) (map change_of l.settings)) (looked_at (drop l.image-index l.found))) ≡ (l.initial.changed.locked || list_any (meets_lock (env_of l.with) (view_of_basis l.basis) (map change_of l.settings)) (looked_at l.found));
 }

@@ -2,7 +2,7 @@ use Rattle.std.proofs.Common.{ℕ, [], map}
 use Rattle.sql_tree.specs.Plain.{change_of, condition_of}
 use Rattle.sql_eval.specs.Totals.{looked_at}
 use Rattle.machine_model.specs.Inside.Evaluation.{env_of}
-use Rattle.machine_model.specs.Inside.Decision.{view_of_seen}
+use Rattle.machine_model.specs.Inside.Decision.{view_of_basis}
 use Rattle.machine_model.specs.Answer.{update_causes, update_effect}
 use Rattle.machine_model.proofs.Refusing.{first_told, ruled_refused}
 use Rattle.machine_model.proofs.Changing.{first_is_first}
@@ -11,9 +11,9 @@ use Rattle.machine_model.proofs.updating.update.Goals as goal
 pub returns-in-Some : goal.returns-in-Some
 returns-in-Some c =
     let env = env_of c.args.with in
-    let view = view_of_seen c.args.seen in
+    let view = view_of_basis c.args.basis in
     let changes = map (change_of {N = ℕ}) c.args.settings.now in
     let condition = condition_of c.args.condition.now in
     let causes = update_causes env c.args.columns.now view changes condition in
     let first = first_is_first env c.args.columns.now view changes condition (looked_at c.in_ok-found.found.items) c.in_ok-found.ensures.found c.in_ok-found.first (rw c.as_slice.ensures at c.in_ok-found.ensures.first) in
-    ruled_refused view c.args.seen.table [] causes (update_effect env view changes condition) c.refusal.result c.in-Some.fault (first_told causes c.in_ok-found.first c.in-Some.fault c.in-Some.ensures first) (rw c.new-draws.ensures at (c.refusal.ensures view))
+    ruled_refused view c.args.basis.table [] causes (update_effect env view changes condition) c.refusal.result c.in-Some.fault (first_told causes c.in_ok-found.first c.in-Some.fault c.in-Some.ensures first) (rw c.new-draws.ensures at (c.refusal.ensures view))

@@ -1,4 +1,4 @@
-use Rattle.std.proofs.Common.{◌≡◌, List, ap, rules, ◌∙◌}
+use Rattle.std.proofs.Common.{◌≡◌, ap, rules, ◌∙◌}
 use Rattle.std.specs.List.{dedup}
 use Rattle.std.specs.Ordering.{eq_by_cmp, is_lt}
 use Rattle.std.proofs.lemmas.Fn.{always_returns_same, dedup_same}

@@ -26,3 +26,8 @@ returns-in_err-legal-clause-refused g c =
     let read = read_of c.in_ok-read.read in
     let p = err_from_is_err_and c.from_residual-in_err-legal.result c.from_residual-in_err-legal.ensures.1 in
     rw (p.1, p.2) (tested c.args.capture.now read.start read.sessions c.in_err-legal.field-0.0 c.in_err-legal.ensures.says)
+
+pub returns-clause-task : goal.returns-clause-task
+returns-clause-task g c =
+    let read = read_of c.in_ok-read.read in
+    (refl, (legal_of c.in_ok-legal.legal, (read.start, read.sessions, c.in_ok-legal.ensures.says), refl))

@@ -60,4 +60,4 @@ pub returns-clause-task : goal.returns-clause-task
 returns-clause-task g c =
     let read = read_of c.in_ok-read.read in
     let may = subst (λ (start : StartView). MayRunOn c.args.ways.change start c.in_ok-target.target) (sym (start_stays read.start (verdict read.start read.sessions) (legal_of c.in_ok-legal.legal) c.in_ok-legal.ensures.says)) c.in_ok-target.ensures.may in
-    (refl, (legal_of c.in_ok-legal.legal, c.in_ok-target.target, c.in_ok-remap.remap, may, c.in_ok-remap.ensures.may, c.job_of-job.ensures.job))
+    (refl, (legal_of c.in_ok-legal.legal, c.in_ok-target.target, c.in_ok-remap.remap, (read.start, read.sessions, c.in_ok-legal.ensures.says), may, c.in_ok-remap.ensures.may, c.job_of-job.ensures.job))

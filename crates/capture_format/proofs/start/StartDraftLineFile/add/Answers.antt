@@ -1,10 +1,18 @@
-use Rattle.file_lines.proofs.Forms.{adds_error, adds_line}
+use Rattle.std.proofs.lemmas.Result.{err_from_is_err_and}
+use Rattle.file_lines.proofs.Forms.{adds_error, adds_line, refuses_line}
 use Rattle.capture_format.specs.StartFile.{start_form}
 use Rattle.capture_format.proofs.StartReader.{start_lines}
 use Rattle.capture_format.proofs.start.StartDraftLineFile.add.Goals as goal
 
-pub returns-in-Ok : goal.returns-in-Ok
-returns-in-Ok c = adds_line start_form start_lines c.add_line.result c.args.self.now c.args.line.now c.in-Ok.line c.add_line.new.self c.in-Ok.ensures c.add_line.ensures
+pub returns-in_err-line : goal.returns-in_err-line
+returns-in_err-line c =
+    let p = err_from_is_err_and c.from_residual.result c.from_residual.ensures.1 in
+    rw (p.1, p.2) (adds_error start_form start_lines (λ s. s) c.in_err-line.field-0.0 c.args.self c.args.line.now c.in_err-line.ensures)
 
-pub returns-in-Err : goal.returns-in-Err
-returns-in-Err c = adds_error start_form start_lines (Unit {0}) c.in-Err.error c.args.self.now c.args.line.now c.args.self.now c.in-Err.ensures
+pub returns-in_err-add_line : goal.returns-in_err-add_line
+returns-in_err-add_line c =
+    let p = err_from_is_err_and c.from_residual-in_err-add_line.result c.from_residual-in_err-add_line.ensures.1 in
+    rw (p.1, p.2) (refuses_line start_form start_lines (Unit {0}) (λ s. s) c.in_err-add_line.field-0.0 c.args.self c.args.line.now c.in_ok-line.line c.add_line.new.self c.in_ok-line.ensures c.in_err-add_line.ensures)
+
+pub returns : goal.returns
+returns c = adds_line start_form start_lines (λ s. s) c.add_line.new.self (tt {0}) c.args.self c.args.line.now c.in_ok-line.line c.in_ok-line.ensures c.in_ok-add_line.ensures

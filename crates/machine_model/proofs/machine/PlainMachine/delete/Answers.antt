@@ -8,4 +8,4 @@ use Rattle.machine_model.proofs.Telling.{along}
 use Rattle.machine_model.proofs.machine.PlainMachine.delete.Goals as goal
 
 pub returns : goal.returns
-returns c = along (λ (view : View) (table : ℕ) (env : Environment). IfOk c.delete.result (λ decision. Decides view (ruled table view [] (delete_causes env view (condition_of c.args.condition.now)) (delete_effect env view (condition_of c.args.condition.now))) decision)) c.seen-seen.ensures.view c.seen-seen.ensures.table c.evaluation.ensures c.delete.ensures
+returns c = along (λ (view : View) (table : ℕ) (env : Environment). IfOk c.delete.result (λ decision. Decides view (ruled table view [] (delete_causes env view (condition_of c.args.condition.now)) (delete_effect env view (condition_of c.args.condition.now))) decision)) c.basis.ensures.view c.basis.ensures.table c.evaluation.ensures c.delete.ensures

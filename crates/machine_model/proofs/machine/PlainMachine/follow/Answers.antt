@@ -37,4 +37,4 @@ invariant_of-self-2 c =
     let same : after old c.args.session a ≡ new = rw (commits, c.row_after-self-inside.ensures, nexts, session) refl in
     let laid : lay_tables 0 (stocked c.self.inside.current.items) (committed_in c.args.decision.reply.outcome) ≡ current = sym (c.in_ok-enact.ensures.current ∙ ap (lay_tables 0 (stocked c.self.inside.current.items)) told) in
     let was_indexed : AreIndexes c.self.inside.indexes.items current (committed_in c.args.decision.reply.outcome) = subst (λ (l : List (List Image)). AreIndexes c.self.inside.indexes.items l (committed_in c.args.decision.reply.outcome)) laid (indexes_laid c.self.inside.indexes.items (stocked c.self.inside.current.items) (committed_in c.args.decision.reply.outcome) c.self.invariant.3) in
-    (subst (λ (s : State). Keeps (record { state = s; steps = c.self.inside.steps + 1 }) current) same (subst (λ (l : List (List Image)). Keeps (record { state = after old c.args.session a; steps = c.self.inside.steps + 1 }) l) laid keeps), c.self.invariant.1, c.self.invariant.2, subst (λ (l : List Stock). AreIndexes c.note_commit.new.indexes.items (stocked l) []) c.deref.ensures.value (c.note_commit.ensures (subst (λ (l : List Stock). AreIndexes c.self.inside.indexes.items (stocked l) (committed_in c.args.decision.reply.outcome)) (sym c.deref.ensures.value) was_indexed)))
+    (subst (λ (s : State). Keeps (record { state = s; steps = c.self.inside.steps + 1 }) current) same (subst (λ (l : List (List Image)). Keeps (record { state = after old c.args.session a; steps = c.self.inside.steps + 1 }) l) laid keeps), c.self.invariant.1, c.self.invariant.2, subst (λ (l : List Stock). AreIndexes c.note_commit.new.indexes.items (stocked l) []) c.deref.ensures.value (c.note_commit.ensures (subst (λ (l : List Stock). AreIndexes c.self.inside.indexes.items (stocked l) (committed_in c.args.decision.reply.outcome)) (sym c.deref.ensures.value) was_indexed)), c.self.invariant.4)

@@ -18,4 +18,4 @@ invariant_of-result c =
     let nexts : c.in_ok-next_values.next_values.items ≡ c.in_ok-start.start.next_values = search rules in
     let same : first ≡ opening c.in_ok-start.start = opening_is c.in_ok-start.start _ _ _ _ c.new.ensures.items c.next_row-next_row.ensures nexts c.in_ok-sessions.ensures in
     let latest : AreLatest c.in_ok-start.start.rows [] 0 (stocked c.in_ok-current.current.items) = subst (λ rows. AreLatest rows [] 0 (stocked c.in_ok-current.current.items)) (c.as_slice.ensures ∙ c.rows.ensures.value) c.in_ok-current.ensures.latest in
-    (subst (λ (s : State). Keeps (record { state = s; steps = 0 }) (stocked c.in_ok-current.current.items)) (sym same) (opened c.in_ok-start.start _ c.rows.ensures.valid latest), c.new-2.ensures, refl, subst (λ (l : List Stock). AreIndexes c.in_ok-indexes.indexes.items (stocked l) []) c.deref.ensures.value c.in_ok-indexes.ensures)
+    (subst (λ (s : State). Keeps (record { state = s; steps = 0 }) (stocked c.in_ok-current.current.items)) (sym same) (opened c.in_ok-start.start _ c.rows.ensures.valid latest), c.new-3.ensures, refl, subst (λ (l : List Stock). AreIndexes c.in_ok-indexes.indexes.items (stocked l) []) c.deref.ensures.value c.in_ok-indexes.ensures, c.new-2.ensures c.in_ok-start.start.schema)

@@ -8,4 +8,4 @@ use Rattle.machine_model.proofs.Telling.{along}
 use Rattle.machine_model.proofs.machine.PlainMachine.select.Goals as goal
 
 pub returns : goal.returns
-returns c = along (λ (view : View) (table : ℕ) (env : Environment). IfOk c.select.result (λ decision. Decides view (ruled table view [] (select_causes env view (asked_of c.args.items.now) (condition_of c.args.condition.now) c.args.for_update) (select_effect env view (asked_of c.args.items.now) (condition_of c.args.condition.now) c.args.keys.now c.args.for_update)) decision)) c.seen-seen.ensures.view c.seen-seen.ensures.table c.evaluation.ensures c.select.ensures
+returns c = along (λ (view : View) (table : ℕ) (env : Environment). IfOk c.select.result (λ decision. Decides view (ruled table view [] (select_causes env view (asked_of c.args.items.now) (condition_of c.args.condition.now) c.args.for_update) (select_effect env view (asked_of c.args.items.now) (condition_of c.args.condition.now) c.args.keys.now c.args.for_update)) decision)) c.basis.ensures.view c.basis.ensures.table c.evaluation.ensures c.select.ensures

@@ -9,4 +9,4 @@ use Rattle.machine_model.proofs.Telling.{along_four}
 use Rattle.machine_model.proofs.machine.PlainMachine.update.Goals as goal
 
 pub returns : goal.returns
-returns c = along_four (λ (view : View) (table : ℕ) (env : Environment) (columns : List Column). IfOk c.update.result (λ decision. Decides view (ruled table view [] (update_causes env columns view (map change_of c.args.settings.now) (condition_of c.args.condition.now)) (update_effect env view (map change_of c.args.settings.now) (condition_of c.args.condition.now))) decision)) c.seen-seen.ensures.view c.seen-seen.ensures.table c.evaluation.ensures c.columns-columns.ensures c.update.ensures
+returns c = along_four (λ (view : View) (table : ℕ) (env : Environment) (columns : List Column). IfOk c.update.result (λ decision. Decides view (ruled table view [] (update_causes env columns view (map change_of c.args.settings.now) (condition_of c.args.condition.now)) (update_effect env view (map change_of c.args.settings.now) (condition_of c.args.condition.now))) decision)) c.basis.ensures.view c.basis.ensures.table c.evaluation.ensures c.columns-columns.ensures c.update.ensures

@@ -1,0 +1,84 @@
+-- A register of reports stays one, whatever a command comes to.
+use Rattle.std.proofs.Common.{◌≡◌, ℕ, List, None, Some, Ok, Err, ap, ◌∙◌}
+use Rattle.std.specs.Option.{option_map}
+use Rattle.desk_files.specs.Outside.{Answered}
+use Rattle.desk_words.specs.declared.words.Command.{Command}
+use Rattle.desk_words.specs.declared.words.Command.TheVariants.{Run, Prepare, Serve, Generate, Trial, Register, Runs, Accept, Compare}
+use Rattle.capture_serve.specs.declared.failing.Finding.{Finding}
+use Rattle.replay_history.specs.declared.report.Report.{Report}
+use Rattle.report_format.specs.ReportFile.{IsReport}
+use Rattle.run_register.specs.Register.{RunMap, after_adding, registered}
+use Rattle.register_work.specs.declared.errand.Errand.{Errand}
+use Rattle.register_work.specs.declared.errand.Errand.TheVariants as errand
+use Rattle.register_work.specs.Errand.{AreGood}
+use Rattle.law_commands.proofs.Register.Answering.{kept_good}
+use Rattle.replay_cli.specs.declared.failure.Failure.TheVariants.{BadCommand, Refused, Differs, NotDone, DeviceFault, OutOfMemory}
+use Rattle.replay_cli.specs.declared.plan.Plan.{Plan}
+use Rattle.replay_cli.specs.Decision.{IsTaskOf, Task, ToKeep, ToMake, ToReplay, ToServe, ToTell, ToTry}
+use Rattle.replay_cli.specs.Done.{IsDone, IsKept}
+use Rattle.replay_cli.specs.Ending.{MayDiffer}
+use Rattle.replay_cli.specs.Hosting.{Hosting, IsUnasked}
+use Rattle.law_commands.specs.Commands.Complete.{RegistersStayGood, TellsReports}
+
+-- all that is kept then is reports
+abbrev LeavesReports : Hosting → Type 0
+LeavesReports h = (runs : RunMap) × (h.keeper.runs_after ≡ Some runs) × AreGood runs
+
+-- ---- where the runs are as before
+
+same_leaves : (h : Hosting) → TellsReports h → h.keeper.runs_after ≡ h.keeper.runs_before → LeavesReports h
+same_leaves h tells same = (tells.0, same ∙ tells.1, tells.2)
+
+unasked_leaves : (h : Hosting) → TellsReports h → IsUnasked h → LeavesReports h
+unasked_leaves h tells unasked = same_leaves h tells unasked.1.runs
+
+differs_leaves : (command : Command) (finding : Finding) (h : Hosting) → TellsReports h → MayDiffer command finding h → LeavesReports h
+differs_leaves (Serve capture start connections port) finding h tells may = same_leaves h tells may.2.runs
+differs_leaves (Run capture out ways) finding h tells may = absurd may
+differs_leaves (Prepare capture out) finding h tells may = absurd may
+differs_leaves (Generate n out) finding h tells may = absurd may
+differs_leaves (Trial n) finding h tells may = absurd may
+differs_leaves (Register out run) finding h tells may = absurd may
+differs_leaves Runs finding h tells may = absurd may
+differs_leaves (Accept run stamp class) finding h tells may = absurd may
+differs_leaves (Compare base other) finding h tells may = absurd may
+
+-- ---- where an errand is done
+
+-- what is registered is a report
+report_of : (command : Command) (name bytes : List ℕ) (report : Report) → IsTaskOf command (ToKeep (errand.Register name bytes report)) → IsReport bytes report
+report_of (Register out run) name bytes report is = is.1
+report_of (Run capture out ways) name bytes report is = absurd is
+report_of (Prepare capture out) name bytes report is = absurd is
+report_of (Serve capture start connections port) name bytes report is = absurd is
+report_of (Generate n out) name bytes report is = absurd is
+report_of (Trial n) name bytes report is = absurd is
+report_of Runs name bytes report is = absurd is
+report_of (Accept run stamp class) name bytes report is = absurd is
+report_of (Compare base other) name bytes report is = absurd is
+
+errand_leaves : (command : Command) (asked : Errand) (plan : Plan) (h : Hosting) → TellsReports h → IsTaskOf command (ToKeep asked) → IsKept asked h.keeper plan → LeavesReports h
+errand_leaves command (errand.Register name bytes report) plan h tells is kept =
+    let left : h.keeper.runs_after ≡ Some (registered tells.0 (name, bytes)) = kept.0.runs ∙ ap (option_map (after_adding Answered (name, bytes))) tells.1 in
+    (registered tells.0 (name, bytes), left, kept_good tells.0 name bytes report tells.2 (report_of command name bytes report is))
+errand_leaves command errand.Runs plan h tells is kept = same_leaves h tells kept.0.keeps.runs
+errand_leaves command (errand.Accept name stamp class) plan h tells is kept = same_leaves h tells kept.0.runs
+errand_leaves command (errand.Compare a b) plan h tells is kept = same_leaves h tells kept.0.keeps.runs
+
+done_leaves : (command : Command) (task : Task) (plan : Plan) (h : Hosting) → TellsReports h → IsTaskOf command task → IsDone task plan h → LeavesReports h
+done_leaves command (ToServe out start most port) plan h tells is done = same_leaves h tells done.1.runs
+done_leaves command (ToKeep asked) plan h tells is done = errand_leaves command asked plan h tells is done.0
+done_leaves command (ToReplay out job) plan h tells is done = unasked_leaves h tells done.1
+done_leaves command (ToTell out facts) plan h tells is done = unasked_leaves h tells done.1
+done_leaves command (ToMake n out) plan h tells is done = unasked_leaves h tells done.1
+done_leaves command (ToTry n) plan h tells is done = unasked_leaves h tells done.1
+
+pub registers_good : RegistersStayGood
+registers_good None h done tells may = unasked_leaves h tells may.1
+registers_good (Some command) h (Ok plan) tells may = done_leaves command may.0 plan h tells may.1 may.2
+registers_good (Some command) h (Err BadCommand) tells may = absurd may
+registers_good (Some command) h (Err (Refused refusal)) tells may = unasked_leaves h tells may.1
+registers_good (Some command) h (Err (Differs finding)) tells may = differs_leaves command finding h tells may
+registers_good (Some command) h (Err (NotDone cause)) tells may = unasked_leaves h tells may.2.1
+registers_good (Some command) h (Err DeviceFault) tells may = same_leaves h tells may.0
+registers_good (Some command) h (Err OutOfMemory) tells may = same_leaves h tells may.0

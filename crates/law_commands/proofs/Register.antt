@@ -1,0 +1,3 @@
+pub mod OneEnd
+pub mod OneList
+pub mod Answering

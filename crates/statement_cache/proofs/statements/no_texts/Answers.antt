@@ -1,0 +1,5 @@
+use Rattle.statement_cache.proofs.Right.{none_right}
+use Rattle.statement_cache.proofs.statements.no_texts.Goals as goal
+
+pub returns : goal.returns
+returns c = λ schema. none_right schema c.new.result c.new.ensures.empty
