@@ -6,7 +6,7 @@ ghost use Rattle.std.specs.Str.{all_ascii_digits};
 ghost use Rattle.std.specs.Str.Parse.{digits_value};
 ghost use Rattle.httparse.specs.Spans.{IsHeaderWithin, header_bytes};
 ghost use Rattle.http_requests.specs.Decisions.{has_name, is_length, says_close, told_length, values_of};
-ghost use Rattle.http_requests.specs.Inside.Reading.{IsSole};
+ghost use Rattle.http_requests.specs.Fields.{IsSole, length_in};
 ghost use Rattle.http_requests.specs.Limits.{body_limit, digit_limit};
 
 use crate::limits::{BODY_LIMIT, DIGIT_LIMIT};
@@ -15,7 +15,7 @@ use httparse::spans::HeaderSpan;
 
 /// The values of a field that may stand once.
 #[derive(Drop)]
-pub(crate) enum Sole<'a> {
+pub enum Sole<'a> {
     /// It does not stand there.
     Absent,
     /// Its value.
@@ -66,8 +66,8 @@ pub(crate) fn says_close(bytes: &[u8], fields: &[HeaderSpan]) -> bool
     false
 }
 
-/// The value of the field of this name.
-pub(crate) fn sole_field<'a>(bytes: &'a [u8], fields: &[HeaderSpan], name: &[u8]) -> Sole<'a>
+/// The value of the field of this name, whose spans are those of a head in the bytes.
+pub fn sole_field<'a>(bytes: &'a [u8], fields: &[HeaderSpan], name: &[u8]) -> Sole<'a>
     requires { All (IsHeaderWithin (length bytes.now)) fields.now }
     ensures { IsSole result (values_of name.now (map (header_bytes bytes.now) fields.now)) }
 {
@@ -91,14 +91,24 @@ pub(crate) fn told_length(digits: &[u8]) -> Result<usize, StatusCode>
     ensures value { result ≡ told_length digits.now }
     ensures limit { IfOk result (λ length. length ≤ body_limit) }
 {
-    if !is_length(digits) {
+    let Some(length) = length_of(digits) else {
         return Err(StatusCode::BAD_REQUEST);
-    }
-    let length = number(digits);
+    };
     if length > BODY_LIMIT {
         return Err(StatusCode::PAYLOAD_TOO_LARGE);
     }
     Ok(length as usize)
+}
+
+/// The length that digits tell, as few as a length may have; `None` where these bytes are none.
+pub fn length_of(digits: &[u8]) -> Option<u64>
+    ensures { result ≡ length_in digits.now }
+{
+    if is_length(digits) {
+        Some(number(digits))
+    } else {
+        None
+    }
 }
 
 // Whether these are digits, as many as a length may have.

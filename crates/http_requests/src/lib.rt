@@ -5,7 +5,8 @@
 //! `matchit` finds targets, methods and statuses are those of `http`.
 //!
 //! `specs` says where a head ends and what is read of it (`Heads`), what a head decides (`Decisions`), and which bytes are a
-//! request (`Requests`). That bytes are cut into requests in one way alone is a law of `laws`.
+//! request (`Requests`). That bytes are cut into requests in one way alone is a law of `laws`. `Fields` says what is found of one
+//! field; answers are read by it too.
 #![tactic(auto)]
 
 mod deciding;
@@ -18,6 +19,7 @@ mod request;
 mod routes;
 
 pub use decision::{Decision, Verdict};
+pub use fields::{Sole, length_of, sole_field};
 pub use limits::{BODY_LIMIT, DIGIT_LIMIT, FIELD_LIMIT, HEAD_LIMIT};
 pub use request::{Request, begun_request};
 pub use routes::Routes;

@@ -1,3 +1,1 @@
-pub mod Ids
 pub mod Desks
-pub mod Gates

@@ -1,5 +1,5 @@
 -- What holds of the fields of a desk.
-use Rattle.std.specs.Prelude.{◌≡◌, ℕ, ◌+◌, ◌≤◌, ◌<◌, false, [], ◌++◌, length, replicate}
+use Rattle.std.specs.Prelude.{◌≡◌, ℕ, ◌+◌, ◌≤◌, ◌<◌, [], ◌++◌, length}
 use Rattle.std.specs.List.{AllByRecursion}
 use Rattle.desk_values.specs.declared.call.Reply.{Reply}
 use Rattle.desk_values.specs.declared.capture.Captured.{Captured}
@@ -9,30 +9,27 @@ use Rattle.machine_model.specs.Machine.{Running}
 use Rattle.machine_model.specs.State.{State, opening}
 use Rattle.machine_model.specs.Step.{Gives}
 use Rattle.replay_history.specs.Gap.{IsCallAt}
-use Rattle.commit_gate.specs.Gates.{new_gate}
 use Rattle.id_pairs.specs.Pairs.{HasNoIdTwice, learnt}
 use Rattle.remap_ids.specs.IdMap.{start_pairs}
 use Rattle.remap_ids.specs.Sent.{HasLowIds, sent}
-use Rattle.replay_clock.specs.Gaps.{gaps_in}
 use Rattle.replay_job.specs.Events.{IsEvent}
-use Rattle.replay_job.specs.Job.{JobView, seen}
+use Rattle.replay_job.specs.Job.{JobView}
 use Rattle.replay_job.specs.declared.job.Job.{Job}
 use Rattle.replay_job.specs.Runs.{IsTruthfulFor, Stage}
-use Rattle.replay_core.specs.Gates.Following.{IsGateOf}
+use Rattle.replay_schedule.specs.Schedule.{Follows}
 use Rattle.replay_core.specs.declared.desk.Desk.TheInside.{Inside}
 use Rattle.replay_core.specs.declared.desk.Parts.{Parts}
 use Rattle.desk_values.specs.Limits.{session_limit}
 use Rattle.replay_core.specs.View.{stage_of}
 
 pub record IsDesk (a : Inside) : Type 0 where
-  pub target : IsSoundStart a.job.target
-  pub truthful : IsTruthfulFor (seen a.job) a.history.items (stage_of a)
+  pub target : IsSoundStart a.schedule.job.target
+  pub truthful : IsTruthfulFor a.schedule.job a.history.items (stage_of a)
   pub texts : AllByRecursion IsEvent a.history.items
-  pub own : a.map.own ≡ length (start_pairs a.job.start)
-  pub gaps : a.gaps ≡ gaps_in a.job.calls.items
-  pub gate : IsGateOf (seen a.job) a.history.items a.gate a.waiting.items
+  pub own : a.map.own ≡ length (start_pairs a.schedule.job.start)
+  pub follows : Follows a.schedule a.history.items
   -- for a start and an answer of each call
-  pub room : length a.job.calls.items + length a.job.calls.items ≤ a.history.spare + length a.history.items
+  pub room : length a.schedule.job.calls + length a.schedule.job.calls ≤ a.history.spare + length a.history.items
   pub steps : a.engine.steps ≤ length a.history.items
 
 -- the call can be executed: it can be sent, and whatever reply comes brings new ids on both sides
@@ -50,13 +47,10 @@ pub record HasOpened (start : StartView) (engine : Running) : Type 0 where
   pub state : engine.state ≡ opening start
   pub steps : engine.steps ≡ 0
 
--- what a desk begins with beside its job
+-- what a desk begins with beside its schedule
 pub record AreParts (job : Job) (parts : Parts) : Type 0 where
-  pub gaps_are : parts.gaps ≡ gaps_in job.calls.items
-  pub gate_is : parts.gate ≡ new_gate job.facts job.mode
   pub opened : HasOpened job.target parts.engine
   pub pairs_are : parts.map.pairs ≡ start_pairs job.start
   pub own_are : parts.map.own ≡ length parts.map.pairs
   pub no_event : parts.history.items ≡ []
   pub room : length job.calls.items + length job.calls.items ≤ parts.history.spare
-  pub none_waits : parts.waiting.items ≡ replicate (length job.calls.items) false

@@ -1,4 +1,3 @@
 pub mod Desk
 pub mod Inside
 pub mod View
-pub mod Gates

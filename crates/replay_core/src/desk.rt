@@ -1,24 +1,21 @@
-ghost use Rattle.std.specs.Prelude.{EachIndex, ◌≡◌, ◌<◌, ◌≤◌, ◌↔◌, ◌⊎◌, ◌+◌, ℕ, [], true, false, length, replicate, slice_index, IfOk, IfSome, IsTrue, MatchOption, OnErr, OnOk, if◌then◌else◌};
+ghost use Rattle.std.specs.Prelude.{EachIndex, ◌≡◌, ◌<◌, ◌≤◌, ◌↔◌, ◌⊎◌, ◌+◌, ℕ, [], true, false, length, slice_index, IfOk, IfSome, IsTrue, MatchOption, OnErr, OnOk};
 ghost use Rattle.desk_values.specs.Good.{IsGoodReply};
 ghost use Rattle.desk_values.specs.declared.capture.Captured.{Captured};
 ghost use Rattle.machine_model.specs.Sound.{AreStanding};
 ghost use Rattle.machine_model.specs.State.{tables};
-ghost use Rattle.commit_gate.specs.Gates.{new_gate};
 ghost use Rattle.replay_history.specs.Gap.{IsCallAt};
 ghost use Rattle.replay_history.specs.History.{AnswersAll, IsWaiting};
 ghost use Rattle.remap_ids.specs.IdMap.{start_pairs};
-ghost use Rattle.replay_clock.specs.Gaps.{gaps_in};
 ghost use Rattle.replay_job.specs.Job.{IsReplayable, seen};
 ghost use Rattle.replay_job.specs.Runs.{Executes, IsSessionDone, IsFirstOpen, IsPauseIn, IsPick, MayStart, NoneMayStart};
 ghost use Rattle.replay_core.specs.Desk.{IsAnswer, IsKept, new_desk, with_start};
 ghost use Rattle.replay_core.specs.Inside.{AreParts, HasOpened, MayExecute};
 
-use commit_gate::Gate;
 use desk_schema::Start;
 use desk_values::{Event, History, Images, Memory, Reply};
 use remap_ids::IdMap;
-use replay_clock::{Gaps, gaps_of, pause};
 use replay_job::Job;
+use replay_schedule::{Answering, Course, Schedule};
 use std::alloc::Global;
 use std::marker::Model;
 use txn_engine::Engine;
@@ -30,14 +27,10 @@ const MOST_LEARNT: u32 = 17;
 /// always a legal and truthful one of the job, and each of its events has a text.
 #[derive(Drop)]
 pub struct Desk {
-    job: Job,
-    gaps: Gaps,
-    gate: Gate,
+    schedule: Schedule,
     engine: Engine,
     map: IdMap,
     history: History,
-    waiting: Vec<bool>,
-    stopped: bool,
 }
 
 impl Model for Desk {
@@ -53,15 +46,12 @@ impl Model for Desk {
     ghost invariant = { IsDesk };
 }
 
-// What a desk begins with beside its job.
+// What a desk begins with beside its schedule.
 #[derive(Drop)]
 struct Parts {
-    gaps: Gaps,
-    gate: Gate,
     engine: Engine,
     map: IdMap,
     history: History,
-    waiting: Vec<bool>,
 }
 
 impl Parts {
@@ -70,29 +60,14 @@ impl Parts {
         requires { IsReplayable (seen job.now) }
         ensures { IfOk result (AreParts job.now) }
     {
-        let (gaps, gate) = gate_of(alloc, job)?;
         let (engine, map) = server_of(alloc, job)?;
-        let (history, waiting) = sheet_of(alloc, job.calls.len())?;
+        let history = sheet_of(alloc, job.calls.len())?;
         Ok(Parts {
-            gaps,
-            gate,
             engine,
             map,
             history,
-            waiting,
         })
     }
-}
-
-// The times before the calls, and the gate where none is started.
-fn gate_of(alloc: Global, job: &Job) -> Result<(Gaps, Gate), Memory>
-    requires { IsReplayable (seen job.now) }
-    ensures gaps { IfOk result (λ made. made.0 ≡ gaps_in job.now.calls.items) }
-    ensures gate { IfOk result (λ made. made.1 ≡ new_gate job.now.facts job.now.mode) }
-{
-    let gaps = gaps_of(alloc, &job.calls)?;
-    let gate = Gate::new(alloc, &job.facts, job.mode)?;
-    Ok((gaps, gate))
 }
 
 // The server that has just begun, and the ids of the start.
@@ -113,24 +88,15 @@ fn opened(alloc: Global, start: &Start) -> Result<Engine, Memory>
     Engine::load(alloc, start)
 }
 
-// A history without events, with room for a start and an answer of so many calls, and which of them wait: none.
-fn sheet_of(alloc: Global, calls: usize) -> Result<(History, Vec<bool>), Memory>
+// A history without events, with room for a start and an answer of so many calls.
+fn sheet_of(alloc: Global, calls: usize) -> Result<History, Memory>
     requires { calls ≤ 100000 }
-    ensures history { IfOk result (λ made. made.0.items ≡ []) }
-    ensures room { IfOk result (λ made. calls + calls ≤ made.0.spare) }
-    ensures waiting { IfOk result (λ made. made.1.items ≡ replicate calls false) }
+    ensures history { IfOk result (λ made. made.items ≡ []) }
+    ensures room { IfOk result (λ made. calls + calls ≤ made.spare) }
 {
-    let waiting = vec![in alloc; false; calls]?;
     let mut history = History::new(alloc);
     history.reserve(2 * calls as u32)?;
-    Ok((history, waiting))
-}
-
-// How many hundredths of the time before a call are its pause, where it is its session's first and where not.
-fn percentage(job: &Job, first: bool) -> u32
-    ensures { result ≡ (if first then job.now.connect else job.now.think) }
-{
-    if first { job.connect } else { job.think }
+    Ok(history)
 }
 
 impl Desk {
@@ -140,23 +106,17 @@ impl Desk {
         ensures { IfOk result (λ desk. desk ≡ new_desk (seen job)) }
     {
         let Parts {
-            gaps,
-            gate,
             engine,
             map,
             history,
-            waiting,
         } = Parts::of(alloc, &job)?;
         job.target.know_rules();
+        let schedule = Schedule::setup(alloc, job)?;
         Ok(Desk {
-            job,
-            gaps,
-            gate,
+            schedule,
             engine,
             map,
             history,
-            waiting,
-            stopped: false,
         })
     }
 
@@ -172,19 +132,14 @@ impl Desk {
     pub fn ready(&self, k: u32) -> bool
         ensures { IsTrue result ↔ MayStart self.now.job self.now.history k }
     {
-        self.gate.ready(k)
+        self.schedule.ready(k)
     }
 
     /// Whether a call is started and not answered.
     pub fn waiting(&self, k: u32) -> bool
         ensures { IsTrue result ↔ IsWaiting self.now.history k }
     {
-        let stamp = k as usize;
-        if stamp < self.waiting.len() {
-            self.waiting[stamp]
-        } else {
-            false
-        }
+        self.schedule.waiting(k)
     }
 
     /// A call that may be started, of the first session of a lane that has one, or `None` where none of them has one.
@@ -193,7 +148,7 @@ impl Desk {
             (EachIndex lane.now (λ i. NoneMayStart self.now.job self.now.history (slice_index lane.now i)))
             (IsPick self.now.job self.now.history lane.now) }
     {
-        self.gate.pick(lane)
+        self.schedule.pick(lane)
     }
 
     /// The least stamp of a call that is not answered, or `None` where all are. It is started or may be.
@@ -201,23 +156,14 @@ impl Desk {
         ensures least { MatchOption result (AnswersAll self.now.job.calls self.now.history) (IsFirstOpen self.now.job self.now.history) }
         ensures never_stuck { IfSome result (λ k. IsWaiting self.now.history k ⊎ MayStart self.now.job self.now.history k) }
     {
-        self.gate.first_open()
+        self.schedule.first_open()
     }
 
     /// Whether every call of a lane's sessions is answered.
     pub fn done(&self, lane: &[u32]) -> bool
         ensures { IsTrue result ↔ EachIndex lane.now (λ i. IsSessionDone self.now.job self.now.history (slice_index lane.now i)) }
     {
-        self.gate.done(lane)
-    }
-
-    // The pause before a call.
-    fn pause_before(&self, k: u32) -> u64
-        requires { k < length self.now.job.calls }
-        ensures { (call : Captured) → IsCallAt self.now.job.calls k call → IsPauseIn self.now.job call result }
-    {
-        let gap = self.gaps.as_slice()[k as usize];
-        pause(gap.micros, percentage(&self.job, gap.first))
+        self.schedule.done(lane)
     }
 
     /// Starts a call, and gives the pause before it.
@@ -228,9 +174,7 @@ impl Desk {
         ensures pause { (call : Captured) → IsCallAt self.old.job.calls k call → IsPauseIn self.old.job call result }
         ensures waiting { IsWaiting self.new.history k }
     {
-        let pause = self.pause_before(k);
-        self.gate.start(k);
-        self.waiting[k as usize] = true;
+        let pause = self.schedule.start(k);
         self.history.push(Event::Start(k, pause)).unwrap();
         pause
     }
@@ -242,9 +186,8 @@ impl Desk {
         ensures ok { OnOk result (IsAnswer self.old k self.new) }
         ensures err { OnErr result (self.new ≡ self.old) }
     {
-        let reply = executed(&self.job, &mut self.engine, &mut self.map, k)?;
-        self.gate.answer(k);
-        self.waiting[k as usize] = false;
+        let reply = executed(self.schedule.job(), &mut self.engine, &mut self.map, k)?;
+        self.schedule.answer(k);
         self.history.push(Event::Answer(k, reply)).unwrap();
         Ok(())
     }
@@ -253,21 +196,21 @@ impl Desk {
     pub fn halt(&mut self)
         ensures { self.new ≡ record self.old { stopped = true } }
     {
-        self.stopped = true;
+        self.schedule.halt();
     }
 
     /// Whether it is stopped.
     pub fn stopped(&self) -> bool
         ensures { result ≡ self.now.stopped }
     {
-        self.stopped
+        self.schedule.stopped()
     }
 
     /// What is replayed, and how.
     pub fn job(&self) -> &Job
         ensures { seen result.now ≡ self.now.job }
     {
-        &self.job
+        self.schedule.job()
     }
 
     /// What was started and answered so far.
@@ -298,6 +241,34 @@ impl Desk {
         ensures { result ≡ length self.now.stage.state.commits }
     {
         self.engine.commits()
+    }
+}
+
+impl Course for Desk {
+    ghost job = { λ desk. desk.job };
+
+    ghost history = { λ desk. desk.history };
+
+    ghost stopped = { λ desk. desk.stopped };
+
+    fn schedule(&self) -> &Schedule {
+        &self.schedule
+    }
+
+    fn start(&mut self, k: u32) -> u64 {
+        Desk::start(self, k)
+    }
+
+    fn halt(&mut self) {
+        Desk::halt(self);
+    }
+}
+
+impl Answering for Desk {
+    type Refusal = Memory;
+
+    fn answer(&mut self, k: u32) -> Result<(), Memory> {
+        Desk::answer(self, k)
     }
 }
 

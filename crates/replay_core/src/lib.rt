@@ -5,7 +5,6 @@
 #![tactic(auto)]
 
 mod desk;
-pub mod gate_laws;
 pub mod laws;
 
 pub use desk::Desk;

@@ -4,7 +4,7 @@ use Rattle.std.specs.List.{flat_map}
 use Rattle.desk_values.specs.declared.capture.Captured.{Captured}
 use Rattle.desk_values.specs.declared.capture.Event.{Event}
 use Rattle.desk_values.specs.declared.capture.Event.TheVariants.{Start, Answer}
-use Rattle.id_pairs.specs.Pairs.{IdPair}
+use Rattle.id_pairs.specs.Pairs.{IdPair, all_new}
 use Rattle.remap_ids.specs.IdMap.{start_pairs}
 use Rattle.replay_history.specs.declared.report.Class.{Class}
 use Rattle.replay_history.specs.declared.report.Class.TheVariants.{Same}
@@ -26,10 +26,18 @@ pairs_after job history = start_pairs job.start ++ learnt_in job.calls history
 abbrev pub Marked : Type 0
 Marked = Event × List IdPair
 
+-- how pairs come behind others
+abbrev pub Growth : Type 0
+Growth = List IdPair → List IdPair → List IdPair
+
 -- the events so, behind others that gave these pairs
+abbrev pub marked_by : Growth → List Captured → List IdPair → List Event → List Marked
+marked_by grow calls pairs [] = []
+marked_by grow calls pairs (event ∷ events) = let known = grow pairs (gained calls event) in (event, known) ∷ marked_by grow calls known events
+
+-- where all pairs come behind those before
 abbrev pub marked : List Captured → List IdPair → List Event → List Marked
-marked calls pairs [] = []
-marked calls pairs (event ∷ events) = let known = pairs ++ gained calls event in (event, known) ∷ marked calls known events
+marked calls pairs events = marked_by (λ known more. known ++ more) calls pairs events
 
 -- ---- the class of a call
 
@@ -60,9 +68,20 @@ abbrev pub difference : Captured → Option Class → List Line
 difference call None = []
 difference call (Some class) = if class_number class == class_number Same then [] else record { stamp = call.stamp; session = call.session; place = call.place; class = class } ∷ []
 
-abbrev pub report_in : JobView → List Event → Report
-report_in job history = record {
+abbrev pub report_by : JobView → (Captured → Option Class) → Report
+report_by job class = record {
   calls = length job.calls;
-  counts = counts_of (map (class_of job history) job.calls);
-  lines = flat_map (λ call. difference call (class_of job history call)) job.calls;
+  counts = counts_of (map class job.calls);
+  lines = flat_map (λ call. difference call (class call)) job.calls;
 }
+
+abbrev pub report_in : JobView → List Event → Report
+report_in job history = report_by job (class_of job history)
+
+-- ---- of replies that another server gave: it may give an id twice, and the first pair of an id stays
+
+abbrev pub heard_class_of : JobView → List Event → Captured → Option Class
+heard_class_of job history call = last_of (class_at call) (marked_by all_new job.calls (start_pairs job.start) history)
+
+abbrev pub heard_report_in : JobView → List Event → Report
+heard_report_in job history = report_by job (heard_class_of job history)

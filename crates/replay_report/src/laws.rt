@@ -16,11 +16,11 @@ ghost use Rattle.replay_history.specs.declared.report.Line.{Line};
 ghost use Rattle.replay_history.specs.Gap.{IsCallAt, IsStamped};
 ghost use Rattle.replay_history.specs.History.{AnswersAll, AnswersAt};
 ghost use Rattle.replay_job.specs.Events.{IsEvent};
-ghost use Rattle.replay_job.specs.Job.{JobView};
-ghost use Rattle.replay_job.specs.Runs.{IsLegalFor};
+ghost use Rattle.replay_job.specs.Job.{IsReplayable, JobView};
+ghost use Rattle.replay_job.specs.Runs.{IsCompleteFor, IsLegalFor, Stage};
 ghost use Rattle.divergence.specs.Class.{class_between};
 ghost use Rattle.replay_report.specs.Laws.{IsLineOf, StampsRise};
-ghost use Rattle.replay_report.specs.Report.{class_of, pairs_after, report_in};
+ghost use Rattle.replay_report.specs.Report.{class_of, heard_report_in, pairs_after, report_in};
 ghost use Rattle.replay_report.specs.declared.journal.Journal.{Journal};
 ghost use Rattle.replay_report.specs.JournalFile.{IsBadJournal, IsJournal};
 
@@ -67,4 +67,10 @@ pub fn lines_stand_where_calls_differ()
 /// The lines stand by rising stamp.
 pub fn lines_stand_by_stamp()
     ensures { (job : JobView) (history : List Event) → IsStamped job.calls → StampsRise 0 (report_in job history).lines }
+{}
+
+/// Of a whole replay on the desk's own server the report is the same, whether it goes by new pairs of ids alone or by all.
+pub fn heard_reports_are_reports()
+    ensures { (job : JobView) (history : List Event) → IsReplayable job
+        → ((last : Stage) × IsCompleteFor job history last) → heard_report_in job history ≡ report_in job history }
 {}

@@ -15,5 +15,5 @@ pub use differences::report_csv;
 pub use journal::{Journal, read_journal};
 pub use journal_line::JournalLine;
 pub use replay_history::{Class, Line, Lines, Report};
-pub use report::report_of;
+pub use report::{report_heard, report_of};
 pub use texts::{journal_text, report_text, tables_text};

@@ -1,12 +1,14 @@
 //! The report on a history.
 
 ghost use Rattle.std.specs.Prelude.{◌≡◌, ◌++◌, ◌<◌, None, Some, IfOk, OnOk, length, map, replicate, slice_set, count_by};
-ghost use Rattle.id_pairs.specs.Pairs.{HasNoIdTwice, learnt};
+ghost use Rattle.id_pairs.specs.Pairs.{all_new, learnt};
+ghost use Rattle.replay_history.specs.Gap.{IsStamped};
+ghost use Rattle.replay_history.specs.History.{AnswersAll};
 ghost use Rattle.remap_ids.specs.IdMap.{start_pairs};
 ghost use Rattle.replay_job.specs.Job.{IsReplayable, seen};
-ghost use Rattle.replay_job.specs.Runs.{IsCompleteFor, Stage, gained, learnt_in};
+ghost use Rattle.replay_job.specs.Runs.{IsCompleteFor, IsLegalFor, Stage, gained};
 ghost use Rattle.divergence.specs.Class.{class_between};
-ghost use Rattle.replay_report.specs.Report.{counts_of, difference, is_class, report_in};
+ghost use Rattle.replay_report.specs.Report.{counts_of, difference, heard_report_in, is_class, report_in};
 ghost use Rattle.replay_report.specs.Inside.Written.{differences, noted, walked};
 
 use desk_schema::Start;
@@ -23,6 +25,25 @@ pub fn report_of(alloc: Global, job: &Job, history: &History) -> Result<Report, 
     requires replayable { IsReplayable (seen job.now) }
     requires complete { (last : Stage) × IsCompleteFor (seen job.now) history.now.items last }
     ensures { IfOk result (λ report. report ≡ report_in (seen job.now) history.now.items) }
+{
+    reported(alloc, job, history)
+}
+
+/// The same of replies that another server gave, where the first pair of an id stays. Of a whole replay on a desk's own server it
+/// is the same report.
+pub fn report_heard(alloc: Global, job: &Job, history: &History) -> Result<Report, Memory>
+    requires replayable { IsReplayable (seen job.now) }
+    requires legal { IsLegalFor (seen job.now) history.now.items }
+    requires whole { AnswersAll (seen job.now).calls history.now.items }
+    ensures { IfOk result (λ report. report ≡ heard_report_in (seen job.now) history.now.items) }
+{
+    reported(alloc, job, history)
+}
+
+// The report on a history of calls that stand by stamp.
+fn reported(alloc: Global, job: &Job, history: &History) -> Result<Report, Memory>
+    requires { IsStamped job.now.calls.items }
+    ensures { IfOk result (λ report. report ≡ heard_report_in (seen job.now) history.now.items) }
 {
     let calls = job.calls.as_slice();
     let classes = classes_of(alloc, &job.start, calls, history.as_slice())?;
@@ -41,7 +62,6 @@ fn classes_of(
     calls: &[Captured],
     events: &[Event],
 ) -> Result<Vec<Option<Class>>, Memory>
-    requires once { HasNoIdTwice (start_pairs start.now ++ learnt_in calls.now events.now) }
     ensures count { IfOk result (λ classes. length classes.items ≡ length calls.now) }
     ensures classes { IfOk result
         (λ classes. classes.items ≡ walked calls.now (start_pairs start.now) events.now (replicate (length calls.now) None)) }
@@ -70,12 +90,11 @@ fn note_event(
     map: &mut IdMap,
     classes: &mut Vec<Option<Class>>,
 ) -> Result<(), Memory>
-    requires once { HasNoIdTwice (map.old.pairs ++ gained calls.now event.now) }
     requires count { length classes.old.items ≡ length calls.now }
     ensures count { OnOk result (length classes.new.items ≡ length calls.now) }
-    ensures pairs { OnOk result (map.new.pairs ≡ map.old.pairs ++ gained calls.now event.now) }
+    ensures pairs { OnOk result (map.new.pairs ≡ all_new map.old.pairs (gained calls.now event.now)) }
     ensures classes { OnOk result
-        (classes.new.items ≡ noted calls.now (map.old.pairs ++ gained calls.now event.now) event.now classes.old.items) }
+        (classes.new.items ≡ noted calls.now (all_new map.old.pairs (gained calls.now event.now)) event.now classes.old.items) }
 {
     let Event::Answer(stamp, reply) = event else {
         return Ok(());
@@ -96,15 +115,14 @@ fn note_class(
     map: &mut IdMap,
     classes: &mut Vec<Option<Class>>,
 ) -> Result<(), Memory>
-    requires once { HasNoIdTwice (map.old.pairs ++ learnt captured.now replayed.now) }
     requires within { stamp < length classes.old.items }
-    ensures pairs { OnOk result (map.new.pairs ≡ map.old.pairs ++ learnt captured.now replayed.now) }
+    ensures pairs { OnOk result (map.new.pairs ≡ all_new map.old.pairs (learnt captured.now replayed.now)) }
     ensures classes { OnOk result
         (classes.new.items
         ≡ slice_set classes.old.items stamp
-        (Some (class_between (map.old.pairs ++ learnt captured.now replayed.now) captured.now replayed.now))) }
+        (Some (class_between (all_new map.old.pairs (learnt captured.now replayed.now)) captured.now replayed.now))) }
 {
-    map.learn(captured, replayed)?;
+    map.learn_fresh(captured, replayed)?;
     classes[stamp] = Some(class_of(alloc, map, captured, replayed)?);
     Ok(())
 }

@@ -1,3 +1,1 @@
-pub mod Finishing
-pub mod Inside
 pub mod Limits

@@ -1,19 +1,19 @@
-//! The threads of a replay, and the one lock that they share.
+//! A replay by lanes.
 
-ghost use Rattle.std.specs.Prelude.{◌≡◌, ◌≤◌, false, IfOk};
+ghost use Rattle.std.specs.Prelude.{◌≡◌, ◌≤◌, false, IfOk, OnOk};
+ghost use Rattle.replay_history.specs.History.{AnswersAll};
 ghost use Rattle.replay_job.specs.Job.{IsReplayable, seen};
 ghost use Rattle.replay_job.specs.Replays.{IsToldReplay};
+ghost use Rattle.replay_lanes.specs.Finishing.{GoesOn};
 
-use crate::finishing::finish;
-use crate::seats::{home_of, join, seats_of};
-use crate::turns::{Turn, settle, take};
+use crate::turns::Own;
 use desk_files::Door;
-use desk_values::{Memory, Reserved, SESSION_LIMIT, Stamps};
+use desk_values::{Memory, Reserved, SESSION_LIMIT};
 use replay_core::Desk;
 use replay_job::Job;
+use replay_lanes::{run_lanes, seats_of};
 use std::alloc::Global;
 use std::sync::{Condvar, Mutex, Wait};
-use std::thread;
 use std::thread::Threads;
 use std::time::Clock;
 
@@ -26,29 +26,18 @@ pub fn run_lane<R: Clock + Wait, D: Door>(
     door: &D,
     lane: &[u32],
 ) -> Result<(), Memory> {
-    for _ in rt.forever() {
-        let Some((k, pause)) = next(rt, desk, turn, lane) else {
-            return Ok(());
-        };
-        door.pass(rt, k, pause);
-        let answered = settle(&mut desk.lock(rt), k);
-        turn.notify_all();
-        answered?;
-    }
-    unreachable!()
+    replay_lanes::run_lane(rt, desk, turn, door, &Own, lane)
 }
 
-// Starts a call of the lane, and waits while none may start. `None` where the lane has ended.
-fn next<R: Wait>(rt: &R, desk: &Mutex<Desk>, turn: &Condvar, lane: &[u32]) -> Option<(u32, u64)> {
-    let mut held = desk.lock(rt);
-    for _ in rt.forever() {
-        match take(&mut held, lane) {
-            Turn::Passes(k, pause) => return Some((k, pause)),
-            Turn::Ends => return None,
-            Turn::Waits => held = turn.wait(rt, held),
-        }
-    }
-    unreachable!()
+/// Answers what waits and runs what is left, one call at a time.
+pub fn finish<R: Clock + Wait, D: Door>(rt: &R, desk: &mut Desk, door: &D) -> Result<(), Memory>
+    requires { desk.old.stopped ≡ false }
+    ensures all { OnOk result (AnswersAll desk.new.job.calls desk.new.history) }
+    ensures job { desk.new.job ≡ desk.old.job }
+    ensures going { desk.new.stopped ≡ false }
+    ensures goes_on { GoesOn desk.old.history desk.new.history }
+{
+    replay_lanes::finish(rt, desk, door)
 }
 
 /// Replays a job by so many lanes, each in a thread of its own: session s is served by lane s mod `lanes`.
@@ -69,49 +58,9 @@ pub fn run_all<R: Clock + Wait + Threads + Sync, D: Door>(
     let mut home = Reserved::new(alloc);
     home.reserve(SESSION_LIMIT as u32)?;
     let desk = Desk::setup(alloc, job)?;
-    let found = run_lanes(rt, desk, door, seats.as_slice(), home);
+    let found = run_lanes(rt, desk, door, &Own, seats.as_slice(), home);
     let desk = own(alloc, found, kept)?;
     finished(rt, desk, door)
-}
-
-// The desk as the lanes leave it.
-fn run_lanes<R: Clock + Wait + Threads + Sync, D: Door>(
-    rt: &R,
-    desk: Desk,
-    door: &D,
-    seats: &[Stamps],
-    home: Reserved<u32>,
-) -> Desk {
-    let shared = Mutex::new(desk);
-    let turn = Condvar::new();
-    start_lanes(rt, &shared, &turn, door, seats, home);
-    shared.into_inner()
-}
-
-// Runs each lane in a thread of its own. The sessions of those whose thread could not be started are served here, by a home lane.
-// There is room for all sessions in it.
-fn start_lanes<R: Clock + Wait + Threads + Sync, D: Door>(
-    rt: &R,
-    desk: &Mutex<Desk>,
-    turn: &Condvar,
-    door: &D,
-    seats: &[Stamps],
-    home: Reserved<u32>,
-) {
-    thread::scope(thread::scope_env(), rt, |scope| {
-        let mut joined = [false; 64];
-        for lane in seats {
-            let its = lane.as_slice();
-            if scope
-                .spawn(move || run_lane(rt, desk, turn, door, its))
-                .is_err()
-            {
-                join(&mut joined, its);
-            }
-        }
-        let home = home_of(home, &joined);
-        let _ = run_lane(rt, desk, turn, door, home.as_slice());
-    });
 }
 
 // The desk itself where it carries the job, or one of which nothing is started.

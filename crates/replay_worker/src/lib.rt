@@ -1,14 +1,11 @@
-//! The lanes of a replay: threads that each serve some sessions, over one desk under one lock.
+//! A replay on the desk's own server, to its end.
 //!
 //! Enters: a job, how many lanes, and a door. Leaves: the desk that has answered every call of the job. It touches the lock, the threads
-//! and the door that it is handed. What a lane does under one hold of the lock is in `turns`, over the desk by itself; the
-//! threads are in `lanes` alone.
+//! and the door that it is handed. What a lane does under the hold of the lock in which its call is answered is in `turns`, over the
+//! desk by itself; the lanes are those of `replay_lanes`.
 #![tactic(auto)]
 
-mod finishing;
 mod lanes;
-mod seats;
 mod turns;
 
-pub use finishing::finish;
-pub use lanes::{run_all, run_lane};
+pub use lanes::{finish, run_all, run_lane};

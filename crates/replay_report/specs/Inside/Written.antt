@@ -10,7 +10,7 @@ use Rattle.desk_values.specs.declared.capture.Event.{Event}
 use Rattle.replay_history.specs.declared.report.Class.{Class}
 use Rattle.replay_history.specs.declared.report.Line.{Line}
 use Rattle.desk_values.specs.declared.capture.Event.TheVariants.{Start, Answer}
-use Rattle.id_pairs.specs.Pairs.{IdPair}
+use Rattle.id_pairs.specs.Pairs.{IdPair, all_new}
 use Rattle.replay_job.specs.Runs.{gained}
 use Rattle.divergence.specs.Class.{class_between}
 use Rattle.replay_report.specs.Differences.{captured_reply, fields_of, record_text}
@@ -53,5 +53,5 @@ noted calls pairs (Answer k reply) classes = noted_on (slice_get calls k) pairs 
 -- the same of each event in turn, behind others that gave these pairs
 abbrev pub walked : List Captured → List IdPair → List Event → List (Option Class) → List (Option Class)
 walked calls pairs [] classes = classes
-walked calls pairs (event ∷ events) classes = let known = pairs ++ gained calls event in
+walked calls pairs (event ∷ events) classes = let known = all_new pairs (gained calls event) in
     walked calls known events (noted calls known event classes)

@@ -1,0 +1,4 @@
+use Rattle.remote_desk.proofs.desk.RemoteDeskCourse.schedule.Goals as goal
+
+pub returns-clause-follows : goal.returns-clause-follows
+returns-clause-follows c = rw (← c.self.view_is) c.self.invariant.follows

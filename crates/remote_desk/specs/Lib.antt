@@ -1,0 +1,5 @@
+pub mod History
+pub mod Said
+pub mod Desk
+pub mod View
+pub mod Inside

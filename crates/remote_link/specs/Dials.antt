@@ -1,0 +1,21 @@
+-- What a dial tells of its lines.
+use Rattle.std.specs.Prelude.{◌≡◌, ℕ, ◌<◌, ◌≤◌, List, [], ◌∷◌, ◌++◌, Option, Some, IsSomeAnd, Result, Ok, Err}
+use Rattle.desk_values.specs.declared.memory.Memory.{Memory}
+use Rattle.desk_files.specs.Outside.{HasRisen, Told}
+use Rattle.remote_link.specs.declared.heard.Heard.{Heard}
+
+-- nothing was said on a line, and it has no fault
+pub record IsNew (told : Option (List Heard)) (faults : ℕ) : Type 0 where
+  pub silent : Told told (λ list. list ≡ [])
+  pub faultless : faults ≡ 0
+
+-- what an answer of `back` says of a line that tells this
+abbrev pub GivesBack : Option (List Heard) → Result (Unit {0}) Memory → Option (List (List Heard)) → Option (List (List Heard)) → Type 0
+GivesBack line (Ok done) before after = Told before (λ lists. IsSomeAnd line (λ list. after ≡ Some (lists ++ list ∷ [])))
+GivesBack line (Err memory) before after = after ≡ before
+
+-- the count of a dial that was given back a line with so many faults
+pub record CountsBack (faults before after : ℕ) : Type 0 where
+  pub rises : 0 < faults → HasRisen before after
+  pub stays : faults ≡ 0 → after ≡ before
+  pub never_falls : before ≤ after

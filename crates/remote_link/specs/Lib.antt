@@ -1,0 +1,5 @@
+pub mod Heard
+pub mod Dials
+pub mod Talk
+pub mod Lines
+pub mod Inside

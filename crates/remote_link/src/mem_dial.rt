@@ -1,0 +1,105 @@
+ghost use Rattle.std.specs.Prelude.{◌≡◌, ◌++◌, ◌∷◌, [], ◌⊎◌, ◌↔◌, IfOk, IsErr, OnOk, OnErr, true, Some, slice_get, if◌then◌else◌, nat_lt};
+ghost use Rattle.std.specs.Option.{option_copied};
+ghost use Rattle.desk_files.specs.Outside.{raised};
+ghost use Rattle.remote_link.specs.declared.mem_line.MemScript.{MemScript as Script};
+ghost use Rattle.remote_link.specs.Lines.{is_failing, line_of, said_on};
+
+use crate::dial::Dial;
+use crate::link::Link;
+use crate::mem_line::{MemLine, MemScript, is_failing};
+use desk_files::Failed;
+use desk_values::{List, Memory, Stamps};
+use std::alloc::Global;
+use std::marker::Model;
+
+/// What the lines of a dial in memory are to answer, in the order in which they are dialled.
+pub type MemScripts = List<MemScript>;
+
+/// A dial in memory, which tells what was said on the lines that were given back. It gives one line for each script. Its dials are
+/// numbered from 0; those whose numbers were given to [`MemDial::new`] fail, and so do those past the scripts. A dial that fails
+/// changes nothing but the two counts.
+#[derive(Drop)]
+pub struct MemDial {
+    alloc: Global,
+    scripts: Vec<MemScript>,
+    fails: Stamps,
+    made: u64,
+    faults: u64,
+    returned: Vec<MemLine>,
+}
+
+impl Model for MemDial {
+    ghost use Rattle.remote_link.specs.Lines.{MemoryDial};
+
+    ghost Value = { MemoryDial };
+
+    ghost view = { λ a. record { scripts = a.scripts.items; fails = a.fails; made = a.made; faults = a.faults; returned = a.returned.items } };
+}
+
+impl MemDial {
+    /// A dial that gives a line for each of these scripts. The dials with the numbers `fails` are to fail.
+    pub fn new(alloc: Global, scripts: MemScripts, fails: Stamps) -> MemDial
+        ensures { result ≡ record { scripts = scripts; fails = fails; made = 0; faults = 0; returned = [] } }
+    {
+        MemDial {
+            alloc,
+            scripts: scripts.into_vec(),
+            fails,
+            made: 0,
+            faults: 0,
+            returned: Vec::new(alloc),
+        }
+    }
+
+    /// A line that was given back, by its place from 0; `None` exactly where there is none.
+    pub fn given_back(&self, i: usize) -> Option<&MemLine>
+        ensures { option_copied result ≡ slice_get self.now.returned i }
+    {
+        self.returned.get(i)
+    }
+
+    fn count_fault(&mut self)
+        ensures { self.new ≡ record self.old { faults = raised self.old.faults } }
+    {
+        self.faults = self.faults.saturating_add(1);
+    }
+}
+
+impl Dial for MemDial {
+    type Line = MemLine;
+
+    ghost content = { λ s. Some (said_on s) };
+
+    ghost fault_count = { λ s. s.faults };
+
+    fn dial(&mut self, _port: u16) -> Result<MemLine, Failed>
+        ensures ok { IfOk result (λ line. (script : Script) × (line ≡ line_of script) × (self.old.scripts ≡ script ∷ self.new.scripts)
+            × (self.new ≡ record self.old { scripts = self.new.scripts; made = raised self.old.made })) }
+        ensures err { OnErr result (self.new ≡ record self.old { made = raised self.old.made; faults = raised self.old.faults }) }
+        ensures failed { IsErr result ↔ ((is_failing self.old.fails self.old.made ≡ true) ⊎ (self.old.scripts ≡ [])) }
+    {
+        let failing = is_failing(&self.fails, self.made);
+        self.made = self.made.saturating_add(1);
+        if failing || self.scripts.is_empty() {
+            self.count_fault();
+            return Err(Failed);
+        }
+        Ok(MemLine::new(self.alloc, self.scripts.remove(0)))
+    }
+
+    fn back(&mut self, line: MemLine) -> Result<(), Memory>
+        ensures ok { OnOk result (self.new ≡ record self.old {
+          faults = if nat_lt 0 line.faults then raised self.old.faults else self.old.faults;
+          returned = self.old.returned ++ line ∷ [];
+        }) }
+        ensures err { OnErr result (self.new ≡ record self.old {
+          faults = if nat_lt 0 line.faults then raised self.old.faults else self.old.faults;
+        }) }
+    {
+        if line.faults() > 0 {
+            self.count_fault();
+        }
+        self.returned.push(line)?;
+        Ok(())
+    }
+}

@@ -1,0 +1,14 @@
+pub mod Agreeing
+pub mod Ordered
+pub mod Giving
+pub mod Ending
+pub mod Compared
+pub mod Places
+pub mod Sendings
+pub mod Once
+pub mod Stepping
+pub mod Firsts
+pub mod Returning
+pub mod Spokens
+pub mod Telling
+pub mod Crossings

@@ -1,0 +1,55 @@
+use Rattle.std.proofs.Common.{◌≡◌, [], ◌∷◌, true, false, length, map, subst, rules}
+use Rattle.std.proofs.lemmas.List.{map-append}
+use Rattle.remote_target.specs.Inside.{CountsLines, refusal_on, said_on}
+use Rattle.remote_target.proofs.Returning.{GaveSo, counted_more, given_more, none_counted, none_given}
+use Rattle.remote_target.proofs.Stepping.{none_left, one_taken}
+use Rattle.remote_target.proofs.dialling.give_back.Goals as goal
+
+pub loop-line-init : goal.loop-line-init
+loop-line-init g c = record {
+  well = tt;
+  finite = tt;
+  rest = c.into_iter-line-iterator.ensures.into_iter_gives.0;
+  gave = none_given (g.D.Dial.content c.args.dial.now);
+  counts = none_counted (g.D.Dial.fault_count c.args.dial.now);
+}
+
+pub loop-line-preserved : goal.loop-line-preserved
+loop-line-preserved g c =
+    let inv = c.loop-line.invariant in
+    let done = c.loop-line.yielded in
+    let line = c.in-Some.line in
+    let spoken = c.into_line.ensures.spoken in
+    record {
+      well = tt;
+      finite = tt;
+      rest = one_taken done c.loop-line.line-iterator.rest.items c.args.lines.items line c.next.new.self.rest.items c.in-Some.ensures.steps.0 inv.rest;
+      gave = rw (map-append said_on done (line ∷ []), c.is_whole-whole.ensures) (given_more (map said_on done) (said_on line) _ _ c.back-given.result c.loop-line.whole (g.D.Dial.content c.args.dial.now) (g.D.Dial.content c.loop-line.dial) (g.D.Dial.content c.back-given.new.self) spoken inv.gave c.back-given.ensures.gives_back);
+      counts = rw (map-append refusal_on done (line ∷ [])) (counted_more (map refusal_on done) _ _ line.spoken.heard line.spoken.refusal (g.D.Dial.fault_count c.args.dial.now) (g.D.Dial.fault_count c.loop-line.dial) (g.D.Dial.fault_count c.back-given.new.self) spoken inv.counts c.back-given.ensures.counts);
+    }
+
+pub returns-then-whole-clause-gives : goal.returns-then-whole-clause-gives
+returns-then-whole-clause-gives g c =
+    let none : length c.loop-line.line-iterator.rest.items ≡ 0 = search rules in
+    let all = none_left c.loop-line.yielded c.loop-line.line-iterator.rest.items c.args.lines.items none c.loop-line.invariant.rest in
+    let gave = rw c.if-whole.true at c.loop-line.invariant.gave in
+    subst (λ l. GaveSo (map said_on l) true (g.D.Dial.content c.args.dial.now) (g.D.Dial.content c.loop-line.dial)) all gave
+
+pub returns-then-whole-clause-counts : goal.returns-then-whole-clause-counts
+returns-then-whole-clause-counts g c =
+    let none : length c.loop-line.line-iterator.rest.items ≡ 0 = search rules in
+    let all = none_left c.loop-line.yielded c.loop-line.line-iterator.rest.items c.args.lines.items none c.loop-line.invariant.rest in
+    subst (λ l. CountsLines (map refusal_on l) (g.D.Dial.fault_count c.args.dial.now) (g.D.Dial.fault_count c.loop-line.dial)) all c.loop-line.invariant.counts
+
+pub returns-else-whole-clause-gives : goal.returns-else-whole-clause-gives
+returns-else-whole-clause-gives g c =
+    let none : length c.loop-line.line-iterator.rest.items ≡ 0 = search rules in
+    let all = none_left c.loop-line.yielded c.loop-line.line-iterator.rest.items c.args.lines.items none c.loop-line.invariant.rest in
+    let gave = rw c.if-whole.false at c.loop-line.invariant.gave in
+    subst (λ l. GaveSo (map said_on l) false (g.D.Dial.content c.args.dial.now) (g.D.Dial.content c.loop-line.dial)) all gave
+
+pub returns-else-whole-clause-counts : goal.returns-else-whole-clause-counts
+returns-else-whole-clause-counts g c =
+    let none : length c.loop-line.line-iterator.rest.items ≡ 0 = search rules in
+    let all = none_left c.loop-line.yielded c.loop-line.line-iterator.rest.items c.args.lines.items none c.loop-line.invariant.rest in
+    subst (λ l. CountsLines (map refusal_on l) (g.D.Dial.fault_count c.args.dial.now) (g.D.Dial.fault_count c.loop-line.dial)) all c.loop-line.invariant.counts

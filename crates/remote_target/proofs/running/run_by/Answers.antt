@@ -1,0 +1,87 @@
+use Rattle.std.proofs.Common.{◌≡◌, ◌∙◌, ap, length, map, take, arith}
+use Rattle.std.proofs.lemmas.Result.{err_from_is_err_and}
+use Rattle.replay_history.specs.History.{AnswersAll}
+use Rattle.replay_job.specs.Job.{seen}
+use Rattle.replay_lanes.specs.Sessions.{sessions}
+use Rattle.remote_desk.specs.Desk.{RemoteView}
+use Rattle.remote_desk.specs.History.{plain}
+use Rattle.remote_target.proofs.Ending.{all_answer, all_counted, all_differ, all_jobs, all_returned, first_counted, first_returned, link_says, none_returned}
+use Rattle.remote_target.proofs.running.run_by.Goals as goal
+
+pub returns-in_err-sessions-clause-back : goal.returns-in_err-sessions-clause-back
+returns-in_err-sessions-clause-back g c = let p = err_from_is_err_and c.from_residual.result c.from_residual.ensures.1 in rw (p.1, p.2) (none_returned (seen c.args.job.now) (g.L.Dial.content c.args.dial.now))
+
+pub returns-in_err-sessions-clause-ends : goal.returns-in_err-sessions-clause-ends
+returns-in_err-sessions-clause-ends g c = let p = err_from_is_err_and c.from_residual.result c.from_residual.ensures.1 in rw (p.1, p.2) (omega arith)
+
+pub returns-in_err-sessions-clause-differs : goal.returns-in_err-sessions-clause-differs
+returns-in_err-sessions-clause-differs g c = let p = err_from_is_err_and c.from_residual.result c.from_residual.ensures.1 in rw (p.1, p.2) tt
+
+pub returns-in_err-lines-clause-back : goal.returns-in_err-lines-clause-back
+returns-in_err-lines-clause-back g c = let p = err_from_is_err_and c.from_residual-in_err-lines.result c.from_residual-in_err-lines.ensures.1 in rw (p.1, p.2) (none_returned (seen c.args.job.now) (g.L.Dial.content c.args.dial.now))
+
+pub returns-in_err-lines-clause-ends : goal.returns-in_err-lines-clause-ends
+returns-in_err-lines-clause-ends g c = let p = err_from_is_err_and c.from_residual-in_err-lines.result c.from_residual-in_err-lines.ensures.1 in rw (p.1, p.2) (omega arith)
+
+pub returns-in_err-lines-clause-differs : goal.returns-in_err-lines-clause-differs
+returns-in_err-lines-clause-differs g c = let p = err_from_is_err_and c.from_residual-in_err-lines.result c.from_residual-in_err-lines.ensures.1 in rw (p.1, p.2) tt
+
+pub replayed-lines-requires-clause-sessions : goal.replayed-lines-requires-clause-sessions
+replayed-lines-requires-clause-sessions g c κs within = c.in-Ok.ensures.all ∙ c.as_slice-2.ensures ∙ c.in_ok-sessions.ensures ∙ ap sessions c.as_slice.ensures
+
+pub returns-in-Ok-clause-job : goal.returns-in-Ok-clause-job
+returns-in-Ok-clause-job g c =
+    let back = rw c.dial_each.ensures.content at c.returned.ensures.returns in
+    all_jobs (seen c.args.job.now) c.replayed-lines.result.0.items c.returned.result (g.L.Dial.content c.args.dial.now) (g.L.Dial.content c.returned.new.dial) c.replayed-lines.ensures.sessions c.replayed-lines.result.1 c.replayed-lines.ensures.outcome back
+
+pub returns-in-Ok-clause-all : goal.returns-in-Ok-clause-all
+returns-in-Ok-clause-all g c =
+    let back = rw c.dial_each.ensures.content at c.returned.ensures.returns in
+    all_answer (seen c.args.job.now) c.replayed-lines.result.0.items c.returned.result (g.L.Dial.content c.args.dial.now) (g.L.Dial.content c.returned.new.dial) c.replayed-lines.ensures.sessions c.replayed-lines.result.1 c.replayed-lines.ensures.outcome back
+
+pub returns-in-Ok-clause-back : goal.returns-in-Ok-clause-back
+returns-in-Ok-clause-back g c =
+    let back = rw c.dial_each.ensures.content at c.returned.ensures.returns in
+    all_returned (seen c.args.job.now) c.replayed-lines.result.0.items c.returned.result (g.L.Dial.content c.args.dial.now) (g.L.Dial.content c.returned.new.dial) c.replayed-lines.ensures.sessions c.replayed-lines.result.1 c.replayed-lines.ensures.outcome back
+
+pub returns-in-Ok-clause-ends : goal.returns-in-Ok-clause-ends
+returns-in-Ok-clause-ends g c =
+    let back = rw c.dial_each.ensures.content at c.returned.ensures.returns in
+    all_counted (seen c.args.job.now) c.replayed-lines.result.0.items c.returned.result (g.L.Dial.content c.args.dial.now) (g.L.Dial.content c.returned.new.dial) c.replayed-lines.ensures.sessions c.replayed-lines.result.1 c.replayed-lines.ensures.outcome
+    (g.L.Dial.fault_count c.args.dial.now) (g.L.Dial.fault_count c.dial_each.new.dial) (g.L.Dial.fault_count c.returned.new.dial) c.in-Ok.ensures.counts c.returned.ensures.counts back
+
+pub returns-in-Ok-clause-differs : goal.returns-in-Ok-clause-differs
+returns-in-Ok-clause-differs g c =
+    let back = rw c.dial_each.ensures.content at c.returned.ensures.returns in
+    all_differ (seen c.args.job.now) c.replayed-lines.result.0.items c.returned.result (g.L.Dial.content c.args.dial.now) (g.L.Dial.content c.returned.new.dial) c.replayed-lines.ensures.sessions c.replayed-lines.result.1 c.replayed-lines.ensures.outcome back
+
+pub returns-clause-job : goal.returns-clause-job
+returns-clause-job g c =
+    let back = rw c.dial_each.ensures.content at c.returned-in-Err.ensures.returns in
+    (link_says (seen c.args.job.now) c.dial_each.new.lines.items c.returned-in-Err.result (g.L.Dial.content c.args.dial.now) (g.L.Dial.content c.returned-in-Err.new.dial) (λ (desk : RemoteView). desk.job ≡ seen c.args.job.now) back).0
+
+pub returns-clause-all : goal.returns-clause-all
+returns-clause-all g c =
+    let back = rw c.dial_each.ensures.content at c.returned-in-Err.ensures.returns in
+    (link_says (seen c.args.job.now) c.dial_each.new.lines.items c.returned-in-Err.result (g.L.Dial.content c.args.dial.now) (g.L.Dial.content c.returned-in-Err.new.dial) (λ (desk : RemoteView). AnswersAll desk.job.calls (plain desk.events)) back).0
+
+pub returns-clause-back : goal.returns-clause-back
+returns-clause-back g c =
+    let lines = c.dial_each.new.lines.items in
+    let back = rw c.dial_each.ensures.content at c.returned-in-Err.ensures.returns in
+    let first = c.dial_each.ensures.sessions ∙ ap (take (length lines)) (c.as_slice-2.ensures ∙ c.in_ok-sessions.ensures ∙ ap sessions c.as_slice.ensures) in
+    first_returned (seen c.args.job.now) lines c.returned-in-Err.result (g.L.Dial.content c.args.dial.now) (g.L.Dial.content c.returned-in-Err.new.dial) c.dial_each.ensures.fresh first back
+
+pub returns-clause-ends : goal.returns-clause-ends
+returns-clause-ends g c =
+    let lines = c.dial_each.new.lines.items in
+    let back = rw c.dial_each.ensures.content at c.returned-in-Err.ensures.returns in
+    let first = c.dial_each.ensures.sessions ∙ ap (take (length lines)) (c.as_slice-2.ensures ∙ c.in_ok-sessions.ensures ∙ ap sessions c.as_slice.ensures) in
+    let risen = c.in-Err.ensures.counts in
+    first_counted (seen c.args.job.now) lines c.returned-in-Err.result (g.L.Dial.content c.args.dial.now) (g.L.Dial.content c.returned-in-Err.new.dial) c.dial_each.ensures.fresh first
+    (g.L.Dial.fault_count c.args.dial.now) (g.L.Dial.fault_count c.dial_each.new.dial) (g.L.Dial.fault_count c.returned-in-Err.new.dial) risen.0 risen.1 c.returned-in-Err.ensures.counts back
+
+pub returns-clause-differs : goal.returns-clause-differs
+returns-clause-differs g c =
+    let back = rw c.dial_each.ensures.content at c.returned-in-Err.ensures.returns in
+    (link_says (seen c.args.job.now) c.dial_each.new.lines.items c.returned-in-Err.result (g.L.Dial.content c.args.dial.now) (g.L.Dial.content c.returned-in-Err.new.dial) (λ (desk : RemoteView). desk.job ≡ seen c.args.job.now) back).1

@@ -1,0 +1,5 @@
+pub mod Spoken
+pub mod Agreement
+pub mod Lines
+pub mod Ends
+pub mod Inside

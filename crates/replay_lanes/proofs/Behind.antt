@@ -1,0 +1,87 @@
+-- A desk on which one call after the other is answered.
+use Rattle.std.proofs.Common.{◌≡◌, ℕ, ◌+◌, ◌<◌, inl, inr, Bool, false, List, [], ◌∷◌, ◌++◌, length, refl, sym, ap, subst, ◌∙◌, arith}
+use Rattle.std.proofs.lemmas.Bool.{cases_Bool, ltb-false, ltb-true}
+use Rattle.std.proofs.Math.Dec.{ltb}
+use Rattle.std.proofs.lemmas.List.{append_assoc, append-nil}
+use Rattle.desk_values.specs.declared.call.Reply.{Reply}
+use Rattle.desk_values.specs.declared.capture.Event.{Event}
+use Rattle.desk_values.specs.declared.capture.Event.TheVariants.{Start, Answer}
+use Rattle.replay_history.specs.History.{IsAnswered}
+use Rattle.law_histories.proofs.Items.{kept_at, last_at}
+use Rattle.replay_job.specs.Runs.{IsFirstOpen}
+use Rattle.replay_job.specs.Job.{JobView}
+use Rattle.replay_lanes.specs.Inside.Courses.{CourseView, course_of, started}
+use Rattle.replay_lanes.specs.Finishing.{GoesOn}
+use Rattle.replay_lanes.specs.Inside.Turns.{IsBegun}
+
+-- after so many turns so many calls are answered, on the desk of this job that had these events
+pub record IsBehind (old desk : CourseView) (turn : ℕ) : Type 0 where
+  pub job_is : desk.job ≡ old.job
+  pub going : desk.stopped ≡ false
+  pub goes_on : GoesOn old.history desk.history
+  pub front : (j : ℕ) → j < turn → IsAnswered desk.history j
+
+-- what was answered is answered where the events go on
+answered_on : (events more : List Event) (k : ℕ) → IsAnswered events k → IsAnswered (events ++ more) k
+answered_on events more k answered = (answered.0, answered.1, kept_at events more answered.0 (Answer k answered.1) answered.2)
+
+on_and_on : (first next last : List Event) → GoesOn first next → GoesOn next last → GoesOn first last
+on_and_on first next last one two = (one.0 ++ two.0, two.1 ∙ (ap (λ (h : List Event). h ++ two.0) one.1 ∙ append_assoc first one.0 two.0))
+
+pub begins : (desk : CourseView) → desk.stopped ≡ false → IsBehind desk desk 0
+begins desk going = record { job_is = refl; going = going; goes_on = ([], sym (append-nil desk.history)); front = λ j below. absurd (omega arith) }
+
+-- a desk after a call was begun: its job, whether it is stopped, its events
+pub begun_is : (old : CourseView) (k : ℕ) (new : CourseView) → IsBegun old k new → (new.job ≡ old.job) × (new.stopped ≡ old.stopped) × GoesOn old.history new.history
+begun_is old k new (inl same) = (ap (λ (d : CourseView). d.job) same, ap (λ (d : CourseView). d.stopped) same, ([], ap (λ (d : CourseView). d.history) same ∙ sym (append-nil old.history)))
+begun_is old k new (inr started) = (ap (λ (d : CourseView). d.job) started.1, ap (λ (d : CourseView). d.stopped) started.1, (Start k started.0 ∷ [], ap (λ (d : CourseView). d.history) started.1))
+
+-- one after a call was answered
+abbrev pub IsAnswer : CourseView → ℕ → CourseView → Type 0
+IsAnswer old k new = (reply : Reply) × (new ≡ record old { history = old.history ++ Answer k reply ∷ [] })
+
+-- told part by part
+pub answered_course : (job job' : JobView) (history history' : List Event) (stopped stopped' : Bool) (k : ℕ) → (reply : Reply) × (history' ≡ history ++ Answer k reply ∷ []) → job' ≡ job → stopped' ≡ stopped → IsAnswer (course_of job history stopped) k (course_of job' history' stopped')
+answered_course job job' history history' stopped stopped' k answer same_job same_stop = (answer.0, λ i. record { job = same_job i; history = answer.1 i; stopped = same_stop i })
+
+-- after a start, told part by part
+pub started_course : (job job' : JobView) (history history' : List Event) (stopped stopped' : Bool) (k pause : ℕ) → history' ≡ history ++ Start k pause ∷ [] → job' ≡ job → stopped' ≡ stopped → course_of job' history' stopped' ≡ started (course_of job history stopped) k pause
+started_course job job' history history' stopped stopped' k pause more same_job same_stop = λ i. record { job = same_job i; history = more i; stopped = same_stop i }
+
+-- and after it was answered
+answer_is : (old : CourseView) (k : ℕ) (new : CourseView) → IsAnswer old k new → (new.job ≡ old.job) × (new.stopped ≡ old.stopped) × ((reply : Reply) × (new.history ≡ old.history ++ Answer k reply ∷ []))
+answer_is old k new answer = (ap (λ (d : CourseView). d.job) answer.1, ap (λ (d : CourseView). d.stopped) answer.1, (answer.0, ap (λ (d : CourseView). d.history) answer.1))
+
+module _ (old desk : CourseView) (turn : ℕ) (behind : IsBehind old desk turn) (k : ℕ) (first : IsFirstOpen desk.job desk.history k) where
+  -- events that go on, and answer the first open call
+  module _ (events : List Event) (on : GoesOn desk.history events) (own : IsAnswered events k) where
+    kept : (j : ℕ) → IsAnswered desk.history j → IsAnswered events j
+    kept j answered = subst (λ (h : List Event). IsAnswered h j) (sym on.1) (answered_on desk.history on.0 j answered)
+
+    at_turn : (j : ℕ) → j ≡ turn → IsAnswered events j
+    at_turn j here = elim (cases_Bool (ltb j k)) [
+      | inl less ↦ kept j (first.least j (ltb-true j k less))
+      | inr more ↦ elim (cases_Bool (ltb k turn)) [
+        | inl below ↦ absurd (first.unanswered (behind.front k (ltb-true k turn below)))
+        | inr above ↦ let a = ltb-false j k more in let b = ltb-false k turn above in let same : k ≡ j = omega (arith, a, b, here) in subst (IsAnswered events) same own
+      ]
+    ]
+
+    front_more : (j : ℕ) → j < turn + 1 → IsAnswered events j
+    front_more j below = elim (cases_Bool (ltb j turn)) [
+      | inl less ↦ kept j (behind.front j (ltb-true j turn less))
+      | inr more ↦ let a = ltb-false j turn more in at_turn j (omega (arith, a, below))
+    ]
+
+  pub behind_more : (begun new : CourseView) → IsBegun desk k begun → IsAnswer begun k new → IsBehind old new (turn + 1)
+  behind_more begun new begin answer =
+      let b = begun_is desk k begun begin in
+      let a = answer_is begun k new answer in
+      let on : GoesOn desk.history new.history = on_and_on desk.history begun.history new.history b.2 (Answer k a.2.0 ∷ [], a.2.1) in
+      let own : IsAnswered new.history k = subst (λ (h : List Event). IsAnswered h k) (sym a.2.1) (length begun.history, a.2.0, last_at begun.history (Answer k a.2.0)) in
+      record {
+        job_is = a.0 ∙ (b.0 ∙ behind.job_is);
+        going = a.1 ∙ (b.1 ∙ behind.going);
+        goes_on = on_and_on old.history desk.history new.history behind.goes_on on;
+        front = front_more new.history on own;
+      }

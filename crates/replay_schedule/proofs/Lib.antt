@@ -1,0 +1,4 @@
+pub mod Gates
+pub mod Schedules
+pub mod Ids
+pub mod Crossings

@@ -1,0 +1,4 @@
+pub mod Gates
+pub mod Schedule
+pub mod View
+pub mod Inside

@@ -1,3 +1,0 @@
--- Words of private clauses. They need not be believed.
-pub mod Turns
-pub mod Seats
