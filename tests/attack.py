@@ -19,9 +19,10 @@ from attack_ended import ended_runs, ended_services
 from attack_killed import killed
 from attack_limits import limits
 from attack_program import Wrong, same
+from attack_remote import remote
 from attack_strangers import strangers
 
-PARTS = (crowd, strangers, limits, devices, services_on_devices, killed, ended_runs, ended_services, altered)
+PARTS = (crowd, strangers, limits, devices, services_on_devices, killed, ended_runs, ended_services, altered, remote)
 
 
 def held():

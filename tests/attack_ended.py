@@ -1,6 +1,8 @@
 """What ends early: a run and a service that a signal ends, and a service whose client stays silent. The old files stand, all of them."""
+import itertools
 import shutil
 import signal
+import time
 from pathlib import Path
 
 from attack_program import CONNECT, Client, Process, Service, files_below, in_folder, outcome, same, sql, until
@@ -8,8 +10,13 @@ from attack_program import CONNECT, Client, Process, Service, files_below, in_fo
 EXAMPLE = Path(__file__).resolve().parent.parent / "examples/first"
 SIGNALS = (signal.SIGTERM, signal.SIGINT, signal.SIGHUP)
 HOUR = 3_600_000_000
+# By how many lanes a run goes that is ended. Its one session is served by the program's own thread, or by a thread of its lane; a second lane
+# has no session, so there are as many threads as lanes.
+LANES = ("1", "2")
 # How often a client that stays silent is looked at.
 LOOKS = 50
+# How often a run that waits is looked at.
+SLEEPS = 5
 
 
 def slow_capture(folder):
@@ -33,12 +40,21 @@ def ended_runs(program, folder):
     """A run that waits for an hour is ended."""
     slow_capture(folder)
     before = old_files(folder / "out")
-    for number in SIGNALS:
-        with Process(program, folder, ["run", "cap", "out"]) as process:
-            until("a lane waits", lambda: process.threads() > 1 or not process.is_alive())
-            same(f"a run that {number.name} ends", process.ended(number), (-number, ""))
+    for lanes, number in itertools.product(LANES, SIGNALS):
+        with Process(program, folder, ["run", "cap", "out", "--lanes", lanes]) as process:
+            until("a lane waits", lambda: waits(process, int(lanes)) or not process.is_alive())
+            same(f"a run by {lanes} lanes that {number.name} ends", process.ended(number), (-number, ""))
         same(f"what stands behind {number.name}", files_below(folder / "out"), before)
-    return f"a run that waits, ended by {len(SIGNALS)} signals: the old files stand"
+    return f"a run that waits, by one lane and by two, ended by {len(SIGNALS)} signals: the old files stand"
+
+
+def waits(process, threads):
+    """Whether a run of so many threads sleeps, each of some times that it is looked at."""
+    for _ in range(SLEEPS):
+        if process.threads() != threads or not process.sleeps():
+            return False
+        time.sleep(0.01)
+    return True
 
 
 @in_folder

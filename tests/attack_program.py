@@ -86,6 +86,11 @@ class Process:
     def threads(self):
         return len(os.listdir(f"/proc/{self.process.pid}/task"))
 
+    def sleeps(self):
+        """Whether each of its threads waits for something."""
+        states = [path.read_text().rsplit(")", 1)[1].split()[0] for path in Path(f"/proc/{self.process.pid}/task").glob("*/stat")]
+        return states == ["S"] * len(states)
+
     def descriptors(self):
         return len(os.listdir(f"/proc/{self.process.pid}/fd"))
 

@@ -6,24 +6,26 @@ use mathlib.Core.Bool.{true≢false}
 use Rattle.std.proofs.lemmas.List.{append-nil, length-map}
 use Rattle.std.proofs.lemmas.Result.{IfOk-at_ok}
 use Rattle.std.proofs.lemmas.List.Folds.{fold-map}
-use Rattle.desk_files.specs.Outside.{Told}
+use Rattle.desk_files.specs.Outside.{Counts, Told}
 use Rattle.desk_files.specs.Hosts.{Connections, Returned}
 use Rattle.desk_values.specs.declared.memory.Memory.{Memory}
 use Rattle.desk_schema.specs.Start.{StartView}
 use Rattle.capture_recorder.specs.declared.door.Said.{Said}
 use Rattle.capture_recorder.specs.declared.door.Turned.{Turned}
 use Rattle.capture_recorder.specs.Agreement.{IsBorneOut}
-use Rattle.capture_recorder.specs.Gathering.{kept_in, said_in}
-use Rattle.capture_recorder.specs.Recording.{Recording}
+use Rattle.capture_recorder.specs.declared.gathering.GatherErr.{GatherErr}
+use Rattle.capture_recorder.specs.declared.gathering.GatherErr.TheVariants as gather
+use Rattle.capture_recorder.specs.Gathering.{Gathers, kept_in, said_in}
+use Rattle.capture_recorder.specs.Recording.{IsRecording, Recording}
 use Rattle.capture_http.specs.declared.conn_end.ConnEnd.{ConnEnd}
 use Rattle.capture_serve.specs.Connections.{EachFrom, IsConnection, IsGivenBack, comes}
 use Rattle.capture_serve.specs.Service.{AreAllGivenBack, AreGivenBack, AreServed, CaptureView, HasGivenBack, HasGivenBackAll, IsService, is_short}
-use Rattle.capture_serve.specs.Failing.{GivesBack}
+use Rattle.capture_serve.specs.Failing.{Fails, GivesBack, err_of, serve_ending}
 use Rattle.capture_serve.specs.declared.failing.ServeErr.{ServeErr}
 use Rattle.capture_serve.specs.declared.halt.Halt.{Halt}
 use Rattle.capture_serve.specs.declared.failing.ServeErr.TheVariants as serve
 use Rattle.capture_serve.specs.declared.returning.Notes.{Notes}
-use Rattle.capture_serve.specs.Inside.Passing.{AreBack, AreClosed, Came, Connected, Gave, HasNoted, IsCapturedOf, IsPassed, Moment, Passed, PassedThrough, Took, arrivals_from, moment_of}
+use Rattle.capture_serve.specs.Inside.Passing.{AreBack, AreClosed, Came, Connected, Gave, HasNoted, IsCapturedOf, IsFaultless, IsPassed, Moment, Passed, PassedThrough, Took, arrivals_from, moment_of}
 use Rattle.capture_serve.proofs.Going.{GaveSo}
 
 abbrev said_after : Passed → List Said
@@ -209,6 +211,23 @@ some_given : (most : ℕ) (before after : Option Connections) → HasGivenBackAl
 some_given most None after all = tt
 some_given most (Some b) None all = absurd all
 some_given most (Some b) (Some a) all = all.given
+
+-- a recorder and doors that differ are a finding, and no fault
+pub found_fails : (start : StartView) (recording : Recording) (said : List (List Said)) (turned : List (List Turned)) (error : GatherErr) (result : ServeErr) → IsRecording recording → Gathers start recording said turned (Err error) → result ≡ err_of error
+    → Fails start result × IsFaultless result
+found_fails start recording said turned error result is gathers told = subst (λ (e : ServeErr). Fails start e × IsFaultless e) (sym told) (each error gathers) where
+  each : (error : GatherErr) → Gathers start recording said turned (Err error) → Fails start (err_of error) × IsFaultless (err_of error)
+  each (gather.OtherStart kept) gathers = (record { recording = recording; said = said; turned = turned; error = gather.OtherStart kept; is_recording = is; gathers = gathers; told = refl }, tt)
+  each (gather.Mismatch session place kept answered) gathers = (record { recording = recording; said = said; turned = turned; error = gather.Mismatch session place kept answered; is_recording = is; gathers = gathers; told = refl }, tt)
+  each (gather.Refusal session n entry) gathers = (record { recording = recording; said = said; turned = turned; error = gather.Refusal session n entry; is_recording = is; gathers = gathers; told = refl }, tt)
+  each gather.Memory gathers = (tt, tt)
+
+-- where no device failed, the count of faults is as it was
+pub counts_of : {X : Type 0} (result : Result X ServeErr) (before after : ℕ) → after ≡ before → IfErr result (λ error. IsFaultless error) → Counts (serve_ending result) before after
+counts_of (Ok done) before after same none = same
+counts_of (Err (serve.Failed short)) before after same none = absurd none
+counts_of (Err (serve.Differs finding)) before after same none = same
+counts_of (Err serve.Memory) before after same none = same
 
 pub gives_back : {X : Type 0} (most : ℕ) (before after : Option Connections) (result : Result X ServeErr) → HasGivenBackAll most before after → IfErr result (GivesBack most before after)
 gives_back most before after (Ok done) all = tt

@@ -109,6 +109,7 @@ fn captured<R: Clock + Wait, D: Door>(
     ensures fails { IfErr result (λ error. Fails start.now error × IsFaultless error) }
 {
     let said = close_all(rt, alloc, &mut recorder, clock, notes.said)?;
+    let calls = recorder.calls().len();
     let sessions = match gather(alloc, start, &recorder, &said, &notes.turned) {
         Ok(sessions) => sessions,
         Err(error) => return Err(failed(error)),
@@ -116,7 +117,7 @@ fn captured<R: Clock + Wait, D: Door>(
     let capture = Capture {
         connections: said.len() as u32,
         short: notes.short,
-        calls: recorder.calls().len() as u32,
+        calls: calls as u32,
         sessions,
     };
     know_files(start, &capture.sessions);

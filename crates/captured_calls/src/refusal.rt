@@ -42,7 +42,7 @@ pub enum Refusal {
         /// How many there are.
         right: u64,
     },
-    /// A call ended before it began, or began before its session's call before it ended.
+    /// A call whose end is before its beginning, or its beginning before the end of its session's last call.
     #[error("times at stamp {stamp}")]
     Times {
         /// Its stamp.

@@ -8,7 +8,8 @@ use crate::words::words_of;
 use case_text::{first_word, stamps_of, txt};
 use desk_files::{MemDoor, MemFiles, MemHost, MemSink};
 use desk_values::fields::append_u64;
-use desk_values::{Bytes, Memory, ReadErr};
+use desk_values::{Bytes, Memory, ReadErr, Stamps};
+use remote_link::{MemDial, MemScripts};
 use replay_cli::replay_main;
 use std::alloc::Global;
 use std::collections::BTreeMap;
@@ -39,6 +40,7 @@ pub fn append_run<R: Clock + Wait + Threads + Sync>(
         host: guests.host()?,
         port: None,
     };
+    let mut dial = MemDial::new(alloc, MemScripts::new(alloc), Stamps::new(alloc));
     let status = replay_main(
         rt,
         alloc,
@@ -47,6 +49,7 @@ pub fn append_run<R: Clock + Wait + Threads + Sync>(
         &mut host,
         &door,
         register,
+        &mut dial,
         &mut out,
     );
     register.fail_no_more();

@@ -17,13 +17,13 @@ mod shown;
 mod start;
 
 use capture_http::{ConnEnd, serve_connection};
-use capture_recorder::{LockedDoor, Recorder};
+use capture_recorder::{LockedDoor, Recorder, TurnedList};
 use case_text::{first_word, stamps_of};
 use chunks::{Chunks, bytes_of};
 use desk_files::{MemDoor, MemSink, MemSource, Source};
 use desk_schema::Start;
 use desk_values::fields::append_u64;
-use desk_values::{Bytes, List, Memory, Stamps};
+use desk_values::{Bytes, Captured, List, Memory, Stamps};
 use std::alloc::Global;
 use std::sync::{Mutex, Wait};
 use std::time::Clock;
@@ -37,9 +37,18 @@ const FEW: usize = 7;
 fn main(rt: HostRuntime) -> Result<(), anyhow::Error> {
     let alloc = rt.alloc();
     let start = start::start(alloc)?;
-    for line in rt.lines(alloc) {
-        let answer = answer(&rt, alloc, &start, line?.as_str())?;
-        println!(rt; "{}", str::from_utf8(answer.as_slice())?)?;
+    run(&rt, &rt, alloc, &start)
+}
+
+fn run<R: Clock + Wait>(
+    host: &HostRuntime,
+    rt: &R,
+    alloc: Global,
+    start: &Start,
+) -> Result<(), anyhow::Error> {
+    for line in host.lines(alloc) {
+        let answer = answer(rt, alloc, start, line?.as_str())?;
+        println!(host; "{}", str::from_utf8(answer.as_slice())?)?;
     }
     Ok(())
 }
@@ -53,21 +62,44 @@ fn answer<R: Clock + Wait>(
 ) -> Result<Bytes, anyhow::Error> {
     let (name, rest) = first_word(line);
     let (chunking, text) = first_word(rest);
-    let sent = bytes_of(alloc, text)?;
-    let came = match chunking {
-        "whole" => came_of(rt, alloc, start, Chunks::new(sent, usize::MAX))?,
-        "cut" => came_of(rt, alloc, start, Chunks::new(sent, FEW))?,
-        "bytes" => came_of(rt, alloc, start, Chunks::new(sent, 1))?,
-        "every" => every_cut(rt, alloc, start, sent.as_slice())?,
-        _ => {
-            let fails = stamps_of(alloc, chunking)?;
-            came_of(rt, alloc, start, MemSource::new(sent, fails))?
-        }
-    };
+    let came = came(rt, alloc, start, chunking, bytes_of(alloc, text)?)?;
+    Ok(named(alloc, name, &came)?)
+}
+
+fn named(alloc: Global, name: &str, came: &Bytes) -> Result<Bytes, Memory> {
     let mut answer = List::new(alloc);
     answer.append(name.as_bytes())?;
     answer.append(came.as_slice())?;
     Ok(answer)
+}
+
+// What these bytes come to with this chunking.
+fn came<R: Clock + Wait>(
+    rt: &R,
+    alloc: Global,
+    start: &Start,
+    chunking: &str,
+    sent: Bytes,
+) -> Result<Bytes, anyhow::Error> {
+    match chunking {
+        "whole" => came_of(rt, alloc, start, Chunks::new(sent, usize::MAX)),
+        "cut" => came_of(rt, alloc, start, Chunks::new(sent, FEW)),
+        "bytes" => came_of(rt, alloc, start, Chunks::new(sent, 1)),
+        "every" => every_cut(rt, alloc, start, sent.as_slice()),
+        _ => failing(rt, alloc, start, chunking, sent),
+    }
+}
+
+// What these bytes come to where the reads with these numbers fail.
+fn failing<R: Clock + Wait>(
+    rt: &R,
+    alloc: Global,
+    start: &Start,
+    numbers: &str,
+    sent: Bytes,
+) -> Result<Bytes, anyhow::Error> {
+    let fails = stamps_of(alloc, numbers)?;
+    came_of(rt, alloc, start, MemSource::new(sent, fails))
 }
 
 // What these bytes come to where they come whole. Where they come to something else for being cut somewhere, that, behind the
@@ -78,16 +110,26 @@ fn every_cut<R: Clock + Wait>(
     start: &Start,
     sent: &[u8],
 ) -> Result<Bytes, anyhow::Error> {
-    let whole = Bytes::from_slice(alloc, sent)?;
-    let wanted = came_of(rt, alloc, start, Chunks::new(whole, usize::MAX))?;
+    let wanted = cut_at(rt, alloc, start, sent, 0)?;
     for cut in 1..sent.len() {
-        let again = Bytes::from_slice(alloc, sent)?;
-        let came = came_of(rt, alloc, start, Chunks::cut_at(again, cut))?;
+        let came = cut_at(rt, alloc, start, sent, cut)?;
         if came.as_slice() != wanted.as_slice() {
             return Ok(told_of_cut(alloc, cut, &came)?);
         }
     }
     Ok(wanted)
+}
+
+// What these bytes come to where the first read ends at a place; nowhere early at 0.
+fn cut_at<R: Clock + Wait>(
+    rt: &R,
+    alloc: Global,
+    start: &Start,
+    sent: &[u8],
+    cut: usize,
+) -> Result<Bytes, anyhow::Error> {
+    let sent = Bytes::from_slice(alloc, sent)?;
+    came_of(rt, alloc, start, Chunks::cut_at(sent, cut))
 }
 
 fn told_of_cut(alloc: Global, cut: usize, came: &Bytes) -> Result<Bytes, Memory> {
@@ -98,24 +140,67 @@ fn told_of_cut(alloc: Global, cut: usize, came: &Bytes) -> Result<Bytes, Memory>
     Ok(told)
 }
 
-// What a conversation comes to.
+// What a conversation comes to. What sends is let go at one place, and so is the recorder.
 fn came_of<R: Clock + Wait, I: Source + Drop>(
     rt: &R,
     alloc: Global,
     start: &Start,
     mut input: I,
 ) -> Result<Bytes, anyhow::Error> {
-    let mut output = MemSink::new(alloc, ROOM, Stamps::new(alloc))?;
+    came_by(rt, alloc, start, &mut input)
+}
+
+fn came_by<R: Clock + Wait, I: Source>(
+    rt: &R,
+    alloc: Global,
+    start: &Start,
+    input: &mut I,
+) -> Result<Bytes, anyhow::Error> {
     let recorder = Mutex::new(Recorder::load(alloc, start)?);
+    let came = serve(rt, alloc, &recorder, input);
+    told(alloc, came, &recorder.into_inner())
+}
+
+// How a connection ended, and what it left.
+#[derive(Drop)]
+struct Served {
+    end: ConnEnd,
+    output: MemSink,
+    turned: TurnedList,
+}
+
+fn serve<R: Clock + Wait, I: Source>(
+    rt: &R,
+    alloc: Global,
+    recorder: &Mutex<Recorder>,
+    input: &mut I,
+) -> Result<Served, Memory> {
+    let mut output = MemSink::new(alloc, ROOM, Stamps::new(alloc))?;
     let clock = MemDoor::new(alloc);
-    let mut door = LockedDoor::new(alloc, 0, &recorder, &clock);
-    let end = serve_connection(rt, alloc, &mut door, &mut input, &mut output);
+    let mut door = LockedDoor::new(alloc, 0, recorder, &clock);
+    let end = serve_connection(rt, alloc, &mut door, input, &mut output);
     let (_, turned) = door.into_lists();
+    Ok(Served {
+        end,
+        output,
+        turned,
+    })
+}
+
+fn told(
+    alloc: Global,
+    came: Result<Served, Memory>,
+    recorder: &Recorder,
+) -> Result<Bytes, anyhow::Error> {
+    Ok(told_of(alloc, &came?, recorder.calls().as_slice())?)
+}
+
+fn told_of(alloc: Global, served: &Served, calls: &[Captured]) -> Result<Bytes, Memory> {
     let mut came = List::new(alloc);
-    came.append(end_text(end))?;
-    shown::append_bytes(alloc, output.held().as_slice(), &mut came)?;
-    shown::append_calls(alloc, recorder.into_inner().calls().as_slice(), &mut came)?;
-    shown::append_turned(alloc, turned.as_slice(), &mut came)?;
+    came.append(end_text(served.end))?;
+    shown::append_bytes(alloc, served.output.held().as_slice(), &mut came)?;
+    shown::append_calls(alloc, calls, &mut came)?;
+    shown::append_turned(alloc, served.turned.as_slice(), &mut came)?;
     Ok(came)
 }
 

@@ -2,6 +2,7 @@
 
 use desk_files::{Door, MemConn, MemConns, MemFiles, MemHost, MemSink};
 use desk_values::{Bytes, List, Memory, ReadErr, Stamps, Txt};
+use remote_link::{MemDial, MemScripts};
 use replay_cli::replay_main;
 use run_register::{KeptList, MemKeeper};
 use std::alloc::Global;
@@ -103,6 +104,7 @@ pub fn ran<R: Clock + Wait + Threads + Sync, D: Door>(
     let mut out = MemSink::new(alloc, LINE_ROOM, Stamps::new(alloc))?;
     let mut host = MemHost::new(alloc, conns, Stamps::new(alloc))?;
     let mut keeper = MemKeeper::new(alloc, KeptList::new(alloc), Stamps::new(alloc));
+    let mut dial = MemDial::new(alloc, MemScripts::new(alloc), Stamps::new(alloc));
     let status = replay_main(
         rt,
         alloc,
@@ -111,6 +113,7 @@ pub fn ran<R: Clock + Wait + Threads + Sync, D: Door>(
         &mut host,
         door,
         &mut keeper,
+        &mut dial,
         &mut out,
     );
     let line = str::from_utf8(out.held().as_slice())?.trim_end();

@@ -1,7 +1,7 @@
 //! Lanes at doors of their own. Each run has two sessions whose calls come in pairs, and a door that holds each call of a pair until
 //! the other one comes: a run that takes one call after the other, in whatever order, does not get past it. Then a door that
-//! keeps the pauses that it is told, and a lane at a desk that is stopped. And two connections to a server, of which the first is held until
-//! the second comes too.
+//! keeps the pauses that it is told, also of one lane that serves one session after the other, and a lane at a desk that is stopped. And two
+//! connections to a server, of which the first is held until the second comes too.
 //!
 //! Enters: nothing. Leaves: lines, the same whatever the schedule: the status and the line of each run, and what its door saw. It touches
 //! the standard output, threads and the clock alone.
@@ -11,7 +11,7 @@ mod captures;
 mod doors;
 mod stopped;
 
-use captures::{PAIRS, PAUSED, files_of, guests, ran};
+use captures::{Named, PAIRS, PAUSED, files_of, guests, ran};
 use desk_files::{MemDoor, MemFiles};
 use doors::{FirstDoor, PairDoor};
 use std::alloc::Global;
@@ -26,11 +26,23 @@ fn main(rt: HostRuntime) -> Result<(), anyhow::Error> {
     pairs(&rt, alloc, "run cap out --mode object")?;
     pairs(&rt, alloc, "run cap out --mode fence")?;
     pairs(&rt, alloc, "run cap out --mode off --lanes 2")?;
-    pauses(&rt, alloc, "run cap out --mode off --think 33 --connect 0")?;
-    pauses(
+    passes(
+        &rt,
+        alloc,
+        "run cap out --mode off --think 33 --connect 0",
+        &PAUSED,
+    )?;
+    passes(
         &rt,
         alloc,
         "run cap out --mode off --think 33 --connect 0 --lanes 64",
+        &PAUSED,
+    )?;
+    passes(
+        &rt,
+        alloc,
+        "run cap out --mode off --connect 0 --lanes 1",
+        &PAIRS,
     )?;
     served(&rt, alloc)?;
     let events = stopped::events(&rt, alloc)?;
@@ -66,13 +78,14 @@ fn served<R: Clock + Wait + Threads + Sync + Print>(
     Ok(())
 }
 
-// One session with times between its calls.
-fn pauses<R: Clock + Wait + Threads + Sync + Print>(
+// A run at a door that keeps what passes it.
+fn passes<R: Clock + Wait + Threads + Sync + Print>(
     rt: &R,
     alloc: Global,
     words: &str,
+    named: &[Named],
 ) -> Result<(), anyhow::Error> {
-    let mut files = files_of(alloc, &PAUSED)?;
+    let mut files = files_of(alloc, named)?;
     let door = MemDoor::new(alloc);
     let said = ran(rt, alloc, words, &mut files, guests(alloc, 0)?, &door)?;
     println!(rt; "{words}: {said}")?;

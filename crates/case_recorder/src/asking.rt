@@ -1,5 +1,6 @@
 //! What is done with what is recorded and asked of it, and the text of each answer.
 
+use crate::fields::two;
 use crate::shown;
 use crate::tape::Tape;
 use anyhow::anyhow;
@@ -35,7 +36,7 @@ fn numbers(alloc: Global, calls: &[Captured]) -> Result<String, anyhow::Error> {
 
 // What a word and what stands behind it is answered.
 fn done(alloc: Global, tape: &mut Tape, line: &str) -> Result<String, anyhow::Error> {
-    let (word, rest) = line.split_once(' ').ok_or(anyhow!("no word"))?;
+    let (word, rest) = two(line, "no word")?;
     match word {
         "close" => closed(alloc, tape, rest),
         "fill" => filled(alloc, tape, rest.parse()?),
@@ -50,8 +51,8 @@ fn called(
     session: u32,
     text: &str,
 ) -> Result<String, anyhow::Error> {
-    let (began, text) = text.split_once(' ').ok_or(anyhow!("no moment"))?;
-    let (ended, text) = text.split_once(' ').ok_or(anyhow!("no moment"))?;
+    let (began, text) = two(text, "no moment")?;
+    let (ended, text) = two(text, "no moment")?;
     let call = call_of(alloc, text)?;
     recorded(alloc, tape, session, &call, (began, ended))
 }
@@ -73,7 +74,7 @@ fn recorded(
 }
 
 fn closed(alloc: Global, tape: &mut Tape, text: &str) -> Result<String, anyhow::Error> {
-    let (session, at) = text.split_once(' ').ok_or(anyhow!("no moment"))?;
+    let (session, at) = two(text, "no moment")?;
     let session: u32 = session.parse()?;
     if session >= 64 {
         return Err(anyhow!("no such session"));

@@ -1,13 +1,16 @@
 //! The doors of four sessions to one recorder.
 
+use crate::fields::two;
 use crate::shown;
 use crate::together::gathered;
 use anyhow::anyhow;
-use capture_recorder::{CallDoor, CallErr, LockedDoor, Recorder, SaidLists, TurnedLists};
+use capture_recorder::{
+    CallDoor, CallErr, LockedDoor, Recorder, SaidList, SaidLists, TurnedList, TurnedLists,
+};
 use case_text::call_of;
 use desk_files::{Door, MemDoor};
 use desk_schema::Start;
-use desk_values::{Binds, Call, List, Reply, Txt};
+use desk_values::{Binds, Call, List, Memory, Reply, Txt};
 use std::alloc::Global;
 use std::sync::{Mutex, Wait};
 use std::time::Clock;
@@ -47,6 +50,7 @@ pub fn played<R: Clock + Wait>(
     }
 }
 
+// The recorder is let go at one place.
 fn played_by<R: Clock + Wait, D: Door>(
     rt: &R,
     alloc: Global,
@@ -55,14 +59,66 @@ fn played_by<R: Clock + Wait, D: Door>(
     clock: &D,
 ) -> Result<String, anyhow::Error> {
     let recorder = Mutex::new(Recorder::load(alloc, start)?);
-    let mut doors = doors_of(alloc, &recorder, clock)?;
+    let said = said_by(rt, alloc, &recorder, script, clock);
+    with_files(alloc, said, &recorder.into_inner(), script)
+}
+
+// The answers to the lines of a script, and the lists of the doors behind them.
+#[derive(Drop)]
+struct Answers {
+    text: String,
+    said: SaidLists,
+    turned: TurnedLists,
+}
+
+fn said_by<R: Clock + Wait, D: Door>(
+    rt: &R,
+    alloc: Global,
+    recorder: &Mutex<Recorder>,
+    script: &[String],
+    clock: &D,
+) -> Result<Answers, anyhow::Error> {
+    let mut doors = doors_of(alloc, recorder, clock)?;
+    let text = answer_all(rt, alloc, doors.as_mut_slice(), script);
+    answers_of(text, lists_of(alloc, doors))
+}
+
+fn answer_all<R: Clock + Wait, D: Door>(
+    rt: &R,
+    alloc: Global,
+    doors: &mut [LockedDoor<'_, D>],
+    script: &[String],
+) -> Result<String, anyhow::Error> {
     let mut text = String::new(alloc);
     for line in script {
-        text.push_str(answer(rt, alloc, &mut doors, line.as_str())?.as_str())?;
+        text.push_str(answer(rt, alloc, doors, line.as_str())?.as_str())?;
     }
-    let (said, turned) = lists_of(alloc, doors)?;
-    let recorder = recorder.into_inner();
-    text.push_str(gathered(alloc, &recorder, script, said, turned)?.as_str())?;
+    Ok(text)
+}
+
+fn answers_of(
+    text: Result<String, anyhow::Error>,
+    lists: Result<(SaidLists, TurnedLists), Memory>,
+) -> Result<Answers, anyhow::Error> {
+    let text = text?;
+    let (said, turned) = lists?;
+    Ok(Answers { text, said, turned })
+}
+
+// The answers, and what the recorder and the doors have put together.
+fn with_files(
+    alloc: Global,
+    said: Result<Answers, anyhow::Error>,
+    recorder: &Recorder,
+    script: &[String],
+) -> Result<String, anyhow::Error> {
+    let Answers {
+        mut text,
+        said,
+        turned,
+    } = said?;
+    let files = gathered(alloc, recorder, script, said, turned)?;
+    text.push_str(files.as_str())?;
     Ok(text)
 }
 
@@ -81,15 +137,20 @@ fn doors_of<'a, D: Door>(
 fn lists_of<D: Door>(
     alloc: Global,
     doors: Vec<LockedDoor<'_, D>>,
-) -> Result<(SaidLists, TurnedLists), anyhow::Error> {
-    let mut lists = List::new(alloc);
-    let mut refusals = List::new(alloc);
+) -> Result<(SaidLists, TurnedLists), Memory> {
+    let mut lists = (List::new(alloc), List::new(alloc));
     for door in doors {
-        let (said, turned) = door.into_lists();
-        lists.push(said)?;
-        refusals.push(turned)?;
+        keep(door.into_lists(), &mut lists)?;
     }
-    Ok((lists, refusals))
+    Ok(lists)
+}
+
+fn keep(
+    (said, turned): (SaidList, TurnedList),
+    lists: &mut (SaidLists, TurnedLists),
+) -> Result<(), Memory> {
+    lists.0.push(said)?;
+    lists.1.push(turned)
 }
 
 // What a line asks of a door, with its answer and a line feed. What is told of the lists is for later.
@@ -99,7 +160,7 @@ fn answer<R: Clock + Wait, D: Door>(
     doors: &mut [LockedDoor<'_, D>],
     line: &str,
 ) -> Result<String, anyhow::Error> {
-    let (word, rest) = line.split_once(' ').ok_or(anyhow!("no word"))?;
+    let (word, rest) = two(line, "no word")?;
     let answer = match word {
         "said" | "turned" => return Ok(String::new(alloc)),
         "close" => closed(rt, alloc, doors, rest.parse()?)?,

@@ -21,6 +21,7 @@
 
 mod asking;
 mod doors;
+mod fields;
 mod shown;
 mod stage;
 mod tape;

@@ -1,9 +1,12 @@
 //! What a recorder and the doors to it have put together.
 
+use crate::fields::two;
 use crate::shown;
 use anyhow::anyhow;
 use capture_format::write_session;
-use capture_recorder::{GatherErr, Recorder, Said, SaidLists, Turned, TurnedLists, gather};
+use capture_recorder::{
+    GatherErr, Recorder, Said, SaidList, SaidLists, Turned, TurnedList, TurnedLists, gather,
+};
 use case_text::call_of;
 use desk_values::{CallList, List, Outcome, Reply, SessionLists, same_items};
 use std::alloc::Global;
@@ -19,7 +22,16 @@ pub fn gathered(
 ) -> Result<String, anyhow::Error> {
     let said = with_said(alloc, script, said)?;
     let turned = with_turned(alloc, script, turned)?;
-    match gather(alloc, recorder.start(), recorder, &said, &turned) {
+    agreed(alloc, recorder, &said, &turned)
+}
+
+fn agreed(
+    alloc: Global,
+    recorder: &Recorder,
+    said: &SaidLists,
+    turned: &TurnedLists,
+) -> Result<String, anyhow::Error> {
+    match gather(alloc, recorder.start(), recorder, said, turned) {
         Ok(sessions) => files_of(alloc, recorder, &sessions),
         Err(refusal) => difference(alloc, &refusal),
     }
@@ -33,16 +45,21 @@ fn with_said(
     let mut lists = said.into_vec();
     for line in script {
         if let Some(rest) = line.as_str().strip_prefix("said ") {
-            let (session, call) = rest.split_once(' ').ok_or(anyhow!("no session"))?;
-            let place: usize = session.parse()?;
-            let list = lists.get_mut(place).ok_or(anyhow!("no such session"))?;
-            list.push(Said {
-                call: call_of(alloc, call)?,
-                reply: disconnected(alloc),
-            })?;
+            add_said(alloc, rest, lists.as_mut_slice())?;
         }
     }
     Ok(List::from_vec(lists))
+}
+
+fn add_said(alloc: Global, text: &str, lists: &mut [SaidList]) -> Result<(), anyhow::Error> {
+    let (session, call) = two(text, "no session")?;
+    let place: usize = session.parse()?;
+    let list = lists.get_mut(place).ok_or(anyhow!("no such session"))?;
+    list.push(Said {
+        call: call_of(alloc, call)?,
+        reply: disconnected(alloc),
+    })?;
+    Ok(())
 }
 
 fn disconnected(alloc: Global) -> Reply {
@@ -61,20 +78,25 @@ fn with_turned(
     let mut lists = turned.into_vec();
     for line in script {
         if let Some(rest) = line.as_str().strip_prefix("turned ") {
-            let (session, entry) = rest.split_once(' ').ok_or(anyhow!("no session"))?;
-            let place: usize = session.parse()?;
-            let list = lists.get_mut(place).ok_or(anyhow!("no such session"))?;
-            list.push(entry_of(alloc, entry)?)?;
+            add_turned(alloc, rest, lists.as_mut_slice())?;
         }
     }
     Ok(List::from_vec(lists))
 }
 
+fn add_turned(alloc: Global, text: &str, lists: &mut [TurnedList]) -> Result<(), anyhow::Error> {
+    let (session, entry) = two(text, "no session")?;
+    let place: usize = session.parse()?;
+    let list = lists.get_mut(place).ok_or(anyhow!("no such session"))?;
+    list.push(entry_of(alloc, entry)?)?;
+    Ok(())
+}
+
 // An entry: PLACE HELD, `full` or `stranger`, and the call.
 fn entry_of(alloc: Global, text: &str) -> Result<Turned, anyhow::Error> {
-    let (place, text) = text.split_once(' ').ok_or(anyhow!("no place"))?;
-    let (held, text) = text.split_once(' ').ok_or(anyhow!("no number"))?;
-    let (cause, call) = text.split_once(' ').ok_or(anyhow!("no cause"))?;
+    let (place, text) = two(text, "no place")?;
+    let (held, text) = two(text, "no number")?;
+    let (cause, call) = two(text, "no cause")?;
     Ok(Turned {
         place: place.parse()?,
         held: held.parse()?,

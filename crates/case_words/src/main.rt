@@ -120,6 +120,9 @@ fn run_shown(
     if let Some(lanes) = ways.lanes {
         write!(line, " lanes {lanes}")?;
     }
+    if let Some(target) = ways.target {
+        write!(line, " target {target}")?;
+    }
     Ok(line)
 }
 

@@ -1,6 +1,6 @@
 -- A command is within its limits.
-use Rattle.std.proofs.Common.{◌≡◌, ◌≢◌, ℕ, Bool, true, false, List, length, Option, Some, None, IfSome, refl, leb-true}
-use Rattle.std.specs.Prelude.{◌&&◌, codes, if◌then◌else◌, nat_le, option_map}
+use Rattle.std.proofs.Common.{◌≡◌, ◌≢◌, ℕ, Bool, true, false, List, length, Option, Some, None, IfSome, refl, sym, ap, ◌∙◌, leb-true}
+use Rattle.std.specs.Prelude.{◌&&◌, codes, if◌then◌else◌, is_some, nat_le, option_map}
 use Rattle.std.specs.Option.{option_map_or}
 use Rattle.std.specs.Str.{bytes_eq}
 use Rattle.clap.specs.Words.{Row, Text, first_of, subcommand_of}
@@ -10,10 +10,11 @@ use Rattle.desk_values.specs.Word.{member_with_word}
 use Rattle.replay_history.specs.Class.{all_classes, class_word}
 use Rattle.replay_history.specs.declared.report.Class.{Class}
 use Rattle.replay_history.specs.declared.report.Class.TheVariants.{Same}
-use Rattle.desk_words.specs.Command.{accept_in, between, chosen, class_in, command_in, command_of, compare_in, differing, generate_in, is_run_name, is_taken, maybe, number_in, path_in, percent_in, placed, prepare_in, register_in, run_in, run_name_in, serve_in, trial_in, ways_in}
+use Rattle.desk_words.specs.Command.{accept_in, between, chosen, class_in, command_in, command_of, compare_in, differing, fitting, generate_in, is_run_name, is_taken, maybe, number_in, path_in, percent_in, placed, prepare_in, register_in, run_in, run_name_in, serve_in, trial_in, ways_in}
 use Rattle.desk_words.specs.Desk.{desk}
 use Rattle.desk_words.specs.Limits.{connection_limit, default_port, generated_limit, lane_limit, path_limit, port_limit, run_limit, whole}
-use Rattle.desk_words.specs.Within.{HasWays, IsBetween, IsCallCount, IsLaneCount, IsPath, IsRunName, IsWithinLimits}
+use Rattle.desk_words.specs.Within.{HasWays, IsBetween, IsCallCount, IsLaneCount, IsPath, IsPort, IsRunName, IsWithinLimits}
+use Rattle.desk_words.specs.declared.ways.Ways.{Ways}
 use Rattle.desk_words.specs.declared.words.Command.TheVariants.{Trial}
 
 -- ---- what is found by steps
@@ -85,6 +86,14 @@ path_placed name values = placed_holds IsPath name path_in values path_holds
 percent_chosen : (name : Text) (values : List Row) → IfSome (chosen name percent_in whole values) (IsBetween 0 percent_limit)
 percent_chosen name values = chosen_holds (IsBetween 0 percent_limit) name percent_in whole values (number_holds 0 percent_limit) (leb-true 0 whole refl, leb-true whole percent_limit refl)
 
+-- ways that fit: a target or a change file, or none of them
+fits : (ways : Ways) → ((is_some ways.change ≡ true → ways.target ≡ None) → HasWays ways) → IfSome (fitting ways) HasWays
+fits ways holds = by_both ways.change ways.target refl refl where
+  by_both : (change : Option Text) (target : Option ℕ) → ways.change ≡ change → ways.target ≡ target → IfSome (if is_some change && is_some target then None else Some ways) HasWays
+  by_both None target none also = holds (λ is. absurd (let never = ap is_some (sym none) ∙ is in cc))
+  by_both (Some path) None is none = holds (λ has. none)
+  by_both (Some path) (Some port) is also = tt
+
 ways_hold : (values : List Row) → IfSome (ways_in values) HasWays
 ways_hold values =
     always HasWays _ _ (λ mode. leads (IsBetween 0 percent_limit) HasWays _ _ (percent_chosen (codes "think") values)
@@ -92,7 +101,9 @@ ways_hold values =
     (λ connect few. leads (λ x. IfSome x IsPath) HasWays _ _ (maybe_holds IsPath (codes "remap") path_in values path_holds)
     (λ remap path. leads (λ x. IfSome x IsPath) HasWays _ _ (maybe_holds IsPath (codes "change") path_in values path_holds)
     (λ change other. leads (λ x. IfSome x IsLaneCount) HasWays _ _ (maybe_holds IsLaneCount (codes "lanes") (number_in 1 lane_limit) values (number_holds 1 lane_limit))
-    (λ lanes count. record { think = low.1; connect = few.1; remap = path; change = other; lanes = count }))))))
+    (λ lanes count. leads (λ x. IfSome x IsPort) HasWays _ _ (maybe_holds IsPort (codes "target") (number_in 1 port_limit) values (number_holds 1 port_limit))
+    (λ target port. fits (record { mode = mode; think = think; connect = connect; remap = remap; change = change; lanes = lanes; target = target })
+    (λ alone. record { think = low.1; connect = few.1; remap = path; change = other; lanes = count; target = port; alone = alone }))))))))
 
 run_holds : (values : List Row) → IfSome (run_in values) IsWithinLimits
 run_holds values =

@@ -1,5 +1,5 @@
 -- Which words are a command, and which command.
-use Rattle.std.specs.Prelude.{ℕ, ◌&&◌, ◌||◌, ◌==◌, nat_le, Bool, false, if◌then◌else◌, List, [], ◌∷◌, length, codes, Option, None, Some, option_map}
+use Rattle.std.specs.Prelude.{ℕ, ◌&&◌, ◌||◌, ◌==◌, nat_le, Bool, false, if◌then◌else◌, List, [], ◌∷◌, length, codes, Option, None, Some, is_some, option_map}
 use Rattle.std.specs.List.{list_all}
 use Rattle.std.specs.Option.{option_map_or}
 use Rattle.std.specs.Str.{bytes_eq}
@@ -79,6 +79,10 @@ maybe name good values = chosen name (λ text. option_map Some (good text)) None
 
 -- ---- what they make
 
+-- the server of a target has the start that it has: a change file can't be said of it
+abbrev pub fitting : Ways → Option Ways
+fitting ways = if is_some ways.change && is_some ways.target then None else Some ways
+
 abbrev pub ways_in : List Row → Option Ways
 ways_in values = do
   mode ← chosen (codes "mode") mode_of Order values
@@ -87,7 +91,8 @@ ways_in values = do
   remap ← maybe (codes "remap") path_in values
   change ← maybe (codes "change") path_in values
   lanes ← maybe (codes "lanes") (number_in 1 lane_limit) values
-  Some (record { mode = mode; think = think; connect = connect; remap = remap; change = change; lanes = lanes })
+  target ← maybe (codes "target") (number_in 1 port_limit) values
+  fitting (record { mode = mode; think = think; connect = connect; remap = remap; change = change; lanes = lanes; target = target })
 
 abbrev pub run_in : List Row → Option Command
 run_in values = do

@@ -20,7 +20,7 @@ form_of name places options = record (new_shape name) { rules = map place places
 
 abbrev pub all_forms : List Shape
 all_forms =
-    form_of (codes "run") (codes "capture" ∷ codes "out" ∷ []) (codes "mode" ∷ codes "think" ∷ codes "connect" ∷ codes "remap" ∷ codes "change" ∷ codes "lanes" ∷ [])
+    form_of (codes "run") (codes "capture" ∷ codes "out" ∷ []) (codes "mode" ∷ codes "think" ∷ codes "connect" ∷ codes "remap" ∷ codes "change" ∷ codes "lanes" ∷ codes "target" ∷ [])
     ∷ form_of (codes "prepare") (codes "capture" ∷ codes "out" ∷ []) []
     ∷ form_of (codes "serve") (codes "capture" ∷ codes "start" ∷ codes "connections" ∷ []) (codes "port" ∷ [])
     ∷ form_of (codes "generate") (codes "calls" ∷ codes "out" ∷ []) []

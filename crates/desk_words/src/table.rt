@@ -18,7 +18,9 @@ static FORMS: [Form; 9] = [
     Form {
         name: "run",
         places: &["capture", "out"],
-        options: &["mode", "think", "connect", "remap", "change", "lanes"],
+        options: &[
+            "mode", "think", "connect", "remap", "change", "lanes", "target",
+        ],
     },
     Form {
         name: "prepare",

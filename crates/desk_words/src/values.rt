@@ -196,3 +196,13 @@ pub(crate) fn port_of(values: &ArgMatches<'_>) -> Option<u16>
         None => Some(DEFAULT_PORT),
     }
 }
+
+/// The port of a target that is said, if one is.
+pub(crate) fn target_of(values: &ArgMatches<'_>) -> Option<Option<u16>>
+    ensures { result ≡ maybe (codes "target") (number_in 1 port_limit) (values_in values.now) }
+{
+    match value_of(values, "target") {
+        Some(text) => Some(Some(number_in(1, PORT_LIMIT, text)? as u16)),
+        None => Some(None),
+    }
+}

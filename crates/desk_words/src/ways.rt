@@ -5,7 +5,7 @@ ghost use Rattle.desk_values.specs.Reading.{Reads};
 ghost use Rattle.desk_words.specs.Command.{ways_in};
 ghost use Rattle.desk_words.specs.Inside.Finding.{values_in};
 
-use crate::values::{file_of, lanes_of, mode_of, percent_of};
+use crate::values::{file_of, lanes_of, mode_of, percent_of, target_of};
 use clap::ArgMatches;
 use desk_values::{ReadErr, Txt};
 use replay_history::Mode;
@@ -26,6 +26,8 @@ pub struct Ways {
     pub change: Option<Txt>,
     /// How many lanes serve the sessions, if that is said: 1 to 64.
     pub lanes: Option<u32>,
+    /// The port of the server that the calls are sent to, if one is said: from 1 on. There is no change file then.
+    pub target: Option<u16>,
 }
 
 /// How a run goes by the values behind `run`.
@@ -38,6 +40,10 @@ pub(crate) fn ways_in(alloc: Global, values: &ArgMatches<'_>) -> Result<Ways, Re
     let remap = file_of(alloc, values, "remap")?;
     let change = file_of(alloc, values, "change")?;
     let lanes = lanes_of(values).ok_or(ReadErr::Bad)?;
+    let target = target_of(values).ok_or(ReadErr::Bad)?;
+    if change.is_some() && target.is_some() {
+        return Err(ReadErr::Bad);
+    }
     Ok(Ways {
         mode,
         think,
@@ -45,5 +51,6 @@ pub(crate) fn ways_in(alloc: Global, values: &ArgMatches<'_>) -> Result<Ways, Re
         remap,
         change,
         lanes,
+        target,
     })
 }

@@ -3,6 +3,7 @@ pub mod Behind
 pub mod Complete
 pub mod Ends
 pub mod Good
+pub mod Sent
 pub mod Served
 pub mod Sizes
 pub mod Small

@@ -1,16 +1,18 @@
 //! Laws of what the words and the files come to.
 
-ghost use Rattle.law_commands.specs.Commands.Complete.{CapturesAreMade, CapturesArePrepared, CapturesAreReplayed, CapturesAreTried, DivergencesAreAccepted, ErrandsEndSo, LegalCapturesArePrepared, LegalCapturesAreReplayed, RegistersStayGood, ReportsAreRegistered, RunsAreCompared, RunsAreListed, StartsAreServed};
-ghost use Rattle.law_commands.specs.Commands.Ends.{JournalsTellTheirHistory, OneIsTold, PlansTellTheirHistory, QuietRunsCarryTables, ReadsMeetTheirCommits, RunsAgainAreQuiet, TablesAreCarried, ToldIsQuiet};
-ghost use Rattle.law_commands.specs.Commands.Reports.{ReportsAreSmall, ReportsAreWhole, RunsAreRegistered, WrittenReportsAreRegistered};
+ghost use Rattle.law_commands.specs.Commands.Complete.{CapturesAreMade, CapturesArePrepared, CapturesAreReplayed, CapturesAreTried, DivergencesAreAccepted, ErrandsEndSo, LegalCapturesArePrepared, LegalCapturesAreReplayed, RegistersStayGood, ReportsAreRegistered, RunsAreCompared, RunsAreListed, SentRunsEndSo, StartsAreServed};
+ghost use Rattle.law_commands.specs.Commands.Ends.{JournalsTellTheirHistory, OneIsTold, PlansTellTheirHistory, QuietRunsCarryTables, ReadsMeetTheirCommits, RunsAgainAreQuiet, SentJournalsTellTheirHistory, SentPlansTellTheirHistory, TablesAreCarried, ToldIsQuiet};
+ghost use Rattle.law_commands.specs.Commands.Reports.{ReportsAreSmall, ReportsAreWhole, RunsAreRegistered, SentReportsAreRegistered, WrittenReportsAreRegistered};
 ghost use Rattle.law_commands.specs.Commands.Served.{ServedCapturesAreLegal, ServedCapturesAreNotBad, ServedCapturesAreNotBadToPrepare, ServedCapturesArePrepared, ServedCapturesAreReplayed};
 
 use divergence_cause::laws::{one_list_of_causes, unchanged_servers_upgrade_nothing};
 use fence_law::laws::{one_list_of_plain_reads, plain_reads_are_same};
 
-/// Completeness of `run`: where the words are its command, the files of the capture are there, each within the limit of one
-/// file and all within that of a capture, the remap file says services and the change file makes a target, each where one is named, and the calls are accepted, the calls are to be replayed. By the clause `each` of
-/// `replay_main` the command then ends with its work done, or by a fault or want of memory.
+/// Completeness of `run`: where the words are its command, the files of the capture are there, each within the limit of one file
+/// and all within that of a capture, the remap file says services and the change file makes a target, each where one is named, and
+/// the calls are accepted, the calls are to be replayed: on the desk's own server, or against the one at the port that is named. By
+/// the clause `each` of `replay_main` the command then ends with its work done, or by a fault or want of memory; against another
+/// server by a failure of the link too, or by a difference that this program alone can bring about.
 pub fn captures_are_replayed()
     ensures { CapturesAreReplayed }
 {}
@@ -18,6 +20,12 @@ pub fn captures_are_replayed()
 /// The same of `prepare`.
 pub fn captures_are_prepared()
     ensures { CapturesArePrepared }
+{}
+
+/// How a replay against another server ends, whatever the capture is: where no device failed and the
+/// dial counts no fault, by 0, 1, 6 or 9.
+pub fn sent_runs_end_so()
+    ensures { SentRunsEndSo }
 {}
 
 /// And in the words of a legal capture alone: where some order of the calls is one, they are replayed, by stamp.
@@ -59,19 +67,23 @@ pub fn registers_stay_good()
 {}
 
 /// What `run` writes as its report is the text of a report, with its counts those of its lines, within the limit of a file: so
-/// `register` takes it, behind the run and wherever it is put, and never tells it as a bad report or as too long.
+/// `register` takes it, behind the run and wherever it is put, and never tells it as a bad report or as too long. Behind a run with a
+/// target it takes it too.
 pub fn reports_of_runs_are_registered()
     ensures small { ReportsAreSmall }
     ensures whole { ReportsAreWhole }
     ensures registered { WrittenReportsAreRegistered }
     ensures behind { RunsAreRegistered }
+    ensures sent { SentReportsAreRegistered }
 {}
 
-/// The journal that is written tells one history: the one that the replay had, that is reported on and that the other files are of. Of
-/// a history there is one list of plain reads and one of causes to tell.
+/// The journal that is written tells one history: the one that the replay had, that is reported on and that the other files are of; and
+/// so with a target. Of a history there is one list of plain reads and one of causes to tell.
 pub fn journals_tell_their_history()
     ensures journal { JournalsTellTheirHistory }
+    ensures sent { SentJournalsTellTheirHistory }
     ensures plan { PlansTellTheirHistory }
+    ensures sent_plan { SentPlansTellTheirHistory }
     ensures told { OneIsTold }
 {
     one_list_of_plain_reads();

@@ -8,7 +8,7 @@ use Rattle.desk_values.specs.declared.value.Image.{Image}
 use Rattle.machine_model.specs.Rows.{IsRising, RisesFrom, is_there, lay, lay_all, of_table, placed, shown}
 use Rattle.machine_model.proofs.Laying.{rising_lay, rising_shown}
 use Rattle.machine_model.proofs.Looks.{filtered_from}
-use Rattle.machine_model.proofs.Stocking.{of_other, of_same}
+use Rattle.machine_model.proofs.Noting.{of_other, of_same}
 use Rattle.law_keys.proofs.Members.{In}
 use Rattle.law_keys.proofs.Rows.{in_laid, in_placed, in_shown}
 

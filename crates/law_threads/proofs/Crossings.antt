@@ -28,7 +28,9 @@ use Rattle.statement_cache.specs.contracts.statements.Statements as Statements
 use Rattle.machine_model.specs.contracts.index.KeyIndex as KeyIndex
 use Rattle.machine_model.specs.contracts.machine.PlainMachine as PlainMachine
 use Rattle.machine_model.specs.contracts.rows.Rows as Rows
-use Rattle.machine_model.specs.contracts.rows.TableRows as TableRows
+use Rattle.row_versions.specs.contracts.versions.Versions as Versions
+use Rattle.hold_index.specs.contracts.index.HoldIndex as HoldIndex
+use Rattle.hold_index.specs.contracts.numbers.Numbers as Numbers
 use Rattle.machine_model.specs.contracts.session.Session as Session
 use Rattle.txn_engine.specs.contracts.Engine as Engine
 use Rattle.sql_tree.specs.declared.tree.Expr.TheBlock.{the_members, member-Expr}
@@ -117,17 +119,23 @@ start_send = search (image_send, values_send, crosses, sendable) depth 60 fits 1
 rows_send : IsSend Rows.the_field.row
 rows_send = search (image_send, crosses, sendable) depth 30
 
-table_send : IsSend TableRows.the_field.row
-table_send = search (image_send, crosses, sendable) depth 30
+versions_send : IsSend Versions.the_field.row
+versions_send = search (image_send, maps, crosses, sendable) depth 40 fits 100000
 
 index_send : IsSend KeyIndex.the_field.row
 index_send = search (maps, crosses, sendable) depth 30
+
+numbers_send : IsSend Numbers.the_field.row
+numbers_send = search (maps, crosses, sendable) depth 30
+
+holds_send : IsSend HoldIndex.the_field.row
+holds_send = search (numbers_send, crosses, sendable) depth 30
 
 session_send : IsSend Session.the_field.row
 session_send = search (rows_send, value_send, crosses, sendable) depth 60 fits 100000
 
 machine_send : IsSend PlainMachine.the_field.row
-machine_send = search (start_send, rows_send, table_send, index_send, session_send, statements_send, values_send, value_send, crosses, sendable) depth 40
+machine_send = search (start_send, rows_send, versions_send, index_send, session_send, holds_send, statements_send, values_send, value_send, crosses, sendable) depth 40
 
 pub engine_send : IsSend Engine.the_field.row
 engine_send = search (machine_send, crosses, sendable) depth 20

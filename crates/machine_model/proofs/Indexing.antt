@@ -1,20 +1,14 @@
--- Rows that are found by their numbers and by their keys.
-use Rattle.std.proofs.Common.{◌≡◌, ◌≢◌, ℕ, zero, suc, ◌+◌, ◌<◌, ◌≤◌, true, false, ◌||◌, ltb, eqb, if◌then◌else◌, List, [], ◌∷◌, length, map, get_or, set, Option, None, Some, refl, sym, ap, subst, ◌∙◌, get_or-set_same, get_or-set_other, length-set, zero-add, arith}
+-- Rows that are found by their numbers.
+use Rattle.std.proofs.Common.{◌≡◌, ◌≢◌, ℕ, suc, ◌+◌, ◌<◌, ◌≤◌, true, false, ◌||◌, ltb, eqb, if◌then◌else◌, List, [], ◌∷◌, length, get_or, None, Some, refl, sym, ap, ◌∙◌, arith}
 use Rattle.std.specs.Prelude.{nat_eq}
 use Rattle.std.specs.List.{AllByRecursion, list_any}
 use Rattle.std.proofs.lemmas.Bool.{ltb-true, eqb-true, eq-eqb, ne_eqb}
 use Rattle.std.proofs.lemmas.Bool.Decides.{nat_tests}
-use Rattle.std.proofs.lemmas.List.{get_or_default}
 use Rattle.desk_values.specs.declared.value.Image.{Image}
-use Rattle.machine_model.specs.declared.index.KeyIndex.{KeyIndex}
-use Rattle.machine_model.specs.Rows.{IsRising, RisesFrom, lay, lay_all, of_table, placed, shown, is_there}
-use Rattle.machine_model.specs.declared.session.Session.{Session}
-use Rattle.machine_model.specs.View.{commits_seen, rows_seen}
+use Rattle.machine_model.specs.Rows.{IsRising, RisesFrom, lay, placed, shown, is_there}
 use Rattle.machine_model.specs.Writes.{is_among}
-use Rattle.machine_model.specs.Inside.Rows.{lay_tables, place, row_at}
-use Rattle.machine_model.specs.Inside.Index.{AreIndexes, FindsRows, HasRows, row_under}
+use Rattle.machine_model.specs.Inside.Rows.{place, row_at}
 use Rattle.machine_model.proofs.Members.{each_at}
-use Rattle.machine_model.proofs.Stocking.{of_other, of_same}
 
 -- ---- the row of a number
 
@@ -87,62 +81,3 @@ row_laid row xs (c ∷ cs) none = elim (eqb c.row row) as (λ b. eqb c.row row �
   | true ↦ λ same any. absurd (cc)
   | false ↦ λ apart any. row_laid row (placed shown c xs) cs any ∙ row_beside row c xs (λ e. let both : eqb c.row row ≡ true = eq-eqb c.row row e in cc)
 ] refl none
-
--- ---- indexes
-
-lay_tables_at : (t : ℕ) (tables : List (List Image)) (cs : List Image) (k : ℕ) (r : List Image) → k < length tables → get_or (lay_tables t tables cs) k r ≡ lay (get_or tables k r) (of_table (t + k) cs)
-lay_tables_at t [] cs k r within = absurd (omega arith)
-lay_tables_at t (rows ∷ others) cs zero r within = let same : t ≡ t + zero = omega arith in ap (λ n. lay rows (of_table n cs)) same
-lay_tables_at t (rows ∷ others) cs (suc k) r within = let along : t + 1 + k ≡ t + suc k = omega arith in lay_tables_at (t + 1) others cs k r (omega arith) ∙ ap (λ n. lay (get_or others k r) (of_table n cs)) along
-
-pub lay_tables_length : (t : ℕ) (tables : List (List Image)) (cs : List Image) → length (lay_tables t tables cs) ≡ length tables
-lay_tables_length t [] cs = refl
-lay_tables_length t (rows ∷ others) cs = ap suc (lay_tables_length (t + 1) others cs)
-
-has_laid : (index : KeyIndex) (rows cs : List Image) → HasRows index rows [] → HasRows index (lay rows cs) cs
-has_laid index rows cs has kept image at apart = has kept image (sym (row_laid image.row rows cs apart) ∙ at) refl
-
--- once changes are laid over the tables, the indexes have all rows but theirs
-pub indexes_laid : (indexes : List KeyIndex) (tables : List (List Image)) (cs : List Image) → AreIndexes indexes tables [] → AreIndexes indexes (lay_tables 0 tables cs) cs
-indexes_laid indexes tables cs are table i r some within =
-    let there : table < length tables = omega (arith, lay_tables_length 0 tables cs) in
-    let rows : get_or (lay_tables 0 tables cs) table r ≡ lay (get_or tables table r) (of_table table cs) = lay_tables_at 0 tables cs table r there ∙ ap (λ n. lay (get_or tables table r) (of_table n cs)) (zero-add table) in
-    subst (λ l. HasRows (get_or indexes table i) l (of_table table cs)) (sym rows) (has_laid (get_or indexes table i) (get_or tables table r) (of_table table cs) (are table i r some there))
-
--- nothing is noted yet
-pub nothing_noted : (index : KeyIndex) (rows : List Image) → HasRows index rows rows
-nothing_noted index rows kept x at none = absurd (let there : is_among rows x ≡ true = found_among rows x at in cc)
-
--- ---- the rows of a commit are noted
-
-module _ (indexes : List KeyIndex) (tables : List (List Image)) (t : ℕ) (old new : KeyIndex) (rows : List Image) (image : Image) (within : t < length indexes) (there : t < length tables)
-    (laid : rows ≡ get_or tables t rows) (is : image.table ≡ t)
-    (notes : (first : Image) (others : List Image) → first.row ≡ image.row → HasRows (get_or indexes t old) rows (first ∷ others) → HasRows new rows others) where
-  note_here : (rest : List Image) → AreIndexes indexes tables (image ∷ rest) → (f : List Image) → HasRows new (get_or tables t f) (of_table t rest)
-  note_here rest are f =
-      let before : HasRows (get_or indexes t old) rows (of_table t (image ∷ rest)) = subst (λ r. HasRows (get_or indexes t old) r (of_table t (image ∷ rest))) (sym laid) (are t old rows within there) in
-      let now : HasRows new rows (of_table t rest) = notes image (of_table t rest) refl (subst (HasRows (get_or indexes t old) rows) (of_same t image rest is) before) in
-      subst (λ r. HasRows new r (of_table t rest)) (laid ∙ get_or_default tables t rows f there) now
-
-  pub note_last : (rest : List Image) → AreIndexes indexes tables (image ∷ rest) → AreIndexes (set indexes t new) tables rest
-  note_last rest are k e f below some =
-      elim (eqb k t) as (λ b. eqb k t ≡ b → HasRows (get_or (set indexes t new) k e) (get_or tables k f) (of_table k rest)) [
-        | true ↦ λ same. rw (eqb-true k t same, get_or-set_same) (note_here rest are f)
-        | false ↦ λ apart.
-            let other : k ≢ t = λ e. (let both : eqb k t ≡ true = eq-eqb k t e in cc) in
-            rw get_or-set_other (subst (HasRows (get_or indexes k e) (get_or tables k f)) (of_other k image rest (λ e. other (sym e ∙ is))) (are k e f (rw length-set at below) some))
-      ] refl
-
--- ---- what an INSERT looks at
-
-pub finds_at : (indexes : List KeyIndex) (tables : List (List Image)) (table : ℕ) (index : KeyIndex) (rows : List Image) → AreIndexes indexes tables [] → table < length indexes → table < length tables
-    → index ≡ get_or indexes table index → rows ≡ get_or tables table rows → index.is_kept ≡ true → FindsRows (row_under index) rows []
-finds_at indexes tables table index rows are within there read laid kept =
-    let first : HasRows (get_or indexes table index) rows [] = subst (λ r. HasRows (get_or indexes table index) r []) (sym laid) (are table index rows within there) in
-    let now : HasRows index rows [] = subst (λ i. HasRows i rows []) (sym read) first in
-    now kept
-
--- where a session reads all commits, it sees the rows after all commits, with its own changes over them
-pub seen_latest : (start : List Image) (commits : List (List Image)) (session : Session) (table : ℕ) (rows changes : List Image) → commits_seen session.snapshot commits ≡ commits
-    → rows ≡ lay_all (of_table table start) (map (of_table table) commits) → changes ≡ session.own.changes → lay rows (of_table table changes) ≡ rows_seen start commits session table
-seen_latest start commits session table rows changes all latest own = rw (latest, own, all) refl

@@ -1,8 +1,12 @@
 -- What the proofs of the crate share.
 pub mod Adding
+pub mod Apart
 pub mod Changing
 pub mod Exact
+pub mod Forgetting
 pub mod Handing
+pub mod Held
+pub mod Holders
 pub mod Keeping
 pub mod Indexing
 pub mod Laying
@@ -10,6 +14,7 @@ pub mod Looks
 pub mod Marks
 pub mod Members
 pub mod Once
+pub mod Noting
 pub mod Numbers
 pub mod Ordering
 pub mod Refusing
@@ -20,7 +25,7 @@ pub mod SoundPlans
 pub mod SoundRows
 pub mod SoundSteps
 pub mod Standing
-pub mod Stocking
+pub mod Storing
 pub mod Telling
 pub mod Texts
 pub mod Twice

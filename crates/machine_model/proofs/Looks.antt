@@ -1,11 +1,10 @@
 -- The steps of a loop that lays changes over rows that it looks at.
-use Rattle.std.proofs.Common.{zero, add-zero, zero-add, Bool, true, false, if◌then◌else◌, ◌≡◌, ℕ, ◌+◌, ◌<◌, List, [], ◌∷◌, ◌++◌, length, map, get_or, drop, refl, sym, ap, subst, suc, ◌∙◌, append_assoc, add-one, drop-cons, arith}
+use Rattle.std.proofs.Common.{Bool, true, false, if◌then◌else◌, ◌≡◌, ℕ, ◌+◌, ◌<◌, List, [], ◌∷◌, ◌++◌, length, map, get_or, drop, refl, sym, ap, subst, suc, ◌∙◌, append_assoc, add-one, drop-cons, arith}
 use Rattle.std.proofs.lemmas.List.{get_or_default}
 use Rattle.std.specs.List.{filter}
 use denote.Ref.{Bor}
 use Rattle.desk_values.specs.declared.value.Image.{Image}
 use Rattle.machine_model.specs.Rows.{IsRising, RisesFrom, lay, lay_all, of_table, shown}
-use Rattle.machine_model.specs.Inside.Rows.{AreLatest}
 use Rattle.sql_eval.specs.Totals.{looked_at}
 use Rattle.machine_model.specs.declared.session.Session.{Session}
 use Rattle.machine_model.specs.View.{commits_seen, rows_seen}
@@ -58,18 +57,6 @@ filtered_from p n (x ∷ xs) up =
 
 pub rising_of_table : (table : ℕ) (xs : List Image) → IsRising xs → IsRising (of_table table xs)
 rising_of_table table xs up = filtered_from _ 0 xs up
-
--- ---- rows that are kept current
-
-latest_from : (start : List Image) (commits : List (List Image)) (table : ℕ) (current : List (List Image)) → AreLatest start commits table current → (i : ℕ) (d : List Image) → i < length current → get_or current i d ≡ lay_all (of_table (table + i) start) (map (of_table (table + i)) commits)
-latest_from start commits table [] latest i d within = absurd (omega arith)
-latest_from start commits table (first ∷ others) latest zero d within = rw add-zero latest.0
-latest_from start commits table (first ∷ others) latest (suc i) d within =
-    let along : table + 1 + i ≡ table + suc i = omega arith in
-    subst (λ (n : ℕ). get_or others i d ≡ lay_all (of_table n start) (map (of_table n) commits)) along (latest_from start commits (table + 1) others latest.1 i d (omega arith))
-
-pub latest_at : (start : List Image) (commits : List (List Image)) (current : List (List Image)) → AreLatest start commits 0 current → (i : ℕ) (rows : List Image) → i < length current → rows ≡ get_or current i rows → rows ≡ lay_all (of_table i start) (map (of_table i) commits)
-latest_at start commits current latest i rows within at = at ∙ (rw zero-add at (latest_from start commits 0 current latest i rows within))
 
 -- what a session sees rises
 pub rising_seen : (start : List Image) (commits : List (List Image)) (session : Session) (table : ℕ) → IsRising start → IsRising (rows_seen start commits session table)

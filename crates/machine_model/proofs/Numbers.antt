@@ -13,10 +13,10 @@ use Rattle.machine_model.proofs.Looks.{filtered_from}
 some_none : {X : Type 0} {x : X} (o : Option X) → o ≡ Some x → o ≡ None → ⊥
 some_none o some none = absurd cc
 
-at_first : (row : ℕ) (x : Image) (xs : List Image) → x.row ≡ row → row_at row (x ∷ xs) ≡ Some x
+pub at_first : (row : ℕ) (x : Image) (xs : List Image) → x.row ≡ row → row_at row (x ∷ xs) ≡ Some x
 at_first row x xs here = rw (eq-eqb x.row row here) refl
 
-past_first : (row : ℕ) (x : Image) (xs : List Image) → x.row ≢ row → row_at row (x ∷ xs) ≡ row_at row xs
+pub past_first : (row : ℕ) (x : Image) (xs : List Image) → x.row ≢ row → row_at row (x ∷ xs) ≡ row_at row xs
 past_first row x xs apart = rw (ne_eqb x.row row apart) refl
 
 -- ---- two lists that have the same at each number are one
@@ -119,7 +119,7 @@ filtered_lay test xs ys cs up also over_up same =
 abbrev AreThere : List Image → Type 0
 AreThere images = AllByRecursion (λ (image : Image). is_there image ≡ true) images
 
-there_at : (row : ℕ) (ns : List Image) (x : Image) → AreThere ns → row_at row ns ≡ Some x → is_there x ≡ true
+pub there_at : (row : ℕ) (ns : List Image) (x : Image) → AreThere ns → row_at row ns ≡ Some x → is_there x ≡ true
 there_at row [] x there at = absurd cc
 there_at row (n ∷ ns) x there at = elim (cases_eq n.row row) [
   | inl same ↦ (let is : n ≡ x = same_Some n x (sym (at_first row n ns same) ∙ at) in ap is_there (sym is) ∙ there.0)

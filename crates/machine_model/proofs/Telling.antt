@@ -1,5 +1,5 @@
 -- What the steps of the machine share.
-use Rattle.std.proofs.Common.{◌≡◌, ℕ, ◌+◌, ◌<◌, ◌≤◌, true, false, List, [], ◌∷◌, Option, None, Some, replicate, Result, IfOk, if◌then◌else◌, refl, subst, sym, ap, ◌∙◌, arith}
+use Rattle.std.proofs.Common.{◌≡◌, ℕ, ◌+◌, ◌<◌, ◌≤◌, true, false, List, [], ◌∷◌, ◌++◌, length, Option, None, Some, replicate, Result, IfOk, if◌then◌else◌, refl, subst, sym, ap, ◌∙◌, arith}
 use Rattle.std.specs.List.{All, AllByRecursion, list_any}
 use Rattle.std.proofs.lemmas.List.Elements.{All-cons, All-nil, All-tail}
 use Rattle.desk_values.specs.declared.value.Value.{Value}
@@ -22,18 +22,25 @@ use Rattle.desk_schema.specs.Start.{StartView}
 use Rattle.desk_schema.specs.File.{IsStart}
 use Rattle.machine_model.specs.State.{State, disconnected, opening, session_at}
 use Rattle.machine_model.specs.View.{plain_view, view_of}
-use Rattle.machine_model.specs.Inside.Rows.{AreLatest, lay_tables}
+use Rattle.row_versions.specs.History.{History}
+use Rattle.machine_model.specs.Rows.{IsRising}
+use Rattle.machine_model.specs.Inside.Tables.{AreForgot, AreFrom, ArePut, AreTold, AreWithin, least_seen}
 use Rattle.machine_model.specs.Causes.{statement_fault}
 use Rattle.machine_model.specs.Draws.{is_draw_of, moved}
 use Rattle.machine_model.specs.Request.{request_of, statement, table_in, unsound}
 use Rattle.machine_model.specs.Answer.{Answer, executed, reply_of, unless}
 use Rattle.machine_model.specs.Step.{after, after_made, answer_in, answer_to, committed_in, reply_in, step, view_for, with_commit}
-use Rattle.machine_model.specs.Inside.Decision.{Decides, Executes, done_so}
-use Rattle.machine_model.specs.Sound.{IsSoundState}
+use Rattle.machine_model.specs.declared.index.KeyIndex.{KeyIndex}
+use Rattle.machine_model.specs.Inside.Index.{AreIndexes}
+use Rattle.machine_model.specs.Inside.Decision.{Decides, Executes, committed_by, done_so, session_left}
+use Rattle.machine_model.specs.Sound.{AreSound, IsSoundState}
 use Rattle.machine_model.specs.Machine.{Running}
 use Rattle.machine_model.specs.Inside.Machine.{Keeps}
 use Rattle.machine_model.proofs.SoundSteps.{opening_sound, reply_shaped, step_sound}
-use Rattle.machine_model.proofs.Stocking.{latest_more, lay_nothing}
+use Rattle.machine_model.proofs.Forgetting.{floors_told, indexes_forgot, least_after, least_most, told_forgot}
+use Rattle.machine_model.proofs.SoundRows.{ascending_rises}
+use Rattle.machine_model.proofs.Noting.{indexes_after}
+use Rattle.machine_model.proofs.Storing.{told_after, told_later, told_within}
 
 -- a fact of some things is one of equal ones
 pub along : {A B C : Type 0} (P : A → B → C → Type 0) {a a' : A} {b b' : B} {c c' : C} → a ≡ a' → b ≡ b' → c ≡ c' → P a b c → P a' b' c'
@@ -97,18 +104,78 @@ made_below : (made : Option ℕ) (row limit steps : ℕ) → row ≤ limit + ste
 made_below None row limit steps below = omega arith
 made_below (Some n) row limit steps below = omega arith
 
-latest_after : (start : List Image) (commits : List (List Image)) (current : List (List Image)) (changes : List Image) → AreLatest start commits 0 current → AreLatest start (with_commit commits changes) 0 (lay_tables 0 current changes)
-latest_after start commits current [] latest = rw (lay_nothing 0 current) latest
-latest_after start commits current (change ∷ changes) latest = latest_more start commits 0 current (change ∷ changes) latest
+last_of : {X : Type 0} (P : X → Type 0) (xs : List X) (y : X) → AllByRecursion P (xs ++ y ∷ []) → P y
+last_of P [] y all = all.0
+last_of P (x ∷ xs) y all = last_of P xs y all.1
 
-pub kept : (running : Running) (current : List (List Image)) (session : ℕ) (a : Answer) → Keeps running current → running.steps < 1048576 → IsSoundState (after running.state session a) → Keeps (record { state = after running.state session a; steps = running.steps + 1 }) (lay_tables 0 current (committed_in a.reply.outcome))
-kept running current session a keeps few sound = record {
-  sound = sound;
-  latest = latest_after running.state.start.rows running.state.commits current (committed_in a.reply.outcome) keeps.latest;
-  steps = omega arith;
-  next_row = made_below a.reply.made running.state.next_row 549755813888 running.steps keeps.next_row;
-  next_values = moved_below 549755813888 running.steps a.reply.draws 0 running.state.next_values keeps.next_values;
-}
+-- what a step commits rises
+pub committed_rises : (commits : List (List Image)) (changes : List Image) → AllByRecursion AreSound (with_commit commits changes) → IsRising changes
+committed_rises commits [] all = tt
+committed_rises commits (change ∷ changes) all = (last_of AreSound commits (change ∷ changes) all).rising
+
+-- what comes of a decision that is done
+module _ (state : State) (session : ℕ) (reply : Reply) (deed : Deed) (mine : Session) (is : mine ≡ session_at state session) (commits : committed_in reply.outcome ≡ committed_by (plain_view (session_at state session)) deed) where
+  told_same : committed_by (plain_view mine) deed ≡ committed_in reply.outcome
+  told_same = ap (λ (s : Session). committed_by (plain_view s) deed) is ∙ sym commits
+
+  pub commits_to : (l : List (List Image)) → l ≡ with_commit state.commits (committed_by (plain_view mine) deed) → with_commit state.commits (committed_in reply.outcome) ≡ l
+  commits_to l at = ap (with_commit state.commits) (sym told_same) ∙ sym at
+
+  pub session_to : (left : Session) → left ≡ session_left mine (length state.commits) deed → session_left (session_at state session) (length state.commits) deed ≡ left
+  session_to left at = ap (λ (s : Session). session_left s (length state.commits) deed) (sym is) ∙ sym at
+
+  pub put_to : (number : ℕ) (old mid : List History) → ArePut number (committed_by (plain_view mine) deed) old mid → ArePut number (committed_in reply.outcome) old mid
+  put_to number old mid put = subst (λ (images : List Image). ArePut number images old mid) told_same put
+
+pub keeps_within : (running : Running) (tables : List History) → Keeps running tables → AreWithin (length running.state.commits) tables
+keeps_within running tables keeps =
+    let state = running.state in
+    told_within (least_seen (length state.commits) state.sessions) state.start.rows state.commits tables (least_most (length state.commits) state.sessions) keeps.told
+
+module _ (running : Running) (old mid : List History) (session : ℕ) (a : Answer) (keeps : Keeps running old) (sound : IsSoundState (after running.state session a)) (put : ArePut (length running.state.commits + 1) (committed_in a.reply.outcome) old mid) where
+  rise : IsRising (committed_in a.reply.outcome)
+  rise = committed_rises running.state.commits (committed_in a.reply.outcome) sound.commits
+
+  told_mid : AreTold (least_seen (length running.state.commits) running.state.sessions) running.state.start.rows (after running.state session a).commits mid
+  told_mid =
+      let state = running.state in
+      told_after (least_seen (length state.commits) state.sessions) state.start.rows state.commits (committed_in a.reply.outcome) old mid (ascending_rises state.start.rows keeps.sound.start.sound.sound_rows.rising) rise
+      (least_most (length state.commits) state.sessions) keeps.told put
+
+  pub within_mid : AreWithin (length (after running.state session a).commits) mid
+  within_mid =
+      let state = running.state in
+      let next = after state session a in
+      let low = least_seen (length state.commits) state.sessions in
+      let most : low ≤ length next.commits = omega (arith, least_after state session a, least_most (length next.commits) next.sessions) in
+      told_within low state.start.rows next.commits mid most told_mid
+
+  pub from_mid : AreFrom (least_seen (length (after running.state session a).commits) (after running.state session a).sessions) mid
+  from_mid =
+      let state = running.state in
+      let next = after state session a in
+      floors_told (least_seen (length state.commits) state.sessions) (least_seen (length next.commits) next.sessions) state.start.rows next.commits mid (least_after state session a) told_mid
+
+  pub indexes_mid : (indexes : List KeyIndex) → AreIndexes indexes old (length running.state.commits) [] → AreIndexes indexes mid (length (after running.state session a).commits) (committed_in a.reply.outcome)
+  indexes_mid indexes are = indexes_after indexes running.state.commits (committed_in a.reply.outcome) old mid rise (keeps_within running old keeps) put are
+
+  module _ (new : List History) (forgot : AreForgot (least_seen (length (after running.state session a).commits) (after running.state session a).sessions) mid new) where
+    pub kept : running.steps < 1048576 → Keeps (record { state = after running.state session a; steps = running.steps + 1 }) new
+    kept few =
+        let state = running.state in
+        let next = after state session a in
+        record {
+          sound = sound;
+          told = told_forgot (least_seen (length state.commits) state.sessions) (least_seen (length next.commits) next.sessions) state.start.rows next.commits mid new (least_after state session a) forgot told_mid;
+          steps = omega arith;
+          next_row = made_below a.reply.made state.next_row 549755813888 running.steps keeps.next_row;
+          next_values = moved_below 549755813888 running.steps a.reply.draws 0 state.next_values keeps.next_values;
+        }
+
+    pub indexes_kept : (indexes : List KeyIndex) → AreIndexes indexes mid (length (after running.state session a).commits) [] → AreIndexes indexes new (length (after running.state session a).commits) []
+    indexes_kept indexes are =
+        let next = after running.state session a in
+        indexes_forgot indexes (length next.commits) (least_seen (length next.commits) next.sessions) mid new (least_most (length next.commits) next.sessions) forgot are
 
 pub opening_is : (start : StartView) (commits : List (List Image)) (row : ℕ) (nexts : List ℕ) (sessions : List Session) → commits ≡ [] → row ≡ start.next_row → nexts ≡ start.next_values → sessions ≡ replicate 64 disconnected → record { start = start; commits = commits; next_row = row; next_values = nexts; sessions = sessions } ≡ opening start
 opening_is start commits row nexts sessions a b c d = rw (a, b, c, d) refl
@@ -117,10 +184,10 @@ limits_below : (nexts : List ℕ) → AllByRecursion (λ next. (1 ≤ next) × (
 limits_below [] limits = All-nil (λ (n : ℕ). n ≤ 549755813888 + 0)
 limits_below (n ∷ ns) limits = All-cons (λ (n : ℕ). n ≤ 549755813888 + 0) n ns limits.0.1 (limits_below ns limits.1)
 
-pub opened : (start : StartView) (current : List (List Image)) → IsStart start → AreLatest start.rows [] 0 current → Keeps (record { state = opening start; steps = 0 }) current
-opened start current is latest = record {
+pub opened : (start : StartView) (tables : List History) → IsStart start → AreTold 0 start.rows [] tables → Keeps (record { state = opening start; steps = 0 }) tables
+opened start tables is told = record {
   sound = opening_sound start is;
-  latest = latest;
+  told = told_later 0 start.rows [] (least_seen 0 (opening start).sessions) tables (omega arith) told;
   steps = omega arith;
   next_row = (let most : start.next_row ≤ 549755813888 = (opening_sound start is).start.next_row.most in omega arith);
   next_values = limits_below start.next_values (opening_sound start is).start.sound.sequences.limits;

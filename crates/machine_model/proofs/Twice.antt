@@ -155,7 +155,7 @@ listed_rises None = tt
 listed_rises (Some z) = (omega arith, tt)
 
 -- whether a row has a key is found out by the print of the key
-module _ (row_under : ℕ → Option ℕ) (rows : List Image) (up : IsRising rows) (finds : FindsRows row_under rows []) where
+module _ (row_under : ℕ → Option ℕ) (rows : List Image) (up : IsRising rows) (finds : FindsRows row_under (λ row. row_at row rows) []) where
   all_found : AllByRecursion (λ y. row_under (print_of (row_key y)) ≡ Some y.row) rows
   all_found = each_weaker (λ (y : Image). row_at y.row rows ≡ Some y) (λ y. row_under (print_of (row_key y)) ≡ Some y.row) (λ y at. finds y at refl) rows (own_rows rows up)
 

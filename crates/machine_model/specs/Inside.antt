@@ -2,8 +2,10 @@
 pub mod Decision
 pub mod Evaluation
 pub mod FirstCauses
+pub mod Holds
 pub mod Index
 pub mod Machine
 pub mod Repeats
 pub mod Rows
+pub mod Tables
 pub mod Views

@@ -1,5 +1,6 @@
 pub mod Limits
 pub mod Answer
+pub mod Apart
 pub mod ByKey
 pub mod Causes
 pub mod Clean

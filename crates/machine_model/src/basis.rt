@@ -1,6 +1,6 @@
 //! What a statement can depend on: which rows it visits, and whether it leaves a key twice.
 
-ghost use Rattle.std.specs.Prelude.{◌≡◌, ◌∷◌, map, IfOk, IfSome, true};
+ghost use Rattle.std.specs.Prelude.{◌≡◌, ◌∷◌, map, IfOk, IfSome, true, false};
 ghost use Rattle.std.specs.List.{AllByRecursion, list_any};
 ghost use Rattle.std.specs.Option.{option_and_then, option_copied};
 ghost use Rattle.desk_values.specs.declared.value.Image.{Image as AnyImage};
@@ -14,7 +14,7 @@ ghost use Rattle.machine_model.specs.View.{commits_seen};
 ghost use Rattle.machine_model.specs.Writes.{is_among, repeats_key};
 ghost use Rattle.machine_model.specs.Inside.Evaluation.{env_of};
 ghost use Rattle.same_keys.specs.Print.{print_of};
-ghost use Rattle.machine_model.specs.Inside.Index.{IsBasis, IsIndexed, listed, row_under, rows_of_basis, staying};
+ghost use Rattle.machine_model.specs.Inside.Index.{IsBasis, IsIndexed, committed_rows, listed, row_under, rows_of_basis, staying};
 ghost use Rattle.machine_model.specs.Inside.Rows.{row_at};
 
 use crate::evaluation::Evaluation;
@@ -23,11 +23,13 @@ use crate::holds::Others;
 use crate::images::row_key;
 use crate::index::KeyIndex;
 use crate::repeats::{makes_key_twice, repeats_key};
-use crate::rows::{Rows, TableRows, row_among};
+use crate::rows::Rows;
 use crate::seeing::{laid, looked, of_table, rows_seen, shown_of};
 use crate::session::Session;
+use crate::tables::row_at;
 use desk_values::{Image, Memory, Value, same_key};
 use key_conditions::key_sought;
+use row_versions::Versions;
 use same_keys::print_of;
 use sql_eval::{Checked, Faults};
 
@@ -44,16 +46,21 @@ pub struct Basis<'a> {
     pub start: &'a [Image],
     /// The changes of each commit, in the order of the commits.
     pub commits: &'a [Rows],
-    /// The rows of each table after all commits.
-    pub current: &'a [TableRows],
+    /// The versions of the rows of each table.
+    pub versions: &'a [Versions],
     /// Where the keys of each table stand.
     pub indexes: &'a [KeyIndex],
+    /// The level of the rules.
+    pub level: u32,
+    /// Whether it is known that no two rows that the session sees have one key.
+    pub keys_differ: bool,
 }
 
 /// Committed rows of a table, what finds them by their keys, and changes of the table that are laid over them.
 #[derive(Clone, Copy)]
 struct Indexed<'a, 'c> {
-    rows: &'a [Image],
+    basis: Basis<'a>,
+    versions: &'a Versions,
     index: &'a KeyIndex,
     changes: &'c [&'a Image],
 }
@@ -100,7 +107,7 @@ fn all_rows<'a>(with: Evaluation<'_>, basis: Basis<'a>) -> Result<Vec<&'a Image>
         with.alloc,
         basis.start,
         basis.commits,
-        basis.current,
+        basis.versions,
         basis.session,
         basis.table,
     )
@@ -175,7 +182,7 @@ fn found_row<'a>(
     requires { IsIndexed indexed }
     ensures rising { IfOk result (λ found. IsRising (looked_at found.items)) }
     ensures found { IfOk result
-        (λ found. of_key with.entry.level key.now (looked_at found.items) ≡ of_key with.entry.level key.now indexed.entry.rows.now) }
+        (λ found. of_key with.entry.level key.now (looked_at found.items) ≡ of_key with.entry.level key.now (committed_rows indexed.entry.basis)) }
 {
     listed(with, row_under(indexed, key))
 }
@@ -194,10 +201,10 @@ fn listed<'a>(with: Evaluation<'_>, row: Option<&'a Image>) -> Result<Vec<&'a Im
 /// The committed row that stands under the print of a key.
 fn row_under<'a>(indexed: Indexed<'a, '_>, key: &Value) -> Option<&'a Image>
     requires { IsIndexed indexed }
-    ensures { option_copied result ≡ option_and_then (λ row. row_at row indexed.entry.rows.now) (row_under indexed.entry.index.now (print_of key.now)) }
+    ensures { option_copied result ≡ option_and_then (λ row. row_at row (committed_rows indexed.entry.basis)) (row_under indexed.entry.index.now (print_of key.now)) }
 {
     let row = indexed.index.row_of(print_of(key))?;
-    row_among(indexed.rows, row)
+    row_at(indexed.versions, row, indexed.basis.commits.len() as u64)
 }
 
 /// Whether the new row has the key of another, or two others have one.
@@ -205,6 +212,9 @@ pub fn makes_twice(with: Evaluation<'_>, basis: Basis<'_>, new: &Image) -> Resul
     requires { IsBasis basis }
     ensures { IfOk result (λ b. b ≡ repeats_key with.entry.level (map row_key (new.now ∷ rows_of_basis basis.entry))) }
 {
+    if keys_differ(with, basis) {
+        return stands(with, basis, row_key(with, new));
+    }
     let changes = of_table(
         with.alloc,
         basis.session.own.changes.as_slice(),
@@ -217,6 +227,28 @@ pub fn makes_twice(with: Evaluation<'_>, basis: Basis<'_>, new: &Image) -> Resul
             makes_key_twice(with, new, &rows)
         }
     }
+}
+
+/// Whether it is known that no two of the rows have one key.
+pub fn keys_differ(with: Evaluation<'_>, basis: Basis<'_>) -> bool
+    requires { IsBasis basis }
+    ensures { result ≡ true → repeats_key with.entry.level (map row_key (rows_of_basis basis.entry)) ≡ false }
+{
+    if basis.level != with.level {
+        return false;
+    }
+    basis.keys_differ
+}
+
+/// Whether a row has this key.
+fn stands(with: Evaluation<'_>, basis: Basis<'_>, key: &Value) -> Result<bool, Memory>
+    requires { IsBasis basis }
+    ensures { IfOk result
+        (λ b. b ≡ list_any (same_key with.entry.level key.now) (map row_key (rows_of_basis basis.entry))) }
+{
+    let found = rows_of_key(with, basis, key)?;
+    let found = found.as_slice();
+    Ok(!found.is_empty())
 }
 
 /// Whether two rows have one key, once these images stand in the place of those of their numbers.
@@ -254,18 +286,19 @@ fn indexed_rows<'a, 'c>(basis: Basis<'a>, changes: &'c [&'a Image]) -> Option<In
     ensures indexed { IfSome result IsIndexed }
     ensures changes { IfSome result (λ indexed. looked_at indexed.changes.now ≡ looked_at changes.now) }
     ensures rows { IfSome result
-        (λ indexed. lay indexed.rows.now (of_table basis.entry.table basis.entry.session.now.own.changes) ≡ rows_of_basis basis.entry) }
+        (λ indexed. lay (committed_rows indexed.basis) (of_table basis.entry.table basis.entry.session.now.own.changes) ≡ rows_of_basis basis.entry) }
 {
     if !reads_latest(basis) {
         return None;
     }
-    let rows = basis.current.get(basis.table as usize)?;
+    let versions = basis.versions.get(basis.table as usize)?;
     let index = basis.indexes.get(basis.table as usize)?;
     if !index.is_kept() {
         return None;
     }
     Some(Indexed {
-        rows: rows.as_slice(),
+        basis,
+        versions,
         index,
         changes,
     })
@@ -290,7 +323,7 @@ fn makes_indexed_twice(
     requires { IsIndexed indexed }
     ensures { IfOk result
         (λ b. b ≡ repeats_key with.entry.level
-        (map row_key (new.now ∷ lay indexed.entry.rows.now (looked_at indexed.entry.changes.now)))) }
+        (map row_key (new.now ∷ lay (committed_rows indexed.entry.basis) (looked_at indexed.entry.changes.now)))) }
 {
     let changed = shown_of(with.alloc, indexed.changes)?;
     if makes_key_twice(with, new, &changed)? {
@@ -303,7 +336,7 @@ fn makes_indexed_twice(
 fn have_indexed_twice(with: Evaluation<'_>, indexed: Indexed<'_, '_>) -> Result<bool, Memory>
     requires { IsIndexed indexed }
     ensures { IfOk result
-        (λ b. b ≡ repeats_key with.entry.level (map row_key (lay indexed.entry.rows.now (looked_at indexed.entry.changes.now)))) }
+        (λ b. b ≡ repeats_key with.entry.level (map row_key (lay (committed_rows indexed.entry.basis) (looked_at indexed.entry.changes.now)))) }
 {
     let changed = shown_of(with.alloc, indexed.changes)?;
     if repeats_key(with, &changed)? {
@@ -317,7 +350,7 @@ fn some_meets_staying(with: Evaluation<'_>, indexed: Indexed<'_, '_>, images: &[
     requires { IsIndexed indexed }
     ensures { result ≡ list_any
         (λ image. list_any (same_key with.entry.level (row_key image))
-        (map row_key (staying indexed.entry.rows.now (looked_at indexed.entry.changes.now))))
+        (map row_key (staying (committed_rows indexed.entry.basis) (looked_at indexed.entry.changes.now))))
         (looked_at images.now) }
 {
     for image in images {
@@ -333,7 +366,7 @@ fn meets_staying(with: Evaluation<'_>, indexed: Indexed<'_, '_>, image: &Image) 
     requires { IsIndexed indexed }
     ensures { result
         ≡ list_any (same_key with.entry.level (row_key image.now))
-        (map row_key (staying indexed.entry.rows.now (looked_at indexed.entry.changes.now))) }
+        (map row_key (staying (committed_rows indexed.entry.basis) (looked_at indexed.entry.changes.now))) }
 {
     let key = row_key(with, image);
     let Some(other) = row_under(indexed, key) else {

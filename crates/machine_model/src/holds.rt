@@ -1,14 +1,15 @@
-//! The rows and keys that sessions hold.
+//! The rows and keys that other sessions hold.
 
-ghost use Rattle.std.specs.Prelude.{◌≡◌, ◌++◌, ◌∷◌, [], ◌||◌, nat_eq, IfOk, OnOk, OnErr};
+ghost use Rattle.std.specs.Prelude.{◌≡◌, ◌<◌, ◌≤◌, ◌+◌, ◌++◌, ◌||◌, nat_eq, true, length, take, drop};
 ghost use Rattle.std.specs.List.{list_any};
 ghost use Rattle.sql_eval.specs.Totals.{looked_at};
-ghost use Rattle.machine_model.specs.View.{holds_row, is_held};
+ghost use Rattle.machine_model.specs.View.{holds_row, is_held, others};
 ghost use Rattle.machine_model.specs.Inside.Evaluation.{holds_key};
-ghost use Rattle.machine_model.specs.Writes.{with_row, with_rows, with_key, with_keys, is_held_key};
+ghost use Rattle.machine_model.specs.Inside.Holds.{AreHeld, IsBeside, is_within};
 
-use crate::session::{HeldKey, Session};
-use desk_values::{Copied, Image, List, Memory, Value, same_key};
+use crate::session::Session;
+use desk_values::{Image, Value, same_key};
+use hold_index::HoldIndex;
 
 /// The sessions beside one: those before it and those after it.
 #[derive(Clone, Copy)]
@@ -17,9 +18,40 @@ pub struct Others<'a> {
     pub before: &'a [Session],
     /// Those of higher numbers.
     pub after: &'a [Session],
+    /// What they and the one hold.
+    pub holds: &'a HoldIndex,
 }
 
-fn stands_among(row: u64, rows: &[u64]) -> bool
+/// The sessions beside the one of this number, and what all of them hold.
+pub fn beside<'a>(sessions: &'a [Session], session: usize, holds: &'a HoldIndex) -> Others<'a>
+    requires within { session < length sessions.now }
+    requires held { AreHeld holds.now sessions.now }
+    ensures others { result.before.now ++ result.after.now ≡ others sessions.now session }
+    ensures beside { IsBeside result }
+{
+    Others {
+        before: first_of(sessions, session),
+        after: rest_of(sessions, session + 1),
+        holds,
+    }
+}
+
+fn first_of(sessions: &[Session], count: usize) -> &[Session]
+    requires { count ≤ length sessions.now }
+    ensures { result.now ≡ take count sessions.now }
+{
+    &sessions[..count]
+}
+
+fn rest_of(sessions: &[Session], count: usize) -> &[Session]
+    requires { count ≤ length sessions.now }
+    ensures { result.now ≡ drop count sessions.now }
+{
+    &sessions[count..]
+}
+
+/// Whether the row stands among these.
+pub fn stands_among(row: u64, rows: &[u64]) -> bool
     ensures { result ≡ list_any (nat_eq row) rows.now }
 {
     rows.contains(&row)
@@ -40,13 +72,47 @@ fn some_holds_row(sessions: &[Session], row: u64) -> bool
 }
 
 fn hold_row(others: Others<'_>, row: u64) -> bool
+    requires { IsBeside others }
     ensures { result ≡ list_any (holds_row row) (others.entry.before.now ++ others.entry.after.now) }
 {
+    if others.holds.is_kept() {
+        return is_told_of_row(others, row);
+    }
     some_holds_row(others.before, row) || some_holds_row(others.after, row)
+}
+
+/// What is told of the row.
+fn is_told_of_row(others: Others<'_>, row: u64) -> bool
+    requires beside { IsBeside others }
+    requires kept { others.holds.now.is_kept ≡ true }
+    ensures { result ≡ list_any (holds_row row) (others.entry.before.now ++ others.entry.after.now) }
+{
+    is_anothers(others, others.holds.holder_of_row(row))
+}
+
+/// Whether one of them is the holder.
+fn is_anothers(others: Others<'_>, holder: Option<u32>) -> bool
+    ensures { result
+        ≡ (is_within 0 (length others.entry.before.now) holder
+        || is_within (length others.entry.before.now + 1) (length others.entry.after.now) holder) }
+{
+    let first = others.before.len();
+    is_within(0, first, holder) || is_within(first + 1, others.after.len(), holder)
+}
+
+/// Whether it is one of so many sessions, from the first on.
+fn is_within(first: usize, count: usize, holder: Option<u32>) -> bool
+    ensures { result ≡ is_within first count holder }
+{
+    match holder {
+        Some(session) => first <= session as usize && session as usize - first < count,
+        None => false,
+    }
 }
 
 /// Whether one of them holds one of these rows.
 pub fn hold_some_row(others: Others<'_>, rows: &[&Image]) -> bool
+    requires { IsBeside others }
     ensures { result ≡ list_any (is_held (others.entry.before.now ++ others.entry.after.now)) (looked_at rows.now) }
 {
     for image in rows {
@@ -74,41 +140,31 @@ fn some_holds_key(level: u32, sessions: &[Session], table: u32, key: &Value) -> 
 
 /// Whether one of them holds this key of a table.
 pub fn hold_key(level: u32, others: Others<'_>, table: u32, key: &Value) -> bool
+    requires { IsBeside others }
+    ensures { result ≡ list_any (holds_key level table key.now) (others.entry.before.now ++ others.entry.after.now) }
+{
+    if others.holds.is_kept() {
+        return is_told_of_key(level, others, table, key);
+    }
+    look_for_key(level, others, table, key)
+}
+
+/// What is told of the key: where none of them is told of its print, none holds it.
+fn is_told_of_key(level: u32, others: Others<'_>, table: u32, key: &Value) -> bool
+    requires beside { IsBeside others }
+    requires kept { others.holds.now.is_kept ≡ true }
+    ensures { result ≡ list_any (holds_key level table key.now) (others.entry.before.now ++ others.entry.after.now) }
+{
+    if is_anothers(others, others.holds.holder_of_key(table, key)) {
+        return look_for_key(level, others, table, key);
+    }
+    false
+}
+
+/// Looks through what they hold.
+fn look_for_key(level: u32, others: Others<'_>, table: u32, key: &Value) -> bool
     ensures { result ≡ list_any (holds_key level table key.now) (others.entry.before.now ++ others.entry.after.now) }
 {
     some_holds_key(level, others.before, table, key)
         || some_holds_key(level, others.after, table, key)
-}
-
-/// These rows are held too. After an `Err` some of them may be.
-pub fn hold_rows(held: &mut List<u64>, rows: &[u64]) -> Result<(), Memory>
-    ensures { OnOk result (held.new ≡ with_rows held.old rows.now) }
-{
-    for row in rows {
-        if !stands_among(*row, held.as_slice()) {
-            held.push(*row)?;
-        }
-    }
-    Ok(())
-}
-
-/// These keys of a table are held too. After an `Err` some of them may be.
-pub fn hold_keys(held: &mut List<HeldKey>, table: u32, keys: &[Value]) -> Result<(), Memory>
-    ensures { OnOk result (held.new ≡ with_keys table held.old keys.now) }
-{
-    for key in keys {
-        if !stands_held(held, table, key) {
-            let key = key.copy()?;
-            held.push(HeldKey { table, key })?;
-        }
-    }
-    Ok(())
-}
-
-fn stands_held(held: &List<HeldKey>, table: u32, key: &Value) -> bool
-    ensures { result ≡ list_any (is_held_key table key.now) held.now }
-{
-    held.as_slice()
-        .iter()
-        .any(|held| held.table == table && same_key(1, &held.key, key))
 }

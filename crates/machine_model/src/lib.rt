@@ -4,7 +4,7 @@
 //!
 //! `specs` says what a call is answered and what it leaves (`Step`), by what it can depend on (`View`). `PlainMachine`
 //! decides a call on what it borrows (`Decision`), and then does what was decided; want of memory comes before anything
-//! changes. Rows are seen by reference, and the rows after all commits are kept by table, with an index of their keys.
+//! changes. Rows are seen by reference; of each table the versions of its rows are kept, with an index of their keys, and who holds what.
 #![tactic(auto)]
 
 mod answering;
@@ -18,6 +18,7 @@ mod evaluation;
 mod following;
 mod found;
 mod giving;
+mod holding;
 mod holds;
 mod images;
 mod index;

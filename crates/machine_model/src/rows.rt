@@ -1,10 +1,9 @@
 //! Images of rows, ascending by row.
 
 ghost use Rattle.std.specs.Prelude.{◌≡◌, ◌+◌, ◌<◌, ◌≤◌, ◌++◌, ◌∷◌, [], length, map, vec_len, IfOk, IfSome, OnOk, OnErr, IsOk, false};
-ghost use Rattle.std.specs.Option.{option_copied};
 ghost use Rattle.std.specs.Vec.{vec_capacity};
 ghost use Rattle.machine_model.specs.Rows.{IsRising, is_there, lay, noted, of_table, one, placed, shown};
-ghost use Rattle.machine_model.specs.Inside.Rows.{place, row_at};
+ghost use Rattle.machine_model.specs.Inside.Rows.{place};
 
 use desk_values::{Copied, Image, List, Memory};
 use std::alloc::Global;
@@ -125,18 +124,6 @@ fn place_of(images: &[Image], row: u64) -> usize
     }
 }
 
-/// The row of this number.
-pub fn row_among(images: &[Image], row: u64) -> Option<&Image>
-    requires { IsRising images.now }
-    ensures { option_copied result ≡ row_at row images.now }
-{
-    let at = place_of(images, row);
-    match images.get(at) {
-        Some(image) if image.row == row => Some(image),
-        _ => None,
-    }
-}
-
 /// Puts an image where there is room for it.
 fn put_within(images: &mut Vec<Image>, image: Image)
     requires rising { IsRising images.old.items }
@@ -210,74 +197,5 @@ fn lay_within(images: &mut Vec<Image>, changes: Vec<Image>)
     left.reverse();
     while let Some(image) = left.pop() {
         lay_one(images, image);
-    }
-}
-
-/// Copies of the rows of one table.
-fn copies_of_table(alloc: Global, images: &[Image], table: u32) -> Result<Vec<Image>, Memory>
-    ensures { IfOk result (λ copied. copied.items ≡ of_table table images.now) }
-{
-    let mut copied = Vec::new(alloc);
-    for image in images {
-        if image.table == table {
-            copied.push(image.copy()?)?;
-        }
-    }
-    Ok(copied)
-}
-
-/// The rows of a table, ascending, with room for more. Contracts see the rows, and for how many more there is room.
-#[derive(Drop)]
-pub struct TableRows {
-    images: Vec<Image>,
-}
-
-impl Model for TableRows {
-    ghost use Rattle.std.specs.Prelude.{◌-◌, vec_len};
-    ghost use Rattle.std.specs.Vec.{vec_capacity};
-    ghost use Rattle.machine_model.specs.Rows.{IsRising};
-    ghost use Rattle.machine_model.specs.Inside.Rows.{Stock};
-
-    ghost Value = { Stock };
-
-    ghost view = { λ a. record { rows = a.images.items; room = vec_capacity a.images - vec_len a.images } };
-
-    ghost invariant = { λ a. IsRising a.images.items };
-}
-
-impl TableRows {
-    /// Copies of the rows of one table among these.
-    pub fn of_table(alloc: Global, images: &[Image], table: u32) -> Result<Self, Memory>
-        requires { IsRising images.now }
-        ensures { IfOk result (λ stock. stock.rows ≡ of_table table images.now) }
-    {
-        let images = copies_of_table(alloc, images, table)?;
-        Ok(TableRows { images })
-    }
-
-    /// The rows in order.
-    pub fn as_slice(&self) -> &[Image]
-        ensures value { result.now ≡ self.now.rows }
-        ensures rising { IsRising self.now.rows }
-    {
-        self.images.as_slice()
-    }
-
-    /// Makes room for so many rows more.
-    pub fn reserve(&mut self, more: usize) -> Result<(), Memory>
-        ensures rows { self.new.rows ≡ self.old.rows }
-        ensures ok { OnOk result (more ≤ self.new.room) }
-    {
-        self.images.reserve(more)?;
-        Ok(())
-    }
-
-    /// Lays a change over the rows, where there is room for it.
-    pub fn lay_one(&mut self, image: Image)
-        requires { 0 < self.old.room }
-        ensures rows { self.new.rows ≡ placed shown image self.old.rows }
-        ensures room { self.old.room ≤ self.new.room + 1 }
-    {
-        lay_one(&mut self.images, image);
     }
 }

@@ -1,14 +1,16 @@
 //! The rows of a table as a session sees them; no row is copied.
 
-ghost use Rattle.std.specs.Prelude.{◌≡◌, ◌++◌, map, IfOk, OnOk};
+ghost use Rattle.std.specs.Prelude.{◌≡◌, ◌≤◌, ◌++◌, length, map, IfOk, OnOk};
 ghost use Rattle.machine_model.specs.Rows.{IsRising, lay, lay_all, of_table, shown};
-ghost use Rattle.machine_model.specs.Inside.Rows.{AreLatest, all_shown, stocked};
+ghost use Rattle.machine_model.specs.Inside.Rows.{all_shown};
+ghost use Rattle.machine_model.specs.Inside.Tables.{AreTold, count_seen, rows_after};
 ghost use Rattle.sql_eval.specs.Totals.{looked_at};
 ghost use Rattle.machine_model.specs.View.{commits_seen, rows_seen};
 
-use crate::rows::{Rows, TableRows};
+use crate::rows::Rows;
 use crate::session::Session;
 use desk_values::{Image, Memory};
+use row_versions::Versions;
 use std::alloc::Global;
 
 /// Shows a change behind what is seen, where the row is not gone.
@@ -123,60 +125,47 @@ fn base<'a>(
     alloc: Global,
     start: &'a [Image],
     commits: &'a [Rows],
-    current: &'a [TableRows],
+    tables: &'a [Versions],
     snapshot: Option<u64>,
     table: u32,
 ) -> Result<Vec<&'a Image>, Memory>
     requires rising { IsRising start.now }
-    requires latest { AreLatest start.now commits.now 0 (stocked current.now) }
+    requires told { AreTold (count_seen snapshot (length commits.now)) start.now commits.now tables.now }
     ensures { IfOk result
-        (λ seen. looked_at seen.items ≡ lay_all (of_table table start.now) (map (of_table table) (commits_seen snapshot commits.now))) }
+        (λ seen. looked_at seen.items ≡ rows_after start.now (commits_seen snapshot commits.now) table) }
+{
+    let count = count_seen(snapshot, commits.len());
+    match tables.get(table as usize) {
+        Some(versions) => Ok(versions.rows_at(count as u64)?),
+        None => committed(alloc, start, &commits[..count], table),
+    }
+}
+
+/// How many of so many commits a snapshot sees.
+fn count_seen(snapshot: Option<u64>, count: usize) -> usize
+    ensures value { result ≡ count_seen snapshot count }
+    ensures most { result ≤ count }
 {
     match snapshot {
-        None => latest(alloc, start, commits, current, table),
-        Some(number) => {
-            let count = number as usize;
-            if count < commits.len() {
-                committed(alloc, start, &commits[..count], table)
-            } else {
-                latest(alloc, start, commits, current, table)
-            }
-        }
+        Some(number) if number < count as u64 => number as usize,
+        _ => count,
     }
 }
 
-/// A table's rows after all commits.
-fn latest<'a>(
-    alloc: Global,
-    start: &'a [Image],
-    commits: &'a [Rows],
-    current: &'a [TableRows],
-    table: u32,
-) -> Result<Vec<&'a Image>, Memory>
-    requires rising { IsRising start.now }
-    requires latest { AreLatest start.now commits.now 0 (stocked current.now) }
-    ensures { IfOk result (λ seen. looked_at seen.items ≡ lay_all (of_table table start.now) (map (of_table table) commits.now)) }
-{
-    match current.get(table as usize) {
-        Some(rows) => looked(alloc, rows.as_slice()),
-        None => committed(alloc, start, commits, table),
-    }
-}
-
-/// A table's rows as a session sees them; no row is copied. `current` are the rows of each table after all commits.
+/// A table's rows as a session sees them; no row is copied. `tables` are the versions of the rows of each table.
 pub fn rows_seen<'a>(
     alloc: Global,
     start: &'a [Image],
     commits: &'a [Rows],
-    current: &'a [TableRows],
+    tables: &'a [Versions],
     session: &'a Session,
     table: u32,
 ) -> Result<Vec<&'a Image>, Memory>
     requires rising { IsRising start.now }
-    requires latest { AreLatest start.now commits.now 0 (stocked current.now) }
+    requires told { AreTold (count_seen session.now.snapshot (length commits.now)) start.now commits.now tables.now }
     ensures { IfOk result (λ seen. looked_at seen.items ≡ rows_seen start.now commits.now session.now table) }
 {
-    let rows = base(alloc, start, commits, current, session.snapshot, table)?;
+    let rows = base(alloc, start, commits, tables, session.snapshot, table)?;
     let changes = of_table(alloc, session.own.changes.as_slice(), table)?;
     if changes.is_empty() {
         return Ok(rows);

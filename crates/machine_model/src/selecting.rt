@@ -11,6 +11,7 @@ ghost use Rattle.machine_model.specs.Found.{matching, row_faults, values_for};
 ghost use Rattle.machine_model.specs.Answer.{are_totals, asked_faults, is_over, ruled, select_causes, select_effect, select_rows, selection, total_in, totals_in};
 ghost use Rattle.machine_model.specs.View.{is_held};
 ghost use Rattle.machine_model.specs.Inside.Decision.{Decides, view_of_basis};
+ghost use Rattle.machine_model.specs.Inside.Holds.{IsBeside};
 ghost use Rattle.machine_model.specs.Inside.Index.{IsBasis, rows_of_basis};
 
 use crate::basis::{Basis, visit};
@@ -91,6 +92,7 @@ fn are_too_many(basis: Basis<'_>, items: &ReadyItems, found: &[&Image]) -> bool
 
 /// Whether the rows are to be held, and another session holds one.
 fn are_locked(basis: Basis<'_>, for_update: bool, found: &[&Image]) -> bool
+    requires { IsBeside basis.others }
     ensures { result
         ≡ (for_update && list_any (is_held (basis.entry.others.before.now ++ basis.entry.others.after.now)) (looked_at found.now)) }
 {

@@ -10,7 +10,6 @@ use desk_values::{Copied, List, Memory, Txt, Value};
 use std::alloc::Global;
 
 /// A session of the server.
-#[derive(Drop)]
 pub struct Session {
     /// Its rights, `None` where it is not connected.
     pub rights: Option<Rights>,
@@ -22,8 +21,19 @@ pub struct Session {
     pub savepoints: Savepoints,
 }
 
+// Written out: a caller then drops it by one call, which keeps the caller's proof small.
+impl Drop for Session {
+    fn drop(self) {
+        let Session {
+            rights: _rights,
+            snapshot: _snapshot,
+            own: _own,
+            savepoints: _savepoints,
+        } = self;
+    }
+}
+
 /// What a transaction had of its own when the savepoint was set.
-#[derive(Drop)]
 pub struct Savepoint {
     /// The savepoint's name, in lower case.
     pub name: Txt,
@@ -31,8 +41,17 @@ pub struct Savepoint {
     pub own: Transaction,
 }
 
+// Written out: a caller then drops it by one call, which keeps the caller's proof small.
+impl Drop for Savepoint {
+    fn drop(self) {
+        let Savepoint {
+            name: _name,
+            own: _own,
+        } = self;
+    }
+}
+
 /// What a transaction has of its own.
-#[derive(Drop)]
 pub struct Transaction {
     /// Its changes, ascending by row.
     pub changes: Rows,
@@ -40,6 +59,17 @@ pub struct Transaction {
     pub rows: List<u64>,
     /// The keys that it holds, likewise.
     pub keys: List<HeldKey>,
+}
+
+// Written out: a caller then drops it by one call, which keeps the caller's proof small.
+impl Drop for Transaction {
+    fn drop(self) {
+        let Transaction {
+            changes: _changes,
+            rows: _rows,
+            keys: _keys,
+        } = self;
+    }
 }
 
 /// A key that a transaction holds.

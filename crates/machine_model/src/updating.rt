@@ -1,21 +1,22 @@
 //! What an UPDATE does.
 
-ghost use Rattle.std.specs.Prelude.{◌≡◌, ◌∷◌, ◌++◌, ◌||◌, [], length, map, IfOk, OnOk};
+ghost use Rattle.std.specs.Prelude.{◌≡◌, ◌∷◌, ◌++◌, ◌||◌, [], true, length, map, IfOk, OnOk};
 ghost use Rattle.sql_tree.specs.Plain.{change_of, condition_of};
 ghost use Rattle.sql_eval.specs.Faults.{any_fault, joined};
 ghost use Rattle.sql_eval.specs.Totals.{looked_at};
 ghost use Rattle.machine_model.specs.Inside.Evaluation.{env_of};
+ghost use Rattle.machine_model.specs.Inside.Holds.{IsBeside};
 ghost use Rattle.machine_model.specs.Inside.Index.{IsBasis, rows_of_basis};
 ghost use Rattle.desk_values.specs.declared.call.Outcome.TheVariants.{Count};
 ghost use Rattle.machine_model.specs.Causes.{ranked};
 ghost use Rattle.machine_model.specs.Inside.FirstCauses.{meets_hold, update_first};
 ghost use Rattle.machine_model.specs.Found.{matching, row_faults, value_in};
-ghost use Rattle.machine_model.specs.Rows.{row_numbers};
-ghost use Rattle.machine_model.specs.Writes.{keys_moved, moved_keys, sources, updated};
+ghost use Rattle.machine_model.specs.Rows.{lay, row_key, row_numbers};
+ghost use Rattle.machine_model.specs.Writes.{keys_moved, moved_keys, repeats_key, sources, updated};
 ghost use Rattle.machine_model.specs.Answer.{meets_lock, ruled, update_causes, update_effect};
 ghost use Rattle.machine_model.specs.Inside.Decision.{Decides, view_of_basis};
 
-use crate::basis::{Basis, leaves_twice, visit};
+use crate::basis::{Basis, keys_differ, leaves_twice, visit};
 use crate::causes::Causes;
 use crate::deciding::{done, refusal, row_numbers, touch_too_many};
 use crate::effect::{Decision, Effect, Writing};
@@ -142,13 +143,17 @@ fn update_fault(
         changed.now.locked
         ≡ meets_hold (basis.others.before.now ++ basis.others.after.now) env view
         (map change_of says.settings.now) (matching env (condition_of says.condition.now) view.rows) }
+    requires keys { let env = env_of with in
+        changed.now.keys
+        ≡ moved_keys env (map change_of says.settings.now)
+        (matching env (condition_of says.condition.now) (view_of_basis basis).rows) }
     ensures { IfOk result
         (λ fault. fault
         ≡ ranked (update_causes (env_of with.entry) says.entry.columns.now (view_of_basis basis.entry)
         (map change_of says.entry.settings.now) (condition_of says.entry.condition.now))) }
 {
+    let duplicate = leaves_duplicate(with, basis, says, changed)?;
     let images = changed.images.as_slice();
-    let duplicate = leaves_twice(with, basis, images)?;
     let causes = Causes {
         locked: changed.locked,
         duplicate,
@@ -156,6 +161,37 @@ fn update_fault(
     };
     let causes = tested(with, says.columns, images, causes);
     Ok(causes.ranked())
+}
+
+/// Whether two rows have one key behind the UPDATE. Where it moves none, and none was there twice, it does not look.
+fn leaves_duplicate(
+    with: Evaluation<'_>,
+    basis: Basis<'_>,
+    says: Says<'_>,
+    changed: &Changed,
+) -> Result<bool, Memory>
+    requires is_basis { IsBasis basis }
+    requires images { let env = env_of with in
+        changed.now.images.items
+        ≡ map (updated env (map change_of says.settings.now))
+        (matching env (condition_of says.condition.now) (view_of_basis basis).rows) }
+    requires keys { let env = env_of with in
+        changed.now.keys
+        ≡ moved_keys env (map change_of says.settings.now)
+        (matching env (condition_of says.condition.now) (view_of_basis basis).rows) }
+    ensures { IfOk result
+        (λ b. b ≡ repeats_key with.entry.level (map row_key (lay (rows_of_basis basis.entry) changed.now.images.items))) }
+{
+    if moves_no_key(changed) && keys_differ(with, basis) {
+        return Ok(false);
+    }
+    leaves_twice(with, basis, changed.images.as_slice())
+}
+
+fn moves_no_key(changed: &Changed) -> bool
+    ensures { result ≡ true → changed.now.keys ≡ [] }
+{
+    changed.keys.is_empty()
 }
 
 /// The faults with those of the settings for a row.
@@ -204,6 +240,7 @@ fn changed_rows(
     settings: &[ReadySetting],
     found: &[&Image],
 ) -> Result<Changed, Memory>
+    requires { IsBeside basis.others }
     ensures images { IfOk result
         (λ changed. changed.images.items ≡ map (updated (env_of with.entry) (map change_of settings.now)) (looked_at found.now)) }
     ensures keys { IfOk result
@@ -232,6 +269,7 @@ fn change_row(
     image: &Image,
     changed: &mut Changed,
 ) -> Result<(), Memory>
+    requires { IsBeside basis.others }
     ensures images { OnOk result
         (changed.new.images.items ≡ changed.old.images.items
         ++ updated (env_of with.entry) (map change_of settings.now) image.now ∷ []) }

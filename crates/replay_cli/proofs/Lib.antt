@@ -2,6 +2,7 @@ pub mod StepLaws
 pub mod Sessions
 pub mod Made
 pub mod Unique
+pub mod Dialled
 pub mod Endings
 pub mod Steps
 pub mod Written
@@ -13,3 +14,5 @@ pub mod Telling
 pub mod Targets
 pub mod Asked
 pub mod Unwritten
+pub mod Runs
+pub mod Sent

@@ -12,7 +12,7 @@ use Rattle.captured_calls.specs.Verdict.{Preparation as Planned, verdict}
 use Rattle.replay_cli.specs.declared.failure.Refusal.{Refusal}
 use Rattle.replay_cli.specs.declared.failure.Refusal.TheVariants.{Missing, TooLong, BadLine, BadReport, BadRemap, BadChange, NotLegal}
 use Rattle.replay_cli.specs.declared.failure.Failure.{Failure}
-use Rattle.replay_cli.specs.declared.failure.Failure.TheVariants.{BadCommand, Refused, Differs, NotDone, DeviceFault, OutOfMemory}
+use Rattle.replay_cli.specs.declared.failure.Failure.TheVariants.{BadCommand, Refused, Differs, NotDone, NotSent, DeviceFault, OutOfMemory}
 use Rattle.replay_cli.specs.declared.plan.Plan.{Plan}
 use Rattle.desk_words.specs.declared.words.Command.{Command}
 use Rattle.replay_cli.specs.Decision.{IsFileIn, MayRefuseCapture, MayRefuseReport, MayRefuseStart, ReportOf, SessionOf, StartOf, legal_from}
@@ -28,6 +28,7 @@ fails_weaker may more f BadCommand h = absurd h
 fails_weaker may more f (Refused refusal) h = f refusal h
 fails_weaker may more f (Differs finding) h = absurd h
 fails_weaker may more f (NotDone cause) h = absurd h
+fails_weaker may more f (NotSent cause) h = absurd h
 fails_weaker may more f DeviceFault h = tt
 fails_weaker may more f OutOfMemory h = tt
 
@@ -47,6 +48,7 @@ bad_start folder name bytes is BadCommand h = absurd h
 bad_start folder name bytes is (Refused refusal) h = subst (MayRefuseCapture folder) (sym h.2) (inl is, (bytes, inl h.1.0))
 bad_start folder name bytes is (Differs finding) h = absurd h
 bad_start folder name bytes is (NotDone cause) h = absurd h
+bad_start folder name bytes is (NotSent cause) h = absurd h
 bad_start folder name bytes is DeviceFault h = tt
 bad_start folder name bytes is OutOfMemory h = tt
 
@@ -64,6 +66,7 @@ bad_among version known names place session name bytes within is BadCommand h = 
 bad_among version known names place session name bytes within is (Refused refusal) h = subst (RefusesOne names) (sym h.2) ((place, within, is), (bytes, inr (session, version, known, h.1.0)))
 bad_among version known names place session name bytes within is (Differs finding) h = absurd h
 bad_among version known names place session name bytes within is (NotDone cause) h = absurd h
+bad_among version known names place session name bytes within is (NotSent cause) h = absurd h
 bad_among version known names place session name bytes within is DeviceFault h = tt
 bad_among version known names place session name bytes within is OutOfMemory h = tt
 
@@ -106,6 +109,7 @@ tested folder start lists BadCommand h = absurd h
 tested folder start lists (Refused refusal) h = let found = legal_refused start (verdict start lists) refusal h in subst (MayRefuseCapture folder) (sym found.2) (start, lists, found.1)
 tested folder start lists (Differs finding) h = absurd h
 tested folder start lists (NotDone cause) h = absurd h
+tested folder start lists (NotSent cause) h = absurd h
 tested folder start lists DeviceFault h = tt
 tested folder start lists OutOfMemory h = tt
 
@@ -125,6 +129,7 @@ bad_file name bytes BadCommand h = absurd h
 bad_file name bytes (Refused refusal) h = subst (MayRefuseStart name) (sym h.2) (refl, (bytes, h.1.0))
 bad_file name bytes (Differs finding) h = absurd h
 bad_file name bytes (NotDone cause) h = absurd h
+bad_file name bytes (NotSent cause) h = absurd h
 bad_file name bytes DeviceFault h = tt
 bad_file name bytes OutOfMemory h = tt
 
@@ -144,6 +149,7 @@ bad_report name bytes BadCommand h = absurd h
 bad_report name bytes (Refused refusal) h = subst (MayRefuseReport name) (sym h.2) (refl, (bytes, h.1.0))
 bad_report name bytes (Differs finding) h = absurd h
 bad_report name bytes (NotDone cause) h = absurd h
+bad_report name bytes (NotSent cause) h = absurd h
 bad_report name bytes DeviceFault h = tt
 bad_report name bytes OutOfMemory h = tt
 
@@ -156,5 +162,6 @@ only_no_command (Some command) h (Err BadCommand) may is = absurd may
 only_no_command (Some command) h (Err (Refused refusal)) may is = absurd (cc is)
 only_no_command (Some command) h (Err (Differs finding)) may is = absurd (cc is)
 only_no_command (Some command) h (Err (NotDone cause)) may is = absurd (cc is)
+only_no_command (Some command) h (Err (NotSent cause)) may is = absurd (cc is)
 only_no_command (Some command) h (Err DeviceFault) may is = absurd (cc is)
 only_no_command (Some command) h (Err OutOfMemory) may is = absurd (cc is)

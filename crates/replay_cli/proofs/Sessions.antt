@@ -17,7 +17,7 @@ use Rattle.captured_calls.specs.Sessions.{AreSessionsFrom}
 use Rattle.prepare_plan.specs.Lists.{lists_of}
 use Rattle.replay_cli.specs.declared.failure.Refusal.TheVariants.{BadLine}
 use Rattle.replay_cli.specs.declared.failure.Failure.{Failure}
-use Rattle.replay_cli.specs.declared.failure.Failure.TheVariants.{BadCommand, Refused, Differs, NotDone, DeviceFault, OutOfMemory}
+use Rattle.replay_cli.specs.declared.failure.Failure.TheVariants.{BadCommand, Refused, Differs, NotDone, NotSent, DeviceFault, OutOfMemory}
 use Rattle.replay_cli.specs.Decision.{SessionOf}
 use Rattle.replay_cli.specs.Done.{session_files}
 use Rattle.replay_cli.specs.Inside.Steps.{FaultFree}
@@ -32,6 +32,7 @@ free_error X Y BadCommand free = absurd free
 free_error X Y (Refused refusal) free = free
 free_error X Y (Differs finding) free = absurd free
 free_error X Y (NotDone cause) free = absurd free
+free_error X Y (NotSent cause) free = absurd free
 free_error X Y DeviceFault free = absurd free
 free_error X Y OutOfMemory free = free
 

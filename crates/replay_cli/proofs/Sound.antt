@@ -25,7 +25,7 @@ use Rattle.desk_words.specs.declared.words.Command.{Command}
 use Rattle.desk_words.specs.declared.words.Command.TheVariants.{Run, Prepare, Serve, Generate, Trial, Register, Runs, Accept, Compare}
 use Rattle.desk_words.proofs.Limiting.{within_limits}
 use Rattle.replay_cli.specs.FileNames.{session_names}
-use Rattle.replay_cli.specs.Decision.{Legal, Read, ReadIn, RunIn, SessionOf, Task, ToReplay, Verdict, VerdictOf, legal_from, run_job}
+use Rattle.replay_cli.specs.Decision.{Legal, Read, ReadIn, RunIn, SessionOf, Task, ToReplay, ToSend, Verdict, VerdictOf, legal_from, run_job, run_task}
 use Rattle.replay_cli.specs.Done.{IsReplayOf}
 use Rattle.replay_cli.specs.Steps.{Reading}
 use Rattle.replay_cli.proofs.Sessions.{count_names}
@@ -83,13 +83,19 @@ legal_planned : (start : StartView) (answer : Result Planned Illegal) (legal : L
 legal_planned start (Ok planned) legal e = (planned, refl, cc (e))
 legal_planned start (Err cause) legal e = absurd (cc e)
 
-job_in : JobView → Result Task Refusal → JobView
-job_in job (Ok (ToReplay out other)) = other
-job_in job other = job
+-- the task is a replay of this job
+HasJob : JobView → Result Task Refusal → Type 0
+HasJob job (Ok (ToReplay out other)) = other ≡ job
+HasJob job (Ok (ToSend out other port)) = other ≡ job
+HasJob job other = ⊥
 
-run_sound : (files : FileMap) (capture folder out : List ℕ) (ways : Ways) (job : JobView) → HasWays ways → RunIn files capture folder ways (Ok (ToReplay out job)) → IsSoundJob job
-unfolding job_in
-run_sound files capture folder out ways job limits is =
+job_run : (job other : JobView) (out : List ℕ) (target : Option ℕ) → HasJob job (Ok (run_task out other target)) → other ≡ job
+unfolding HasJob
+job_run job other out None has = has
+job_run job other out (Some port) has = has
+
+run_sound : (files : FileMap) (capture folder : List ℕ) (ways : Ways) (task : Task) (job : JobView) → HasWays ways → RunIn files capture folder ways (Ok task) → HasJob job (Ok task) → IsSoundJob job
+run_sound files capture folder ways task job limits is has =
     let read = is.0 in
     let well = well_read files capture read is.1 in
     let remap = is.2.0 in
@@ -99,22 +105,28 @@ run_sound files capture folder out ways job limits is =
     let legal = is.2.2.2.0 in
     let planned = legal_planned read.start (verdict read.start read.sessions) legal is.2.2.2.1 in
     let sound = plan_sound_job read.start target read.sessions planned.0 remap ways.mode ways.think ways.connect well.lists well.few planned.1 well.start (sound_start target target_start) (target_of ways.change read.start target may) limits.think limits.connect in
-    subst IsSoundJob (ap (λ (l : Legal). run_job l target remap ways) planned.2 ∙ ap (job_in job) is.2.2.2.2) sound
+    subst IsSoundJob (ap (λ (l : Legal). run_job l target remap ways) planned.2 ∙ job_run job (run_job legal target remap ways) folder ways.target (subst (HasJob job) (sym is.2.2.2.2) has)) sound
 
-decided_sound : (files : FileMap) (command : Option Command) (out : List ℕ) (job : JobView) → IfSome command IsWithinLimits → VerdictOf command files (Ok (ToReplay out job)) → IsSoundJob job
-decided_sound files None out job within is = absurd (cc is)
-decided_sound files (Some (Run capture folder ways)) out job within is = run_sound files capture folder out ways job within.2 is
-decided_sound files (Some (Prepare capture folder)) out job within is = absurd (let e = is.2.2 in cc)
-decided_sound files (Some (Serve capture start connections port)) out job within is = absurd (let e = is.2 in cc)
-decided_sound files (Some (Generate n folder)) out job within is = absurd (cc is)
-decided_sound files (Some (Trial n)) out job within is = absurd (cc is)
-decided_sound files (Some (Register folder run)) out job within is = absurd (let e = is.2.2 in cc)
-decided_sound files (Some Runs) out job within is = absurd (cc is)
-decided_sound files (Some (Accept run stamp class)) out job within is = absurd (cc is)
-decided_sound files (Some (Compare base other)) out job within is = absurd (cc is)
+decided_sound : (files : FileMap) (command : Option Command) (task : Task) (job : JobView) → IfSome command IsWithinLimits → VerdictOf command files (Ok task) → HasJob job (Ok task) → IsSoundJob job
+unfolding HasJob
+decided_sound files None task job within is has = absurd (cc is)
+decided_sound files (Some (Run capture folder ways)) task job within is has = run_sound files capture folder ways task job within.2 is has
+decided_sound files (Some (Prepare capture folder)) task job within is has = absurd (subst (HasJob job) (sym is.2.2) has)
+decided_sound files (Some (Serve capture start connections port)) task job within is has = absurd (subst (HasJob job) (sym is.2) has)
+decided_sound files (Some (Generate n folder)) task job within is has = absurd (subst (HasJob job) (sym is) has)
+decided_sound files (Some (Trial n)) task job within is has = absurd (subst (HasJob job) (sym is) has)
+decided_sound files (Some (Register folder run)) task job within is has = absurd (subst (HasJob job) (sym is.2.2) has)
+decided_sound files (Some Runs) task job within is has = absurd (subst (HasJob job) (sym is) has)
+decided_sound files (Some (Accept run stamp class)) task job within is has = absurd (subst (HasJob job) (sym is) has)
+decided_sound files (Some (Compare base other)) task job within is has = absurd (subst (HasJob job) (sym is) has)
 
 pub verdict_sound : (words : List (List ℕ)) (files : FileMap) (out : List ℕ) (job : JobView) → Verdict words files (Ok (ToReplay out job)) → IsSoundJob job
-verdict_sound words files out job is = decided_sound files (command_of words) out job (within_limits words) is
+unfolding HasJob
+verdict_sound words files out job is = decided_sound files (command_of words) (ToReplay out job) job (within_limits words) is refl
+
+pub sent_sound : (words : List (List ℕ)) (files : FileMap) (out : List ℕ) (job : JobView) (port : ℕ) → Verdict words files (Ok (ToSend out job port)) → IsSoundJob job
+unfolding HasJob
+sent_sound words files out job port is = decided_sound files (command_of words) (ToSend out job port) job (within_limits words) is refl
 
 -- a replay of a sound job is one in the words of jobs
 pub is_replay : (job : JobView) (history : List Event) (last : Stage) → IsSoundJob job → IsReplayOf job history last → IsReplay job history last

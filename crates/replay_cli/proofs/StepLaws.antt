@@ -4,7 +4,7 @@ use Rattle.std.proofs.Math.Seq.{drop-cons}
 use Rattle.desk_files.specs.Outside.{FileMap, Told}
 use Rattle.replay_cli.specs.declared.failure.Refusal.{Refusal}
 use Rattle.replay_cli.specs.declared.failure.Failure.{Failure}
-use Rattle.replay_cli.specs.declared.failure.Failure.TheVariants.{BadCommand, Refused, Differs, NotDone, DeviceFault, OutOfMemory}
+use Rattle.replay_cli.specs.declared.failure.Failure.TheVariants.{BadCommand, Refused, Differs, NotDone, NotSent, DeviceFault, OutOfMemory}
 use Rattle.replay_cli.specs.Steps.{Is, Reading, Then, file_in}
 use Rattle.replay_cli.specs.Inside.Steps.{Answered, Faults, FailedAt, FaultFree, Step, Stops}
 use Rattle.desk_files.proofs.WriteLaws.{told}
@@ -25,6 +25,7 @@ stops_here want next BadCommand h = absurd h
 stops_here want next (Refused refusal) h = inl h
 stops_here want next (Differs finding) h = absurd h
 stops_here want next (NotDone cause) h = absurd h
+stops_here want next (NotSent cause) h = absurd h
 stops_here want next DeviceFault h = tt
 stops_here want next OutOfMemory h = tt
 
@@ -33,6 +34,7 @@ stops_then want next x BadCommand is h = absurd h
 stops_then want next x (Refused refusal) is h = inr (x, is, h)
 stops_then want next x (Differs finding) is h = absurd h
 stops_then want next x (NotDone cause) is h = absurd h
+stops_then want next x (NotSent cause) is h = absurd h
 stops_then want next x DeviceFault is h = tt
 stops_then want next x OutOfMemory is h = tt
 
@@ -69,6 +71,7 @@ step_pure want c f result h free = record { says = told c (λ files u. h files) 
   faults (Err (Refused refusal)) free = refl
   faults (Err (Differs finding)) free = absurd free
   faults (Err (NotDone cause)) free = absurd free
+  faults (Err (NotSent cause)) free = absurd free
   faults (Err DeviceFault) free = absurd free
   faults (Err OutOfMemory) free = refl
 
@@ -99,6 +102,7 @@ module _ {X : Type 0} (parsed : ℕ → List ℕ → List ℕ → Result X Refus
   stop_at (Refused refusal) h = from_name (Err refusal) (inl h)
   stop_at (Differs finding) h = absurd h
   stop_at (NotDone cause) h = absurd h
+  stop_at (NotSent cause) h = absurd h
   stop_at DeviceFault h = tt
   stop_at OutOfMemory h = tt
 
@@ -129,6 +133,7 @@ module _ {X : Type 0} (parsed : ℕ → List ℕ → List ℕ → Result X Refus
     unfailed (Refused refusal) free e = e
     unfailed (Differs finding) free e = absurd free
     unfailed (NotDone cause) free e = absurd free
+    unfailed (NotSent cause) free e = absurd free
     unfailed DeviceFault free e = absurd free
     unfailed OutOfMemory free e = e
 

@@ -7,7 +7,7 @@ use Rattle.replay_cli.specs.declared.failure.Failure.{Failure}
 use Rattle.replay_cli.specs.declared.failure.Refusal.{Refusal}
 use Rattle.desk_words.specs.declared.ways.Ways.{Ways}
 use Rattle.desk_schema.specs.Start.{StartView}
-use Rattle.replay_cli.specs.Decision.{PrepareIn, Read, ReadIn, RemapIn, RunIn, TargetIn, Task, ToReplay, ToTell, legal_from, run_job}
+use Rattle.replay_cli.specs.Decision.{PrepareIn, Read, ReadIn, RemapIn, RunIn, TargetIn, Task, ToTell, legal_from, run_job, run_task}
 use Rattle.replay_cli.specs.Steps.{Is, Then}
 use Rattle.replay_cli.specs.Inside.Steps.{Answered, FaultFree, Step}
 use Rattle.replay_cli.proofs.StepLaws.{step_pure, step_stops, step_then}
@@ -23,7 +23,7 @@ module _ (capture out : List ℕ) (read : Read) (c0 c1 : Option FileMap) (f0 f1 
   module _ (ways : Ways) where
     -- what was read is tested and replayed so
     abbrev Tested : Read → List ServicePair → StartView → Result Task Refusal → Type 0
-    Tested r remap target = Then (Is (legal_from r.start (verdict r.start r.sessions))) (λ legal. Is (Ok (ToReplay out (run_job legal target remap ways))))
+    Tested r remap target = Then (Is (legal_from r.start (verdict r.start r.sessions))) (λ legal. Is (Ok (run_task out (run_job legal target remap ways) ways.target)))
 
     abbrev Changed : FileMap → Read → List ServicePair → Result Task Refusal → Type 0
     Changed files r remap = Then (TargetIn files r.start ways.change) (Tested r remap)

@@ -7,11 +7,11 @@ use Rattle.desk_words.specs.declared.words.Command.TheVariants.{Run, Prepare, Se
 use Rattle.capture_serve.specs.declared.failing.Finding.{Finding}
 use Rattle.capture_serve.specs.Service.{HasGivenBackAll}
 use Rattle.replay_cli.specs.declared.failure.Failure.{Failure}
-use Rattle.replay_cli.specs.declared.failure.Failure.TheVariants.{BadCommand, Refused, Differs, NotDone, DeviceFault, OutOfMemory}
+use Rattle.replay_cli.specs.declared.failure.Failure.TheVariants.{BadCommand, Refused, Differs, NotDone, NotSent, DeviceFault, OutOfMemory}
 use Rattle.replay_cli.specs.declared.plan.Plan.{Plan}
 use Rattle.register_work.specs.declared.errand.Errand.{Errand}
 use Rattle.register_work.specs.declared.unkept.Unkept.{Unkept}
-use Rattle.replay_cli.specs.Decision.{IsErrandOf, IsTaskOf, MayBeRefused, Task, ToKeep, ToMake, ToReplay, ToServe, ToTell, ToTry}
+use Rattle.replay_cli.specs.Decision.{IsErrandOf, IsTaskOf, MayBeRefused, Task, ToKeep, ToMake, ToReplay, ToSend, ToServe, ToTell, ToTry}
 use Rattle.replay_cli.specs.Done.{IsDone}
 use Rattle.replay_cli.specs.Hosting.{HasKept, Hosting, IsUnasked}
 use Rattle.replay_cli.specs.Ending.{IsCauseOf, IsFoundOf, MayAsk, MayComeTo, MayDiffer}
@@ -31,6 +31,7 @@ kept_writing (ToReplay out job) h plan done some = kept_unasked h done.1
 kept_writing (ToTell out facts) h plan done some = kept_unasked h done.1
 kept_writing (ToMake n out) h plan done some = kept_unasked h done.1
 kept_writing (ToTry n) h plan done some = kept_unasked h done.1
+kept_writing (ToSend out job port) h plan done some = (done.2.runs, done.2.divergences)
 
 -- the command is one of these words
 told_of : (found : Option Command) (command : Command) (h : Hosting) (done : Result Plan Failure) → found ≡ Some command → MayComeTo (Some command) h done → MayComeTo found h done
@@ -41,18 +42,20 @@ refused_told command h BadCommand unasked may = absurd may
 refused_told command h (Refused refusal) unasked may = (may, unasked)
 refused_told command h (Differs finding) unasked may = absurd may
 refused_told command h (NotDone cause) unasked may = absurd may
+refused_told command h (NotSent cause) unasked may = absurd may
 refused_told command h DeviceFault unasked may = kept_unasked h unasked
 refused_told command h OutOfMemory unasked may = kept_unasked h unasked
 
 differs_told : (command : Command) (task : Task) (finding : Finding) (h : Hosting) → IsTaskOf command task → IsFoundOf task finding h → MayDiffer command finding h
 differs_told command (ToReplay out job) finding h is found = absurd found
+differs_told command (ToSend out job port) finding h is found = absurd found
 differs_told command (ToTell out facts) finding h is found = absurd found
 differs_told command (ToMake n out) finding h is found = absurd found
 differs_told command (ToTry n) finding h is found = absurd found
 differs_told command (ToKeep errand) finding h is found = absurd found
 differs_told (Run capture out ways) (ToServe folder start most port) finding h is found = absurd is
 differs_told (Prepare capture out) (ToServe folder start most port) finding h is found = absurd is
-differs_told (Serve capture name connections door) (ToServe folder start most port) finding h is found = ((start, found.0), subst (λ (n : ℕ). HasGivenBackAll n h.before h.after) is.1 found.1, found.2)
+differs_told (Serve capture name connections door) (ToServe folder start most port) finding h is found = ((start, found.0), subst (λ (n : ℕ). HasGivenBackAll n h.before h.after) is.1 found.1, found.2, found.3)
 differs_told (Generate n out) (ToServe folder start most port) finding h is found = absurd is
 differs_told (Trial n) (ToServe folder start most port) finding h is found = absurd is
 differs_told (Register out run) (ToServe folder start most port) finding h is found = absurd is
@@ -73,6 +76,7 @@ errand_of (Compare base other) errand is = is
 
 cause_told : (command : Command) (task : Task) (cause : Unkept) (h : Hosting) → IsTaskOf command task → IsCauseOf task cause h → MayComeTo (Some command) h (Err (NotDone cause))
 cause_told command (ToReplay out job) cause h is caused = absurd caused
+cause_told command (ToSend out job port) cause h is caused = absurd caused
 cause_told command (ToTell out facts) cause h is caused = absurd caused
 cause_told command (ToServe folder start most port) cause h is caused = absurd caused
 cause_told command (ToMake n out) cause h is caused = absurd caused
@@ -84,8 +88,9 @@ failed_told command task h BadCommand is fails = absurd fails
 failed_told command task h (Refused refusal) is fails = absurd fails
 failed_told command task h (Differs finding) is fails = differs_told command task finding h is fails
 failed_told command task h (NotDone cause) is fails = cause_told command task cause h is fails
-failed_told command task h DeviceFault is fails = fails
-failed_told command task h OutOfMemory is fails = fails
+failed_told command task h (NotSent cause) is fails = (task, is, fails)
+failed_told command task h DeviceFault is fails = fails.0
+failed_told command task h OutOfMemory is fails = fails.0
 
 pub told_refused : (found : Option Command) (command : Command) (h : Hosting) (failure : Failure) → found ≡ Some command → IsUnasked h → MayFail (MayBeRefused command) failure → MayComeTo found h (Err failure)
 told_refused found command h failure is unasked may = told_of found command h (Err failure) is (refused_told command h failure unasked may)
@@ -107,22 +112,31 @@ pub told_short : (found : Option Command) (h : Hosting) → IsUnasked h → MayC
 told_short None h unasked = (inr refl, unasked)
 told_short (Some command) h unasked = kept_unasked h unasked
 
--- ---- who asks the host and the keeper
+-- ---- who asks the host, the keeper and the dial
 
 pub unasked_may : (found : Option Command) (h : Hosting) → IsUnasked h → MayAsk found h
 unasked_may None h unasked = unasked
-unasked_may (Some (Run capture out ways)) h unasked = unasked
+unasked_may (Some (Run capture out ways)) h unasked = (unasked.0, unasked.1, λ own. unasked.2)
 unasked_may (Some (Prepare capture out)) h unasked = unasked
-unasked_may (Some (Serve capture start connections port)) h unasked = unasked.1
+unasked_may (Some (Serve capture start connections port)) h unasked = (unasked.1, unasked.2)
 unasked_may (Some (Generate n out)) h unasked = unasked
 unasked_may (Some (Trial n)) h unasked = unasked
-unasked_may (Some (Register out run)) h unasked = unasked.0
-unasked_may (Some Runs) h unasked = unasked.0
-unasked_may (Some (Accept run stamp class)) h unasked = unasked.0
-unasked_may (Some (Compare base other)) h unasked = unasked.0
+unasked_may (Some (Register out run)) h unasked = (unasked.0, unasked.2)
+unasked_may (Some Runs) h unasked = (unasked.0, unasked.2)
+unasked_may (Some (Accept run stamp class)) h unasked = (unasked.0, unasked.2)
+unasked_may (Some (Compare base other)) h unasked = (unasked.0, unasked.2)
 
 task_may : (command : Command) (task : Task) (h : Hosting) → IsTaskOf command task → AsksFor task h → MayAsk (Some command) h
 task_may command (ToReplay out job) h is asks = unasked_may (Some command) h asks
+task_may (Run capture out ways) (ToSend folder job port) h is asks = (asks.0, asks.1, λ own. absurd (cc (is.1, own)))
+task_may (Prepare capture out) (ToSend folder job port) h is asks = absurd is
+task_may (Serve capture name connections door) (ToSend folder job port) h is asks = absurd is
+task_may (Generate n out) (ToSend folder job port) h is asks = absurd is
+task_may (Trial n) (ToSend folder job port) h is asks = absurd is
+task_may (Register out run) (ToSend folder job port) h is asks = absurd is
+task_may Runs (ToSend folder job port) h is asks = absurd is
+task_may (Accept run stamp class) (ToSend folder job port) h is asks = absurd is
+task_may (Compare base other) (ToSend folder job port) h is asks = absurd is
 task_may command (ToTell out facts) h is asks = unasked_may (Some command) h asks
 task_may command (ToMake n out) h is asks = unasked_may (Some command) h asks
 task_may command (ToTry n) h is asks = unasked_may (Some command) h asks

@@ -20,7 +20,7 @@ use Rattle.replay_cli.specs.Limits.{capture_limit}
 use Rattle.replay_cli.specs.declared.failure.Refusal.{Refusal}
 use Rattle.replay_cli.specs.declared.failure.Refusal.TheVariants.{BadChange, BadLine, BadReport}
 use Rattle.replay_cli.specs.declared.failure.Failure.{Failure}
-use Rattle.replay_cli.specs.declared.failure.Failure.TheVariants.{BadCommand, Refused, Differs, NotDone, DeviceFault, OutOfMemory}
+use Rattle.replay_cli.specs.declared.failure.Failure.TheVariants.{BadCommand, Refused, Differs, NotDone, NotSent, DeviceFault, OutOfMemory}
 use Rattle.desk_words.specs.declared.words.Command.{Command}
 use Rattle.desk_words.specs.declared.words.Command.TheVariants.{Run, Prepare, Serve, Generate, Trial, Register, Runs, Accept, Compare}
 use Rattle.desk_words.specs.Command.{command_of}
@@ -28,7 +28,7 @@ use Rattle.replay_cli.specs.FileNames.{report_name, session_names, start_name}
 use Rattle.desk_files.specs.Limits.{file_limit}
 use Rattle.remap_ids.specs.Services.{ServicePair, services_of}
 use Rattle.desk_words.specs.declared.ways.Ways.{Ways}
-use Rattle.replay_cli.specs.Decision.{Decides, Failing, Legal, OpenedIn, PrepareIn, Read, ReadIn, Reads, RegisterIn, RemapIn, ReportOf, RunIn, ServeIn, SessionOf, StartIn, StartOf, TargetIn, TargetOf, Task, ToKeep, ToMake, ToReplay, ToServe, ToTell, ToTry, Verdict, VerdictOf, legal_from, remap_of, run_job}
+use Rattle.replay_cli.specs.Decision.{Decides, Failing, Legal, OpenedIn, PrepareIn, Read, ReadIn, Reads, RegisterIn, RemapIn, ReportOf, RunIn, ServeIn, SessionOf, StartIn, StartOf, TargetIn, TargetOf, Task, ToKeep, ToMake, ToServe, ToTell, ToTry, Verdict, VerdictOf, legal_from, remap_of, run_job, run_task}
 use Rattle.replay_cli.specs.Steps.{Is, Reading, Then, file_in}
 
 abbrev pub IsOne : {X : Type 0} → (Result X Refusal → Type 0) → Type 0
@@ -133,7 +133,7 @@ target_one files start (Some name) =
 module _ (files : FileMap) (capture out : List ℕ) where
   module _ (ways : Ways) where
     abbrev replayed_of : List ServicePair → StartView → Legal → Result Task Refusal → Type 0
-    replayed_of remap target legal = Is (Ok (ToReplay out (run_job legal target remap ways)))
+    replayed_of remap target legal = Is (Ok (run_task out (run_job legal target remap ways) ways.target))
 
     abbrev changed_of : Read → List ServicePair → StartView → Result Task Refusal → Type 0
     changed_of read remap target = Then (Is (legal_from read.start (verdict read.start read.sessions))) (replayed_of remap target)
@@ -148,7 +148,7 @@ module _ (files : FileMap) (capture out : List ℕ) where
     run_one = then_one (ReadIn files capture) run_of (read_one files capture) (λ read is.
         then_one (RemapIn files ways.remap) (remapped_of read) (remap_one files ways.remap) (λ remap named.
         then_one (TargetIn files read.start ways.change) (changed_of read remap) (target_one files read.start ways.change) (λ target changes.
-        then_one (Is (legal_from read.start (verdict read.start read.sessions))) (replayed_of remap target) (legal_one read.start read.sessions) (λ legal tested. is_one (Ok (ToReplay out (run_job legal target remap ways)))))))
+        then_one (Is (legal_from read.start (verdict read.start read.sessions))) (replayed_of remap target) (legal_one read.start read.sessions) (λ legal tested. is_one (Ok (run_task out (run_job legal target remap ways) ways.target))))))
 
   abbrev told_of : Legal → Result Task Refusal → Type 0
   told_of legal = Is (Ok (ToTell out legal.facts))
@@ -198,16 +198,19 @@ failing_one want one (Err (Refused r)) (Err (Refused s)) h k = ap failed_of (one
 failing_one want one (Ok x) (Err BadCommand) h k = absurd k
 failing_one want one (Ok x) (Err (Differs finding)) h k = absurd k
 failing_one want one (Ok x) (Err (NotDone cause)) h k = absurd k
+failing_one want one (Ok x) (Err (NotSent cause)) h k = absurd k
 failing_one want one (Ok x) (Err DeviceFault) h k = absurd k
 failing_one want one (Ok x) (Err OutOfMemory) h k = absurd k
 failing_one want one (Err (Refused r)) (Err BadCommand) h k = absurd k
 failing_one want one (Err (Refused r)) (Err (Differs finding)) h k = absurd k
 failing_one want one (Err (Refused r)) (Err (NotDone cause)) h k = absurd k
+failing_one want one (Err (Refused r)) (Err (NotSent cause)) h k = absurd k
 failing_one want one (Err (Refused r)) (Err DeviceFault) h k = absurd k
 failing_one want one (Err (Refused r)) (Err OutOfMemory) h k = absurd k
 failing_one want one (Err BadCommand) b h k = absurd h
 failing_one want one (Err (Differs finding)) b h k = absurd h
 failing_one want one (Err (NotDone cause)) b h k = absurd h
+failing_one want one (Err (NotSent cause)) b h k = absurd h
 failing_one want one (Err DeviceFault) b h k = absurd h
 failing_one want one (Err OutOfMemory) b h k = absurd h
 

@@ -19,7 +19,7 @@ use Rattle.replay_cli.specs.Limits.{capture_limit}
 use Rattle.replay_cli.specs.declared.failure.Refusal.{Refusal}
 use Rattle.replay_cli.specs.declared.failure.Refusal.TheVariants.{Missing, TooLong, BadLine, BadReport, BadRemap, BadChange, NotLegal}
 use Rattle.replay_cli.specs.declared.failure.Failure.{Failure}
-use Rattle.replay_cli.specs.declared.failure.Failure.TheVariants.{BadCommand, Refused, Differs, NotDone, DeviceFault, OutOfMemory}
+use Rattle.replay_cli.specs.declared.failure.Failure.TheVariants.{BadCommand, Refused, Differs, NotDone, NotSent, DeviceFault, OutOfMemory}
 use Rattle.desk_words.specs.declared.words.Command.{Command}
 use Rattle.desk_words.specs.declared.words.Command.TheVariants.{Run, Prepare, Serve, Generate, Trial, Register, Runs, Accept, Compare}
 use Rattle.remap_ids.specs.Services.{ServicePair, services_of}
@@ -129,6 +129,8 @@ ReportOf name bytes = Reads (BadReport name) (IsReport bytes) (IsBadReport bytes
 -- what is to be done, and what it takes
 pub data Task : Type 0 where
   ToReplay : List ℕ → JobView → Task
+  -- against the server at this port
+  ToSend : List ℕ → JobView → ℕ → Task
   ToTell : List ℕ → List Fact → Task
   -- into this folder, from this start, at most so many connections at this port
   ToServe : List ℕ → StartView → ℕ → ℕ → Task
@@ -141,6 +143,11 @@ pub data Task : Type 0 where
 abbrev pub run_job : Legal → StartView → List ServicePair → Ways → JobView
 run_job legal target remap ways = job_of legal.start target (record { calls = legal.calls; facts = legal.facts }) remap ways.mode ways.think ways.connect
 
+-- on the desk's own server, or against one at a port
+abbrev pub run_task : List ℕ → JobView → Option ℕ → Task
+run_task out job None = ToReplay out job
+run_task out job (Some port) = ToSend out job port
+
 -- the steps of a run: the files of the capture, the remap file, the change file, the test of the capture
 abbrev pub RunIn : FileMap → List ℕ → List ℕ → Ways → Result Task Refusal → Type 0
 RunIn files capture out ways =
@@ -148,7 +155,7 @@ RunIn files capture out ways =
     Then (RemapIn files ways.remap) (λ remap.
     Then (TargetIn files read.start ways.change) (λ target.
     Then (Is (legal_from read.start (verdict read.start read.sessions))) (λ legal.
-    Is (Ok (ToReplay out (run_job legal target remap ways)))))))
+    Is (Ok (run_task out (run_job legal target remap ways) ways.target))))))
 
 abbrev pub PrepareIn : FileMap → List ℕ → List ℕ → Result Task Refusal → Type 0
 PrepareIn files capture out =
@@ -256,10 +263,14 @@ IsErrandOf command other = ⊥
 abbrev pub MayBeTaken : Legal → Type 0
 MayBeTaken legal = (start : StartView) × (lists : List (List Captured)) × (legal_from start (verdict start lists) ≡ Ok legal)
 
--- the task is one of this command: a replay of some capture that the tests take, in these ways on what it may run on, into this folder,
--- and so on
+-- the job is a replay of some capture that the tests take, in these ways on what it may run on
+abbrev pub IsRunOf : Ways → JobView → Type 0
+IsRunOf ways job = (legal : Legal) × (target : StartView) × (remap : List ServicePair) × MayBeTaken legal × MayRunOn ways.change legal.start target × MaySend ways.remap remap × (job ≡ run_job legal target remap ways)
+
+-- the task is one of this command: such a replay, into this folder, and so on
 abbrev pub IsTaskOf : Command → Task → Type 0
-IsTaskOf (Run capture out ways) (ToReplay folder job) = (folder ≡ out) × ((legal : Legal) × (target : StartView) × (remap : List ServicePair) × MayBeTaken legal × MayRunOn ways.change legal.start target × MaySend ways.remap remap × (job ≡ run_job legal target remap ways))
+IsTaskOf (Run capture out ways) (ToReplay folder job) = (folder ≡ out) × (ways.target ≡ None) × IsRunOf ways job
+IsTaskOf (Run capture out ways) (ToSend folder job port) = (folder ≡ out) × (ways.target ≡ Some port) × IsRunOf ways job
 IsTaskOf (Prepare capture out) (ToTell folder facts) = (folder ≡ out) × ((legal : Legal) × MayBeTaken legal × (facts ≡ legal.facts))
 IsTaskOf (Serve capture start connections port) (ToServe folder begins most door) = (folder ≡ capture) × (most ≡ connections) × (door ≡ port)
 IsTaskOf (Generate n out) (ToMake calls folder) = (calls ≡ n) × (folder ≡ out)
@@ -279,6 +290,7 @@ Failing want (Err BadCommand) = ⊥
 Failing want (Err (Refused refusal)) = want (Err refusal)
 Failing want (Err (Differs finding)) = ⊥
 Failing want (Err (NotDone cause)) = ⊥
+Failing want (Err (NotSent cause)) = ⊥
 Failing want (Err DeviceFault) = ⊥
 Failing want (Err OutOfMemory) = ⊥
 

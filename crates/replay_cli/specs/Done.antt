@@ -1,5 +1,5 @@
 -- What each task comes to: its files and its line.
-use Rattle.std.specs.Prelude.{◌≡◌, ℕ, ◌+◌, false, nat_lt, List, [], ◌∷◌, ◌++◌, length, Option, None, Some}
+use Rattle.std.specs.Prelude.{◌≡◌, ℕ, ◌+◌, false, nat_lt, List, [], ◌∷◌, ◌++◌, drop, length, map, Option, None, Some}
 use Rattle.std.specs.List.{AllByRecursion}
 use Rattle.desk_values.specs.declared.capture.Captured.{Captured}
 use Rattle.desk_values.specs.declared.capture.Event.{Event}
@@ -17,7 +17,7 @@ use Rattle.remap_ids.specs.MapsText.{maps_text}
 use Rattle.replay_job.specs.Events.{IsEvent}
 use Rattle.replay_job.specs.Job.{HasMoments, JobView}
 use Rattle.replay_job.specs.Runs.{IsCompleteFor, Stage, end_tables, learnt_in}
-use Rattle.replay_report.specs.Report.{report_in}
+use Rattle.replay_report.specs.Report.{heard_report_in, report_in}
 use Rattle.replay_report.specs.Differences.{csv_text}
 use Rattle.fence_law.specs.Plain.{ArePlainReads}
 use Rattle.fence_law.specs.Text.{fence_text}
@@ -28,14 +28,21 @@ use Rattle.capture_recorder.specs.Generated.{generated}
 use Rattle.captured_calls.specs.Sessions.{session_lists}
 use Rattle.replay_cli.specs.declared.plan.Plan.{Plan}
 use Rattle.replay_cli.specs.declared.told.Told.{Told}
-use Rattle.replay_cli.specs.Decision.{Task, ToReplay, ToTell, ToServe, ToMake, ToTry, ToKeep}
+use Rattle.replay_cli.specs.Decision.{Task, ToReplay, ToSend, ToTell, ToServe, ToMake, ToTry, ToKeep}
 use Rattle.desk_files.specs.Hosts.{Connections}
+use Rattle.desk_files.specs.Outside.{Told as WhereTold}
+use Rattle.remap_ids.specs.IdMap.{start_pairs}
+use Rattle.replay_history.specs.History.{AnswersAll}
+use Rattle.replay_lanes.specs.Sessions.{sessions}
+use Rattle.remote_desk.specs.declared.event.RemoteEvent.{RemoteEvent}
+use Rattle.remote_desk.specs.History.{IsRemoteHistory, pairs_behind, plain}
+use Rattle.remote_desk.specs.Said.{said_in}
 use Rattle.capture_serve.specs.Service.{AreReadFrom, CaptureView, IsService}
 use Rattle.replay_cli.specs.Lines.{generated_line, prepared_line, replayed_line, served_line, trial_line}
 use Rattle.register_work.specs.declared.errand.Errand.{Errand}
 use Rattle.register_work.specs.Errand.{IsAnswered}
 use Rattle.register_work.specs.Keeping.{Keeping}
-use Rattle.replay_cli.specs.Hosting.{Hosting, IsHostUnasked, IsKeeperUntouched, IsUnasked}
+use Rattle.replay_cli.specs.Hosting.{Dialling, Hosting, IsDialUnasked, IsHostUnasked, IsKeeperUntouched, IsUnasked}
 use Rattle.replay_job.specs.Jobs.{job_of}
 use Rattle.replay_cli.specs.FileNames.{causes_name, fence_name, journal_name, maps_name, report_name, requires_name, session_name, start_name, table_of_report_name, tables_name}
 
@@ -77,6 +84,14 @@ told_files out told = fence_files out told.reads ++ record { name = causes_name 
 
 abbrev pub replayed_files : List ℕ → JobView → List Event → Stage → Told → List Write
 replayed_files out job history last told = history_files out job history last ++ told_files out told
+
+-- of a replay against another server there are no tables to tell
+abbrev pub sent_files : List ℕ → JobView → List RemoteEvent → List Write
+sent_files out job events =
+    record { name = journal_name out; bytes = journal_text job.mode (plain events) }
+    ∷ record { name = report_name out; bytes = report_text (heard_report_in job (plain events)) }
+    ∷ record { name = table_of_report_name out; bytes = csv_text job.calls (plain events) (heard_report_in job (plain events)).lines }
+    ∷ record { name = maps_name out; bytes = maps_text (drop (length (start_pairs job.start)) (pairs_behind job events)) } ∷ []
 
 -- the files of sessions from this number on, of this version
 abbrev pub session_files : List ℕ → ℕ → ℕ → List (List Captured) → List Write
@@ -122,6 +137,19 @@ pub record IsWritten (out : List ℕ) (job : JobView) (history : List Event) (la
 abbrev pub IsDoneBy : List ℕ → JobView → Plan → List Event → Stage → Type 0
 IsDoneBy out job plan history last = IsReplayOf job history last × IsReported job history plan × IsWritten out job history last plan.writes
 
+-- The history is a legal one of the captured calls with the replies that came, each call was sent once, and the report names just
+-- the calls that differ. On each line that was given back stands what was sent in its session, with what came back.
+pub record IsSent (out : List ℕ) (job : JobView) (plan : Plan) (dial : Dialling) : Type 0 where
+  pub events : List RemoteEvent
+  pub history : IsRemoteHistory job events
+  pub whole : AnswersAll job.calls (plain events)
+  pub texts : AllByRecursion IsEvent (plain events)
+  pub line : plan.line ≡ replayed_line (length job.calls) (length (heard_report_in job (plain events)).lines)
+  pub differs : plan.differs ≡ nat_lt 0 (length (heard_report_in job (plain events)).lines)
+  pub writes : plan.writes ≡ sent_files out job events
+  pub lines : WhereTold dial.before (λ told. dial.after ≡ Some (told ++ map (said_in job.calls events) (sessions job.calls)))
+  pub faultless : dial.faults_after ≡ dial.faults_before
+
 -- the job of replaying calls as they are: from their own start, in their order and without pauses
 abbrev pub trial_job : StartView → List Captured → JobView
 trial_job start calls = job_of start start (record { calls = calls; facts = facts_of start.schema calls }) [] Order 0 0
@@ -148,11 +176,12 @@ pub record IsServed (out : List ℕ) (start : StartView) (most : ℕ) (plan : Pl
 abbrev pub IsKept : Errand → Keeping → Plan → Type 0
 IsKept errand k plan = IsAnswered errand k (record { text = plan.line; news = plan.differs }) × (plan.writes ≡ [])
 
--- the files and the line that a task may end with which asks neither the host nor the keeper
+-- the files and the line that a task may end with which asks neither the host nor the keeper nor the dial
 abbrev pub IsDoneAlone : Task → Plan → Type 0
 IsDoneAlone (ToReplay out job) plan = (history : List Event) × (last : Stage) × IsDoneBy out job plan history last
 IsDoneAlone (ToTell out facts) plan =
     (plan.line ≡ prepared_line (length facts)) × IsQuiet plan × (plan.writes ≡ record { name = requires_name out; bytes = requires_text facts } ∷ [])
+IsDoneAlone (ToSend out job port) plan = ⊥
 IsDoneAlone (ToServe out start most port) plan = ⊥
 IsDoneAlone (ToKeep errand) plan = ⊥
 IsDoneAlone (ToMake n out) plan = (plan.line ≡ generated_line n) × IsQuiet plan × (plan.writes ≡ made_files out n)
@@ -160,8 +189,9 @@ IsDoneAlone (ToTry n) plan =
     (plan.line ≡ trial_line n (length (made_calls n)) (commits_in (made_calls n)))
     × IsTried (made_start n) (made_calls n) × IsQuiet plan × (plan.writes ≡ [])
 
--- the files and the line that a task may end with, and what it leaves of the host and of the keeper
+-- the files and the line that a task may end with, and what it leaves of the host, of the keeper and of the dial
 abbrev pub IsDone : Task → Plan → Hosting → Type 0
-IsDone (ToServe out start most port) plan h = IsServed out start most plan h.before h.after × IsKeeperUntouched h
-IsDone (ToKeep errand) plan h = IsKept errand h.keeper plan × IsHostUnasked h
+IsDone (ToSend out job port) plan h = IsSent out job plan h.dial × IsHostUnasked h × IsKeeperUntouched h
+IsDone (ToServe out start most port) plan h = IsServed out start most plan h.before h.after × IsKeeperUntouched h × IsDialUnasked h
+IsDone (ToKeep errand) plan h = IsKept errand h.keeper plan × IsHostUnasked h × IsDialUnasked h
 IsDone task plan h = IsDoneAlone task plan × IsUnasked h

@@ -1,35 +1,42 @@
 -- How a command ends: its status, its line and its files.
-use Rattle.std.specs.Prelude.{◌≡◌, ◌≢◌, ℕ, ◌≤◌, ◌⊎◌, List, Option, None, Some, IsErr, IsErrOf, IsNone, Result, Ok, Err}
+use Rattle.std.specs.Prelude.{◌≡◌, ◌≢◌, ℕ, ◌≤◌, ◌⊎◌, List, Option, None, Some, IsErr, IsErrOf, IsNone, Result, Ok, Err, ⊤}
 use Rattle.desk_files.specs.Outside.{Appends, AppendsPart, FileMap, HasRisen}
 use Rattle.desk_files.specs.Writes.{CutShort, WrittenSoFar, with_all}
 use Rattle.desk_schema.specs.Start.{StartView}
 use Rattle.desk_words.specs.declared.words.Command.{Command}
-use Rattle.desk_words.specs.declared.words.Command.TheVariants.{Serve, Register, Runs, Accept, Compare}
+use Rattle.desk_words.specs.declared.words.Command.TheVariants.{Run, Serve, Register, Runs, Accept, Compare}
 use Rattle.desk_words.specs.Command.{command_of}
 use Rattle.capture_serve.specs.declared.failing.Finding.{Finding}
 use Rattle.capture_serve.specs.Failing.{IsFinding}
 use Rattle.capture_serve.specs.Service.{HasGivenBackAll}
 use Rattle.replay_cli.specs.declared.failure.Failure.{Failure}
-use Rattle.replay_cli.specs.declared.failure.Failure.TheVariants.{BadCommand, Refused, Differs, NotDone, DeviceFault, OutOfMemory}
+use Rattle.replay_cli.specs.declared.failure.Failure.TheVariants.{BadCommand, Refused, Differs, NotDone, NotSent, DeviceFault, OutOfMemory}
 use Rattle.replay_cli.specs.declared.plan.Plan.{Plan}
 use Rattle.register_work.specs.declared.errand.Errand.{Errand}
 use Rattle.register_work.specs.declared.unkept.Unkept.{Unkept}
 use Rattle.register_work.specs.Errand.{IsCause}
 use Rattle.register_work.specs.Lines.{unkept_line, unkept_status}
-use Rattle.replay_cli.specs.Decision.{IsErrandOf, IsTaskOf, MayBeRefused, Task, ToKeep, ToServe}
-use Rattle.replay_cli.specs.Hosting.{HasKept, HasNoFault, Hosting, IsHostUnasked, IsKeeperUntouched, IsUnasked}
+use Rattle.replay_cli.specs.Decision.{IsErrandOf, IsTaskOf, MayBeRefused, Task, ToKeep, ToSend, ToServe}
+use Rattle.replay_cli.specs.Hosting.{Dialling, HasKept, HasNoFault, Hosting, IsDialUnasked, IsHostUnasked, IsKeeperUntouched, IsUnasked}
 use Rattle.replay_cli.specs.Done.{IsDone}
-use Rattle.replay_cli.specs.Lines.{done_status, failure_line, failure_status, finding_line}
+use Rattle.replay_cli.specs.Lines.{done_status, failure_line, failure_status, finding_line, unsent_line, unsent_status}
+use Rattle.replay_job.specs.Job.{JobView}
+use Rattle.remote_target.specs.declared.remote_err.RemoteErr.{RemoteErr}
+use Rattle.remote_target.specs.declared.remote_err.RemoteErr.TheVariants as remote
+use Rattle.remote_target.specs.Ends.{EndsSo as EndsSent, GaveBack, IsDifference}
+use Rattle.replay_cli.specs.declared.unsent.Unsent.{Unsent}
+use Rattle.replay_cli.specs.declared.unsent.Unsent.TheVariants as unsent
 
 -- ---- who is asked
 
--- none asks the host but a command that serves, and none the keeper but those of runs
+-- none asks the host but a command that serves, none the keeper but those of runs, and none the dial but a replay with a target
 abbrev pub MayAsk : Option Command → Hosting → Type 0
-MayAsk (Some (Serve capture start connections port)) h = IsKeeperUntouched h
-MayAsk (Some (Register out run)) h = IsHostUnasked h
-MayAsk (Some Runs) h = IsHostUnasked h
-MayAsk (Some (Accept run stamp class)) h = IsHostUnasked h
-MayAsk (Some (Compare base other)) h = IsHostUnasked h
+MayAsk (Some (Run capture out ways)) h = IsHostUnasked h × IsKeeperUntouched h × (ways.target ≡ None → IsDialUnasked h)
+MayAsk (Some (Serve capture start connections port)) h = IsKeeperUntouched h × IsDialUnasked h
+MayAsk (Some (Register out run)) h = IsHostUnasked h × IsDialUnasked h
+MayAsk (Some Runs) h = IsHostUnasked h × IsDialUnasked h
+MayAsk (Some (Accept run stamp class)) h = IsHostUnasked h × IsDialUnasked h
+MayAsk (Some (Compare base other)) h = IsHostUnasked h × IsDialUnasked h
 MayAsk other h = IsUnasked h
 
 -- ---- doing the work
@@ -39,22 +46,28 @@ abbrev pub WrittenInPart : Plan → FileMap → FileMap → ℕ → ℕ → Type
 WrittenInPart plan before after faults_before faults_after =
     WrittenSoFar plan.writes before after ⊎ (CutShort plan.writes before after × HasRisen faults_before faults_after)
 
+-- a replay against another server may have dialled: of each session with a call one line at most was given back, so nothing was
+-- sent twice
+abbrev pub HasDialled : Task → Dialling → Type 0
+HasDialled (ToSend out job port) dial = GaveBack job.calls (Err remote.Memory) dial.before dial.after
+HasDialled other dial = ⊤
+
 -- what is left of a task that was not done, or not told; nothing is written where the host failed, and nothing kept where the
 -- keeper did
 abbrev pub LeftOf : Task → FileMap → FileMap → ℕ → ℕ → Hosting → Type 0
 LeftOf task before after faults_before faults_after h =
-    ((after ≡ before) × HasKept h) ⊎ ((plan : Plan) × IsDone task plan h × HasNoFault h × WrittenInPart plan before after faults_before faults_after)
+    ((after ≡ before) × HasKept h × HasDialled task h.dial) ⊎ ((plan : Plan) × IsDone task plan h × HasNoFault h × WrittenInPart plan before after faults_before faults_after)
 
 -- ---- what was served and differs
 
 -- this was found to differ of what was served for this task, and all connections were given back
 abbrev pub IsFoundOf : Task → Finding → Hosting → Type 0
-IsFoundOf (ToServe out start most port) finding h = IsFinding start finding × HasGivenBackAll most h.before h.after × IsKeeperUntouched h
+IsFoundOf (ToServe out start most port) finding h = IsFinding start finding × HasGivenBackAll most h.before h.after × IsKeeperUntouched h × IsDialUnasked h
 IsFoundOf other finding h = ⊥
 
 -- this command is one that serves, this may be found in what is served from some start, and all connections were given back
 abbrev pub MayDiffer : Command → Finding → Hosting → Type 0
-MayDiffer (Serve capture start connections port) finding h = ((begins : StartView) × IsFinding begins finding) × HasGivenBackAll connections h.before h.after × IsKeeperUntouched h
+MayDiffer (Serve capture start connections port) finding h = ((begins : StartView) × IsFinding begins finding) × HasGivenBackAll connections h.before h.after × IsKeeperUntouched h × IsDialUnasked h
 MayDiffer other finding h = ⊥
 
 -- ---- what is not done of runs
@@ -63,6 +76,33 @@ MayDiffer other finding h = ⊥
 abbrev pub IsCauseOf : Task → Unkept → Hosting → Type 0
 IsCauseOf (ToKeep errand) cause h = IsCause errand h.keeper.runs_before cause × IsUnasked h
 IsCauseOf other cause h = ⊥
+
+-- ---- what is not sent to its end
+
+-- the cause that an error of a replay against another server is told by
+abbrev pub unsent_of : RemoteErr → Option Unsent
+unsent_of remote.Link = Some unsent.Link
+unsent_of (remote.OtherJob kept) = Some unsent.Job
+unsent_of (remote.Mismatch session place kept answered) = Some (unsent.Mismatch session place kept answered)
+unsent_of remote.Memory = None
+
+-- the replay of a job against another server ended so: each line that was dialled was given back, a failure of the link comes only
+-- where the count of the dial rose, and two values that differ are told
+pub record IsUnsent (job : JobView) (cause : Unsent) (dial : Dialling) : Type 0 where
+  pub error : RemoteErr
+  pub told : unsent_of error ≡ Some cause
+  pub back : GaveBack job.calls (Err error) dial.before dial.after
+  pub ends : EndsSent (Err error) dial.faults_before dial.faults_after
+  pub differs : IsDifference job error
+
+-- this is the cause why the replay of this task came to no end
+abbrev pub IsUnsentOf : Task → Unsent → Hosting → Type 0
+IsUnsentOf (ToSend out job port) cause h = IsUnsent job cause h.dial × IsHostUnasked h × IsKeeperUntouched h
+IsUnsentOf other cause h = ⊥
+
+-- this command is a replay with a target, of some job
+abbrev pub MayBeUnsent : Command → Unsent → Hosting → Type 0
+MayBeUnsent command cause h = (task : Task) × IsTaskOf command task × IsUnsentOf task cause h
 
 -- ---- the line and the status
 
@@ -107,9 +147,14 @@ abbrev pub EndsNotDone : Task → FileMap → FileMap → Hosting → ℕ → Op
 EndsNotDone task files files_after h result before after =
     (cause : Unkept) × IsCauseOf task cause h × (files_after ≡ files) × (result ≡ unkept_status cause) × Appends (unkept_line cause) before after
 
--- The end that a verdict has: a failure has its status and its line, changes no file and asks neither host nor keeper; a task that is done has those of what it
--- came to. Or else a device failed or memory was short, and the task is done in part, or done and not told;
--- the clause `line` says more of the register.
+-- a replay against another server that came to no end has the status and the line of the cause, and changes no file
+abbrev pub EndsUnsent : Task → FileMap → FileMap → Hosting → ℕ → Option (List ℕ) → Option (List ℕ) → Type 0
+EndsUnsent task files files_after h result before after =
+    (cause : Unsent) × IsUnsentOf task cause h × (files_after ≡ files) × (result ≡ unsent_status cause) × Appends (unsent_line cause) before after
+
+-- The end that a verdict has: a failure has its status and its line, changes no file and asks neither host nor keeper nor dial; a task
+-- that is done has those of what it came to. Or else a device failed or memory was short, and the task is done in part, or done and not
+-- told; the clause `line` says more of the register.
 abbrev pub Ends : Result Task Failure → FileMap → FileMap → ℕ → ℕ → Hosting → ℕ → Option (List ℕ) → Option (List ℕ) → Type 0
 Ends (Err failure) files files_after fb fa h result before after =
     (files_after ≡ files) × IsUnasked h × (((result ≡ failure_status failure) × Appends (failure_line failure) before after) ⊎ IsOutside result)
@@ -117,7 +162,8 @@ Ends (Ok task) files files_after fb fa h result before after =
     EndsDone task files files_after h result before after
     ⊎ (EndsFound task files files_after h result before after
     ⊎ (EndsNotDone task files files_after h result before after
-    ⊎ (IsOutside result × LeftOf task files files_after fb fa h)))
+    ⊎ (EndsUnsent task files files_after h result before after
+    ⊎ (IsOutside result × LeftOf task files files_after fb fa h))))
 
 -- the end that some verdict has; or a device failed or memory was short before there was one
 abbrev pub EndsSo : (Result Task Failure → Type 0) → FileMap → FileMap → ℕ → ℕ → Hosting → ℕ → Option (List ℕ) → Option (List ℕ) → Type 0
@@ -135,6 +181,7 @@ MayComeTo (Some command) h (Err BadCommand) = ⊥
 MayComeTo (Some command) h (Err (Refused refusal)) = MayBeRefused command refusal × IsUnasked h
 MayComeTo (Some command) h (Err (Differs finding)) = MayDiffer command finding h
 MayComeTo (Some command) h (Err (NotDone cause)) = (errand : Errand) × IsErrandOf command errand × IsCauseOf (ToKeep errand) cause h
+MayComeTo (Some command) h (Err (NotSent cause)) = MayBeUnsent command cause h
 MayComeTo (Some command) h (Err DeviceFault) = HasKept h
 MayComeTo (Some command) h (Err OutOfMemory) = HasKept h
 
@@ -143,7 +190,7 @@ abbrev pub PrintsLine : List (List ℕ) → Hosting → ℕ → Option (List ℕ
 PrintsLine words h result before after faults_before faults_after =
     (done : Result Plan Failure) × MayComeTo (command_of words) h done × Reports done result before after faults_before faults_after
 
--- how four counts of faults move: of the files, of the host, of the keeper and of the sink
+-- how the counts of faults move: of the files, of the host, of the keeper, of the dial and of the sink
 pub record Moves : Type 0 where
   pub files_before : ℕ
   pub files_after : ℕ
@@ -151,26 +198,31 @@ pub record Moves : Type 0 where
   pub host_after : ℕ
   pub keeper_before : ℕ
   pub keeper_after : ℕ
+  pub dial_before : ℕ
+  pub dial_after : ℕ
   pub out_before : ℕ
   pub out_after : ℕ
 
-abbrev pub moves : ℕ → ℕ → ℕ → ℕ → ℕ → ℕ → ℕ → ℕ → Moves
-moves fb fa hb ha kb ka sb sa =
-    record { files_before = fb; files_after = fa; host_before = hb; host_after = ha; keeper_before = kb; keeper_after = ka; out_before = sb; out_after = sa }
+abbrev pub moves : ℕ → ℕ → ℕ → ℕ → ℕ → ℕ → ℕ → ℕ → ℕ → ℕ → Moves
+moves fb fa hb ha kb ka db da sb sa =
+    record { files_before = fb; files_after = fa; host_before = hb; host_after = ha; keeper_before = kb; keeper_after = ka; dial_before = db; dial_after = da; out_before = sb; out_after = sa }
 
--- none rose
+-- none rose but that of the dial, which a replay with a target tells by itself
 pub record Stands (m : Moves) : Type 0 where
   pub files : m.files_after ≡ m.files_before
   pub host : m.host_after ≡ m.host_before
   pub keeper : m.keeper_after ≡ m.keeper_before
   pub out : m.out_after ≡ m.out_before
 
--- 2 comes only where the words are no command, 5 only where a count rose, with any other status all counts stand, and none falls
+-- 2 comes only where the words are no command, 5 only where a count rose and 10 only where that of the dial did, with any other status
+-- all counts but that of the dial stand, and none falls
 pub record Causes (words : List (List ℕ)) (result : ℕ) (m : Moves) : Type 0 where
   pub command : result ≡ 2 → IsNone (command_of words)
   pub fault : result ≡ 5 → HasRisen m.files_before m.files_after ⊎ (HasRisen m.host_before m.host_after ⊎ (HasRisen m.keeper_before m.keeper_after ⊎ HasRisen m.out_before m.out_after))
+  pub link : result ≡ 10 → HasRisen m.dial_before m.dial_after
   pub stands : result ≢ 5 → Stands m
   pub files : m.files_before ≤ m.files_after
   pub host : m.host_before ≤ m.host_after
   pub keeper : m.keeper_before ≤ m.keeper_after
+  pub dial : m.dial_before ≤ m.dial_after
   pub out : m.out_before ≤ m.out_after

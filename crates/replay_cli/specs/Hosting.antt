@@ -1,22 +1,35 @@
--- What becomes in a command of the host and of the keeper, as far as they tell.
-use Rattle.std.specs.Prelude.{◌≡◌, ℕ, Option}
+-- What becomes in a command of the host, of the keeper and of the dial, as far as they tell.
+use Rattle.std.specs.Prelude.{◌≡◌, ℕ, List, Option}
 use Rattle.desk_files.specs.Outside.{Answered}
 use Rattle.desk_files.specs.Hosts.{Connections}
 use Rattle.register_work.specs.Keeping.{KeepsAll, Keeping}
+use Rattle.remote_link.specs.declared.heard.Heard.{Heard}
 
--- the connections of the host, its count of faults, and the keeper
+-- what was said on the lines that a dial was given back, and its count of faults
+pub record Dialling : Type 0 where
+  pub before : Option (List (List Heard))
+  pub after : Option (List (List Heard))
+  pub faults_before : ℕ
+  pub faults_after : ℕ
+
+abbrev pub dialling : Option (List (List Heard)) → Option (List (List Heard)) → ℕ → ℕ → Dialling
+dialling before after faults_before faults_after =
+    record { before = before; after = after; faults_before = faults_before; faults_after = faults_after }
+
+-- the connections of the host, its count of faults, the keeper and the dial
 pub record Hosting : Type 0 where
   pub before : Option Connections
   pub after : Option Connections
   pub faults_before : ℕ
   pub faults_after : ℕ
   pub keeper : Keeping
+  pub dial : Dialling
 
-abbrev pub hosting : Option Connections → Option Connections → ℕ → ℕ → Keeping → Hosting
-hosting before after faults_before faults_after keeper =
-    record { before = before; after = after; faults_before = faults_before; faults_after = faults_after; keeper = keeper }
+abbrev pub hosting : Option Connections → Option Connections → ℕ → ℕ → Keeping → Dialling → Hosting
+hosting before after faults_before faults_after keeper dial =
+    record { before = before; after = after; faults_before = faults_before; faults_after = faults_after; keeper = keeper; dial = dial }
 
--- no call of either failed
+-- no call of the host or of the keeper failed
 abbrev pub HasNoFault : Hosting → Type 0
 HasNoFault h = (h.faults_after ≡ h.faults_before) × (h.keeper.faults_after ≡ h.keeper.faults_before)
 
@@ -28,9 +41,13 @@ IsHostUnasked h = (h.after ≡ h.before) × (h.faults_after ≡ h.faults_before)
 abbrev pub IsKeeperUntouched : Hosting → Type 0
 IsKeeperUntouched h = KeepsAll h.keeper Answered
 
--- both are as if they had not been asked
+-- the dial was not asked
+abbrev pub IsDialUnasked : Hosting → Type 0
+IsDialUnasked h = (h.dial.after ≡ h.dial.before) × (h.dial.faults_after ≡ h.dial.faults_before)
+
+-- all are as if they had not been asked
 abbrev pub IsUnasked : Hosting → Type 0
-IsUnasked h = IsHostUnasked h × IsKeeperUntouched h
+IsUnasked h = IsHostUnasked h × IsKeeperUntouched h × IsDialUnasked h
 
 -- what the keeper tells is as before
 abbrev pub HasKept : Hosting → Type 0

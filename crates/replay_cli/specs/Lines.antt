@@ -4,15 +4,19 @@ use Rattle.std.specs.Fmt.{decimal}
 use Rattle.desk_values.specs.Text.{reply_text}
 use Rattle.capture_format.specs.SessionFile.{number_text}
 use Rattle.captured_calls.specs.declared.refusal.Refusal.{Refusal as Illegal}
-use Rattle.captured_calls.specs.declared.refusal.Refusal.TheVariants.{TooMany, Stamp, Number, Seen, Times, Stranger, Reply, Memory}
+use Rattle.captured_calls.specs.declared.refusal.Refusal.TheVariants.{TooMany, Stamp, Number, Seen, Times, Stranger, Reply as WrongReply, Memory}
 use Rattle.replay_cli.specs.declared.failure.Refusal.{Refusal}
 use Rattle.replay_cli.specs.declared.failure.Refusal.TheVariants.{Missing, TooLong, BadLine, BadReport, BadRemap, BadChange, NotLegal}
 use Rattle.capture_recorder.specs.declared.door.Said.{Said}
 use Rattle.capture_serve.specs.declared.failing.Finding.{Finding}
 use Rattle.capture_serve.specs.declared.failing.Finding.TheVariants as found
 use Rattle.replay_cli.specs.declared.failure.Failure.{Failure}
-use Rattle.replay_cli.specs.declared.failure.Failure.TheVariants.{BadCommand, Refused, Differs, NotDone, DeviceFault, OutOfMemory}
+use Rattle.replay_cli.specs.declared.failure.Failure.TheVariants.{BadCommand, Refused, Differs, NotDone, NotSent, DeviceFault, OutOfMemory}
 use Rattle.register_work.specs.Lines.{bad_report_line, unkept_line, unkept_status}
+use Rattle.desk_values.specs.declared.call.Reply.{Reply}
+use Rattle.remote_link.specs.declared.heard.Heard.{Heard}
+use Rattle.replay_cli.specs.declared.unsent.Unsent.{Unsent}
+use Rattle.replay_cli.specs.declared.unsent.Unsent.TheVariants as unsent
 
 abbrev pub refusal_status : Refusal → ℕ
 refusal_status (Missing name) = 4
@@ -23,11 +27,17 @@ refusal_status (BadRemap n) = 7
 refusal_status (BadChange n) = 7
 refusal_status (NotLegal cause) = 3
 
+abbrev pub unsent_status : Unsent → ℕ
+unsent_status unsent.Link = 10
+unsent_status unsent.Job = 9
+unsent_status (unsent.Mismatch session place kept answered) = 9
+
 abbrev pub failure_status : Failure → ℕ
 failure_status BadCommand = 2
 failure_status (Refused refusal) = refusal_status refusal
 failure_status (Differs finding) = 9
 failure_status (NotDone cause) = unkept_status cause
+failure_status (NotSent cause) = unsent_status cause
 failure_status DeviceFault = 5
 failure_status OutOfMemory = 6
 
@@ -39,7 +49,7 @@ cause_text (Number k written right) = codes "stamp " ++ (decimal k ++ (codes " h
 cause_text (Seen k written right) = codes "stamp " ++ (decimal k ++ (codes " saw " ++ (decimal written ++ (codes ", not " ++ decimal right))))
 cause_text (Times k) = codes "times at stamp " ++ decimal k
 cause_text (Stranger k) = codes "unknown id at stamp " ++ decimal k
-cause_text (Reply k written right) = codes "stamp " ++ (decimal k ++ (codes " replied " ++ (reply_text written ++ (codes ", not " ++ reply_text right))))
+cause_text (WrongReply k written right) = codes "stamp " ++ (decimal k ++ (codes " replied " ++ (reply_text written ++ (codes ", not " ++ reply_text right))))
 -- want of memory is a failure of its own, and no cause
 cause_text Memory = []
 
@@ -57,11 +67,30 @@ abbrev pub said_text : Option Said → List ℕ
 said_text None = codes "-"
 said_text (Some said) = reply_text said.reply
 
+-- a place of a session, and what stands there on both sides
+abbrev pub mismatch_line : ℕ → ℕ → List ℕ → List ℕ → List ℕ
+mismatch_line session place kept answered =
+    codes "mismatch: session " ++ (decimal session ++ (codes " place " ++ (decimal place ++ (codes ": " ++ (kept ++ (codes " / " ++ (answered ++ 10 ∷ [])))))))
+
+-- the reply of a call, and a dash where there is no call or no reply to it
+abbrev pub reply_or_dash : Option Reply → List ℕ
+reply_or_dash None = codes "-"
+reply_or_dash (Some reply) = reply_text reply
+
+abbrev pub heard_text : Option Heard → List ℕ
+heard_text None = codes "-"
+heard_text (Some heard) = reply_or_dash heard.reply
+
+-- why a replay against another server came to no end
+abbrev pub unsent_line : Unsent → List ℕ
+unsent_line unsent.Link = codes "link fault\n"
+unsent_line unsent.Job = codes "mismatch: job\n"
+unsent_line (unsent.Mismatch session place kept answered) = mismatch_line session place (heard_text kept) (heard_text answered)
+
 -- what was found to differ
 abbrev pub finding_line : Finding → List ℕ
 finding_line found.Start = codes "mismatch: start\n"
-finding_line (found.Mismatch session place kept answered) =
-    codes "mismatch: session " ++ (decimal session ++ (codes " place " ++ (decimal place ++ (codes ": " ++ (said_text kept ++ (codes " / " ++ (said_text answered ++ 10 ∷ [])))))))
+finding_line (found.Mismatch session place kept answered) = mismatch_line session place (said_text kept) (said_text answered)
 finding_line (found.Refusal session n) = codes "mismatch: session " ++ (decimal session ++ (codes " refusal " ++ (decimal n ++ 10 ∷ [])))
 
 abbrev pub failure_line : Failure → List ℕ
@@ -69,6 +98,7 @@ failure_line BadCommand = codes "bad command" ++ 10 ∷ []
 failure_line (Refused refusal) = refusal_line refusal
 failure_line (Differs finding) = finding_line finding
 failure_line (NotDone cause) = unkept_line cause
+failure_line (NotSent cause) = unsent_line cause
 failure_line DeviceFault = codes "device fault" ++ 10 ∷ []
 failure_line OutOfMemory = codes "out of memory" ++ 10 ∷ []
 

@@ -9,6 +9,7 @@ ghost use Rattle.capture_serve.specs.declared.failing.Finding.{Finding as Found}
 ghost use Rattle.replay_cli.specs.declared.failure.Failure.TheVariants.{OutOfMemory};
 ghost use Rattle.replay_cli.specs.Lines.{cause_text, failure_line, failure_status, finding_line, refusal_line, refusal_status, said_text};
 
+use crate::unsent::Unsent;
 use capture_format::append_reply;
 use capture_recorder::Said;
 use capture_serve::Finding;
@@ -48,6 +49,8 @@ pub enum Failure {
     Differs(Finding),
     /// What is asked of the keeper is not done, for this cause.
     NotDone(Unkept),
+    /// A replay against another server came to no end, for this cause.
+    NotSent(Unsent),
     /// A device failed.
     DeviceFault,
     /// Want of memory.
@@ -103,6 +106,7 @@ impl Failure {
             Failure::Refused(refusal) => refusal.status(),
             Failure::Differs(_) => 9,
             Failure::NotDone(cause) => cause.status(),
+            Failure::NotSent(cause) => cause.status(),
             Failure::DeviceFault => 5,
             Failure::OutOfMemory => 6,
         }
@@ -117,6 +121,7 @@ impl Failure {
             Failure::Refused(refusal) => refusal.line(alloc),
             Failure::Differs(finding) => finding_line(alloc, finding),
             Failure::NotDone(cause) => cause.line(alloc),
+            Failure::NotSent(cause) => cause.line(alloc),
             Failure::DeviceFault => line_of(alloc, "device fault", ""),
             Failure::OutOfMemory => line_of(alloc, "out of memory", ""),
         }
@@ -124,7 +129,7 @@ impl Failure {
 }
 
 /// Two texts and a line feed.
-fn line_of(alloc: Global, first: &str, second: &str) -> Result<Bytes, Memory>
+pub(crate) fn line_of(alloc: Global, first: &str, second: &str) -> Result<Bytes, Memory>
     ensures { IfOk result (λ line. line ≡ first.now ++ (second.now ++ 10 ∷ [])) }
 {
     let mut line = List::new(alloc);
@@ -199,7 +204,7 @@ fn append_cause(cause: &Illegal, to: &mut Bytes) -> Result<(), Memory>
 }
 
 /// Appends words and a stamp.
-fn append_at(words: &str, stamp: u32, to: &mut Bytes) -> Result<(), Memory>
+pub(crate) fn append_at(words: &str, stamp: u32, to: &mut Bytes) -> Result<(), Memory>
     ensures { OnOk result (to.new ≡ to.old ++ (words.now ++ decimal stamp)) }
 {
     to.append(words.as_bytes())?;

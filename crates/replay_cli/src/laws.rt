@@ -11,7 +11,7 @@ ghost use Rattle.replay_job.specs.Job.{JobView};
 ghost use Rattle.replay_job.specs.Replays.{IsSoundJob};
 ghost use Rattle.replay_cli.specs.declared.failure.Refusal.TheVariants.{BadChange, BadLine, BadRemap, BadReport, NotLegal};
 ghost use Rattle.desk_words.specs.declared.words.Command.{Command};
-ghost use Rattle.replay_cli.specs.Decision.{MayBeRefused, Task, ToReplay, Verdict};
+ghost use Rattle.replay_cli.specs.Decision.{MayBeRefused, Task, ToReplay, ToSend, Verdict};
 ghost use Rattle.replay_cli.specs.Lines.{cause_text};
 
 /// The words and the files have at most one verdict.
@@ -20,10 +20,12 @@ pub fn one_verdict()
         → Verdict words files verdict → Verdict words files other → verdict ≡ other }
 {}
 
-/// A job that the words and the files come to can be replayed.
+/// A job that the words and the files come to can be replayed, on the desk's own server or against another.
 pub fn jobs_can_be_replayed()
-    ensures { (words : List (List ℕ)) (files : FileMap) (out : List ℕ) (job : JobView)
+    ensures replayed { (words : List (List ℕ)) (files : FileMap) (out : List ℕ) (job : JobView)
         → Verdict words files (Ok (ToReplay out job)) → IsSoundJob job }
+    ensures sent { (words : List (List ℕ)) (files : FileMap) (out : List ℕ) (job : JobView) (port : ℕ)
+        → Verdict words files (Ok (ToSend out job port)) → IsSoundJob job }
 {}
 
 /// A refusal that a command may print, whatever the files are, tells of a line or of a record from 1 on, and of a cause that has

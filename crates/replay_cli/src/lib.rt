@@ -1,8 +1,8 @@
 //! The commands of the desk: words and files to a replay, its texts and a status.
 //!
 //! Enters: the words of a command, and the outside as traits. Leaves: files, what is printed, and a status. It touches the
-//! files, the host, the keeper, the threads, the clock and the sink that it is handed, and nothing else. What a server answers is the
-//! engine's alone.
+//! files, the host, the keeper, the dial, the threads, the clock and the sink that it is handed, and nothing else. What a call is
+//! answered is the engine's alone, or with a target the server's that runs there.
 #![tactic(auto)]
 
 mod arguments;
@@ -16,8 +16,10 @@ mod plan;
 mod reading;
 mod replay;
 mod running;
+mod sending;
 mod serving;
 mod told;
+mod unsent;
 mod work;
 
 pub use arguments::{Arguments, Called, arguments_of, word_of};
@@ -27,4 +29,5 @@ pub use failure::{Failure, Refusal};
 pub use main_call::{replay_main, report_want_of_memory};
 pub use plan::Plan;
 pub use told::Told;
+pub use unsent::Unsent;
 pub use work::Work;

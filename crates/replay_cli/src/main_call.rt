@@ -9,13 +9,14 @@ ghost use Rattle.replay_cli.specs.Decision.{Task, Verdict};
 ghost use Rattle.replay_cli.specs.Lines.{failure_line};
 ghost use Rattle.register_work.specs.Keeping.{keeping};
 ghost use Rattle.replay_cli.specs.Ending.{Causes, Ends, EndsSo, MayAsk, Prints, PrintsLine, Reports, moves};
-ghost use Rattle.replay_cli.specs.Hosting.{hosting};
+ghost use Rattle.replay_cli.specs.Hosting.{dialling, hosting};
 
 use crate::failure::Failure;
 use crate::plan::Plan;
 use crate::running::run;
 use desk_files::{Door, Files, Host, Sink};
 use desk_values::{Memory, Txt};
+use remote_link::Dial;
 use run_register::Keeper;
 use std::alloc::Global;
 use std::sync::Wait;
@@ -38,7 +39,10 @@ use std::time::Clock;
 /// | `compare A B` | compare the run B with the run A, less what is accepted of A | `compare A B`, behind it `new STAMP SESSION PLACE CLASS`, `gone STAMP SESSION PLACE CLASS` and `changed STAMP SESSION PLACE CLASSA CLASSB`, by stamp, and `end` |
 ///
 /// Anywhere behind `run` there may stand `--mode off`, `scn`, `object`, `order` or `fence`, `--think P`, `--connect P`, `--remap FILE`,
-/// `--change FILE` and `--lanes N`, and behind `serve` `--port P`, each at most once. Which words are a command, `desk_words` says.
+/// `--change FILE`, `--lanes N` and `--target PORT`, and behind `serve` `--port P`, each at most once. Which words are a command, `desk_words` says.
+///
+/// With `--target PORT` the calls are sent to the server at that port of this machine, each session's by a line of its own, and the files
+/// are `journal.txt`, `report.txt`, `report.csv` and `maps.csv`: what tables the server has is not known.
 ///
 /// | status | where | line |
 /// |---|---|---|
@@ -54,6 +58,8 @@ use std::time::Clock;
 /// | 7 | the change file's record N is bad, or the start that it leads to breaks a rule | `bad change: row N` |
 /// | 8 | a file is too long, or all of the capture are together | `too long: NAME` |
 /// | 9 | `serve` compared what was recorded with what the connections were answered, and something differs | `mismatch: ` and what differs |
+/// | 9 | `run --target` compared what the desk kept with what the lines heard, and something differs | `mismatch: ` and what differs |
+/// | 10 | a line to the server failed, or could not be had | `link fault` |
 /// | 11 | there is no run of that name | `no such run: RUN` |
 /// | 12 | another report is kept under that name | `other run: RUN` |
 /// | 13 | `report.txt`, or what is kept of a run, is no report | `bad report: NAME line L` |
@@ -68,6 +74,7 @@ pub fn replay_main<
     H: Host,
     D: Door,
     K: Keeper,
+    L: Dial,
     S: Sink,
 >(
     rt: &R,
@@ -77,32 +84,37 @@ pub fn replay_main<
     host: &mut H,
     door: &D,
     keeper: &mut K,
+    dial: &mut L,
     out: &mut S,
 ) -> u8
     ensures ends { Told (F.content files.old) (λ before. IsSomeAnd (F.content files.new) (λ after.
         EndsSo (Verdict words.now before) before after
         (F.faults files.old) (F.faults files.new)
         (hosting (H.content host.old) (H.content host.new) (H.faults host.old) (H.faults host.new)
-        (keeping (K.runs keeper.old) (K.runs keeper.new) (K.divergences keeper.old) (K.divergences keeper.new) (K.faults keeper.old) (K.faults keeper.new)))
+        (keeping (K.runs keeper.old) (K.runs keeper.new) (K.divergences keeper.old) (K.divergences keeper.new) (K.faults keeper.old) (K.faults keeper.new))
+        (dialling (L.content dial.old) (L.content dial.new) (L.fault_count dial.old) (L.fault_count dial.new)))
         result (S.content out.old) (S.content out.new))) }
     ensures each { Told (F.content files.old) (λ before. IsSomeAnd (F.content files.new) (λ after.
         (verdict : Result Task Outcome) → Verdict words.now before verdict
         → Ends verdict before after
         (F.faults files.old) (F.faults files.new)
         (hosting (H.content host.old) (H.content host.new) (H.faults host.old) (H.faults host.new)
-        (keeping (K.runs keeper.old) (K.runs keeper.new) (K.divergences keeper.old) (K.divergences keeper.new) (K.faults keeper.old) (K.faults keeper.new)))
+        (keeping (K.runs keeper.old) (K.runs keeper.new) (K.divergences keeper.old) (K.divergences keeper.new) (K.faults keeper.old) (K.faults keeper.new))
+        (dialling (L.content dial.old) (L.content dial.new) (L.fault_count dial.old) (L.fault_count dial.new)))
         result (S.content out.old) (S.content out.new))) }
     ensures line { PrintsLine words.now
         (hosting (H.content host.old) (H.content host.new) (H.faults host.old) (H.faults host.new)
-        (keeping (K.runs keeper.old) (K.runs keeper.new) (K.divergences keeper.old) (K.divergences keeper.new) (K.faults keeper.old) (K.faults keeper.new)))
+        (keeping (K.runs keeper.old) (K.runs keeper.new) (K.divergences keeper.old) (K.divergences keeper.new) (K.faults keeper.old) (K.faults keeper.new))
+        (dialling (L.content dial.old) (L.content dial.new) (L.fault_count dial.old) (L.fault_count dial.new)))
         result (S.content out.old) (S.content out.new) (S.faults out.old) (S.faults out.new) }
     ensures asks { MayAsk (command_of words.now) (hosting (H.content host.old) (H.content host.new) (H.faults host.old) (H.faults host.new)
-        (keeping (K.runs keeper.old) (K.runs keeper.new) (K.divergences keeper.old) (K.divergences keeper.new) (K.faults keeper.old) (K.faults keeper.new))) }
+        (keeping (K.runs keeper.old) (K.runs keeper.new) (K.divergences keeper.old) (K.divergences keeper.new) (K.faults keeper.old) (K.faults keeper.new))
+        (dialling (L.content dial.old) (L.content dial.new) (L.fault_count dial.old) (L.fault_count dial.new))) }
     ensures causes { Causes words.now result
         (moves (F.faults files.old) (F.faults files.new) (H.faults host.old) (H.faults host.new)
-        (K.faults keeper.old) (K.faults keeper.new) (S.faults out.old) (S.faults out.new)) }
+        (K.faults keeper.old) (K.faults keeper.new) (L.fault_count dial.old) (L.fault_count dial.new) (S.faults out.old) (S.faults out.new)) }
 {
-    let done = run(rt, alloc, words, files, host, door, keeper);
+    let done = run(rt, alloc, words, files, host, door, keeper, dial);
     report(alloc, &done, out)
 }
 
@@ -127,6 +139,7 @@ fn report_failure<S: Sink>(alloc: Global, failure: &Failure, out: &mut S) -> u8
         Failure::Refused(_) => report_refusal(alloc, failure, out),
         Failure::Differs(_) => report_refusal(alloc, failure, out),
         Failure::NotDone(_) => report_refusal(alloc, failure, out),
+        Failure::NotSent(_) => report_refusal(alloc, failure, out),
         Failure::OutOfMemory => report_want_of_memory(out),
     }
 }

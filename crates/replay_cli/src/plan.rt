@@ -12,8 +12,8 @@ ghost use Rattle.desk_words.specs.Within.{IsCallCount, IsLaneCount};
 ghost use Rattle.replay_cli.specs.Decision.{ToMake, ToReplay, ToTell, ToTry};
 ghost use Rattle.replay_cli.specs.Done.{IsDone, IsDoneAlone, IsQuiet, IsTried, IsWritten, capture_files, history_files, made_calls, made_lists, made_start, session_files};
 ghost use Rattle.register_work.specs.Keeping.{keeping};
-ghost use Rattle.replay_cli.specs.Hosting.{hosting};
-ghost use Rattle.replay_cli.specs.Inside.Serving.{AsksFor, PlanFails, WorkFaults};
+ghost use Rattle.replay_cli.specs.Hosting.{dialling, hosting};
+ghost use Rattle.replay_cli.specs.Inside.Serving.{AsksFor, DialFaults, PlanFails, WorkFaults};
 ghost use Rattle.replay_cli.specs.Inside.Work.{IsWork, task_of};
 ghost use Rattle.replay_cli.specs.Lines.{counted, counted_line, done_status, generated_line, replayed_line, trial_line};
 ghost use Rattle.replay_history.specs.Capture.{commits_in};
@@ -27,6 +27,7 @@ use crate::errands::keeping;
 use crate::failure::Failure;
 use crate::file_names::{session_name, write_in};
 use crate::replay::trial_of;
+use crate::sending::sending;
 use crate::serving::serving;
 use crate::told::{append_told, told_on};
 use crate::work::Work;
@@ -37,6 +38,7 @@ use desk_schema::Start;
 use desk_values::fields::append_u64;
 use desk_values::{Bytes, CallList, Captured, List, Memory, SessionLists, Txt};
 use object_depends::{FactList, requires_csv};
+use remote_link::Dial;
 use replay_core::Desk;
 use replay_history::{Report, commits};
 use replay_job::Job;
@@ -69,30 +71,39 @@ impl Plan {
 }
 
 /// What the work comes to.
-pub fn plan_of<R: Clock + Wait + Threads + Sync, H: Host, D: Door, K: Keeper>(
+pub fn plan_of<R: Clock + Wait + Threads + Sync, H: Host, D: Door, K: Keeper, L: Dial>(
     rt: &R,
     alloc: Global,
     work: Work,
     host: &mut H,
     door: &D,
     keeper: &mut K,
+    dial: &mut L,
 ) -> Result<Plan, Failure>
     requires { IsWork work }
     ensures done { IfOk result (λ plan. IsDone (task_of work) plan
         (hosting (H.content host.old) (H.content host.new) (H.faults host.old) (H.faults host.new)
-        (keeping (K.runs keeper.old) (K.runs keeper.new) (K.divergences keeper.old) (K.divergences keeper.new) (K.faults keeper.old) (K.faults keeper.new)))) }
+        (keeping (K.runs keeper.old) (K.runs keeper.new) (K.divergences keeper.old) (K.divergences keeper.new) (K.faults keeper.old) (K.faults keeper.new))
+        (dialling (L.content dial.old) (L.content dial.new) (L.fault_count dial.old) (L.fault_count dial.new)))) }
     ensures fails { IfErr result (PlanFails (task_of work)
         (hosting (H.content host.old) (H.content host.new) (H.faults host.old) (H.faults host.new)
-        (keeping (K.runs keeper.old) (K.runs keeper.new) (K.divergences keeper.old) (K.divergences keeper.new) (K.faults keeper.old) (K.faults keeper.new)))) }
+        (keeping (K.runs keeper.old) (K.runs keeper.new) (K.divergences keeper.old) (K.divergences keeper.new) (K.faults keeper.old) (K.faults keeper.new))
+        (dialling (L.content dial.old) (L.content dial.new) (L.fault_count dial.old) (L.fault_count dial.new)))) }
     ensures faults { WorkFaults result
         (hosting (H.content host.old) (H.content host.new) (H.faults host.old) (H.faults host.new)
-        (keeping (K.runs keeper.old) (K.runs keeper.new) (K.divergences keeper.old) (K.divergences keeper.new) (K.faults keeper.old) (K.faults keeper.new))) }
+        (keeping (K.runs keeper.old) (K.runs keeper.new) (K.divergences keeper.old) (K.divergences keeper.new) (K.faults keeper.old) (K.faults keeper.new))
+        (dialling (L.content dial.old) (L.content dial.new) (L.fault_count dial.old) (L.fault_count dial.new))) }
+    ensures dial { DialFaults result (dialling (L.content dial.old) (L.content dial.new) (L.fault_count dial.old) (L.fault_count dial.new)) }
     ensures asks { AsksFor (task_of work)
         (hosting (H.content host.old) (H.content host.new) (H.faults host.old) (H.faults host.new)
-        (keeping (K.runs keeper.old) (K.runs keeper.new) (K.divergences keeper.old) (K.divergences keeper.new) (K.faults keeper.old) (K.faults keeper.new))) }
+        (keeping (K.runs keeper.old) (K.runs keeper.new) (K.divergences keeper.old) (K.divergences keeper.new) (K.faults keeper.old) (K.faults keeper.new))
+        (dialling (L.content dial.old) (L.content dial.new) (L.fault_count dial.old) (L.fault_count dial.new))) }
 {
     match work {
         Work::Replaying(out, job, lanes) => Ok(replaying(rt, alloc, &out, job, door, lanes)?),
+        Work::Sending(out, job, lanes, port) => {
+            sending(rt, alloc, &out, job, lanes, port, door, dial)
+        }
         Work::Telling(out, facts) => Ok(telling(alloc, &out, &facts)?),
         Work::Serving(out, start, most, port) => {
             serving(rt, alloc, &out, &start, most, port, host, door)
@@ -368,7 +379,7 @@ fn commits_of(calls: &[Captured]) -> u64
 }
 
 /// How many calls were replayed, and how many of them differ.
-fn replayed_line(alloc: Global, calls: u64, divergent: u64) -> Result<Bytes, Memory>
+pub(crate) fn replayed_line(alloc: Global, calls: u64, divergent: u64) -> Result<Bytes, Memory>
     ensures { IfOk result (λ line. line ≡ replayed_line calls divergent) }
 {
     let mut line = List::new(alloc);

@@ -8,7 +8,7 @@ ghost use Rattle.replay_job.specs.Replays.{IsSoundJob};
 ghost use Rattle.desk_words.specs.declared.words.Command.TheVariants.{Run as TheRun, Prepare as ThePrepare, Serve as TheServe, Register as TheRegister};
 ghost use Rattle.desk_words.specs.Limits.{lane_limit};
 ghost use Rattle.desk_words.specs.Within.{HasWays, IsLaneCount, IsWithinLimits};
-ghost use Rattle.replay_cli.specs.Decision.{Decides, IsTaskOf, MayBeRefused, MayRunOn, PrepareIn, RegisterIn, RunIn, ServeIn, run_job};
+ghost use Rattle.replay_cli.specs.Decision.{Decides, IsTaskOf, MayBeRefused, MayRunOn, PrepareIn, RegisterIn, RunIn, ServeIn, run_job, run_task};
 ghost use Rattle.replay_cli.specs.Inside.Work.{IsWork, legal_of, task_of};
 ghost use Rattle.captured_calls.specs.Verdict.{IsLegal};
 ghost use Rattle.replay_cli.specs.Inside.Steps.{MayFail, Step, seen_as};
@@ -32,6 +32,8 @@ use std::alloc::Global;
 pub enum Work {
     /// Replay the job by so many lanes, and write the replay into the folder.
     Replaying(Txt, Job, u32),
+    /// Replay the job by so many lanes against the server at this port, and write the replay into the folder.
+    Sending(Txt, Job, u32, u16),
     /// Write into the folder which calls wait for which.
     Telling(Txt, FactList),
     /// Serve at most so many connections at this port, and write into the folder what they say of the start.
@@ -94,7 +96,21 @@ fn decide_run<F: Files>(
     let target = read_target(&read.start, &ways.change, files)?;
     let legal = test(alloc, read)?;
     let job = job_of(legal, target, remap, &ways);
-    Ok(Work::Replaying(out, job, lanes))
+    Ok(run_of(out, job, lanes, ways.target))
+}
+
+// The replay of a job on the desk's own server, or against the one at a port.
+fn run_of(out: Txt, job: Job, lanes: u32, target: Option<u16>) -> Work
+    requires out { length out ≤ 900 }
+    requires job { IsSoundJob (seen job) }
+    requires lanes { IsLaneCount lanes }
+    ensures task { task_of result ≡ run_task out (seen job) target }
+    ensures work { IsWork result }
+{
+    match target {
+        Some(port) => Work::Sending(out, job, lanes, port),
+        None => Work::Replaying(out, job, lanes),
+    }
 }
 
 /// How many lanes there are: as many as sessions where that is not said, and at least one.

@@ -25,12 +25,23 @@ const MOST_LEARNT: u32 = 17;
 
 /// A replay under way. Contracts see its job, its history, how far that leads, and whether it is stopped. The history is
 /// always a legal and truthful one of the job, and each of its events has a text.
-#[derive(Drop)]
 pub struct Desk {
     schedule: Schedule,
     engine: Engine,
     map: IdMap,
     history: History,
+}
+
+// Written out: a caller then drops it by one call, which keeps the caller's proof small.
+impl Drop for Desk {
+    fn drop(self) {
+        let Desk {
+            schedule: _schedule,
+            engine: _engine,
+            map: _map,
+            history: _history,
+        } = self;
+    }
 }
 
 impl Model for Desk {

@@ -11,6 +11,7 @@ mod progress;
 use connections::TellingHost;
 use desk_files::{RealFiles, RealHost, SleepDoor, StdSink};
 use progress::{CountingFiles, ProgressDoor};
+use remote_link::RealDial;
 use replay_cli::{Arguments, arguments_of, replay_main, report_want_of_memory};
 use run_register::KeepErr;
 use sqlite_keeper::{REGISTER_FILE, RegisterFile};
@@ -32,6 +33,7 @@ fn main(rt: HostRuntime) -> ExitCode {
     let told = ProgressDoor::new(&door, &rt, &calls, on_terminal);
     let mut host = TellingHost::new(RealHost::new(&rt), &rt, on_terminal);
     let mut keeper = RegisterFile::new(&rt, alloc, REGISTER_FILE);
+    let mut dial = RealDial::new(&rt, alloc);
     let status = replay_main(
         &rt,
         alloc,
@@ -40,6 +42,7 @@ fn main(rt: HostRuntime) -> ExitCode {
         &mut host,
         &told,
         &mut keeper,
+        &mut dial,
         &mut out,
     );
     told.end(&rt);

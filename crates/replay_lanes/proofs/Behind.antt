@@ -52,36 +52,46 @@ started_course job job' history history' stopped stopped' k pause more same_job 
 answer_is : (old : CourseView) (k : ℕ) (new : CourseView) → IsAnswer old k new → (new.job ≡ old.job) × (new.stopped ≡ old.stopped) × ((reply : Reply) × (new.history ≡ old.history ++ Answer k reply ∷ []))
 answer_is old k new answer = (ap (λ (d : CourseView). d.job) answer.1, ap (λ (d : CourseView). d.stopped) answer.1, (answer.0, ap (λ (d : CourseView). d.history) answer.1))
 
-module _ (old desk : CourseView) (turn : ℕ) (behind : IsBehind old desk turn) (k : ℕ) (first : IsFirstOpen desk.job desk.history k) where
-  -- events that go on, and answer the first open call
-  module _ (events : List Event) (on : GoesOn desk.history events) (own : IsAnswered events k) where
+module _ (old desk : CourseView) (turn : ℕ) (behind : IsBehind old desk turn) (k : ℕ) where
+  module _ (events : List Event) (on : GoesOn desk.history events) where
     kept : (j : ℕ) → IsAnswered desk.history j → IsAnswered events j
     kept j answered = subst (λ (h : List Event). IsAnswered h j) (sym on.1) (answered_on desk.history on.0 j answered)
 
-    at_turn : (j : ℕ) → j ≡ turn → IsAnswered events j
-    at_turn j here = elim (cases_Bool (ltb j k)) [
-      | inl less ↦ kept j (first.least j (ltb-true j k less))
-      | inr more ↦ elim (cases_Bool (ltb k turn)) [
-        | inl below ↦ absurd (first.unanswered (behind.front k (ltb-true k turn below)))
-        | inr above ↦ let a = ltb-false j k more in let b = ltb-false k turn above in let same : k ≡ j = omega (arith, a, b, here) in subst (IsAnswered events) same own
+  module _ (begun new : CourseView) (begin : IsBegun desk k begun) (answer : IsAnswer begun k new) where
+    further : GoesOn desk.history new.history
+    further = let b = begun_is desk k begun begin in let a = answer_is begun k new answer in on_and_on desk.history begun.history new.history b.2 (Answer k a.2.0 ∷ [], a.2.1)
+
+    own : IsAnswered new.history k
+    own = let a = answer_is begun k new answer in subst (λ (h : List Event). IsAnswered h k) (sym a.2.1) (length begun.history, a.2.0, last_at begun.history (Answer k a.2.0))
+
+    -- a call is answered: no more is said of those before the turn than before
+    pub behind_still : IsBehind old new turn
+    behind_still =
+        let b = begun_is desk k begun begin in
+        let a = answer_is begun k new answer in
+        record {
+          job_is = a.0 ∙ (b.0 ∙ behind.job_is);
+          going = a.1 ∙ (b.1 ∙ behind.going);
+          goes_on = on_and_on old.history desk.history new.history behind.goes_on further;
+          front = λ j below. kept new.history further j (behind.front j below);
+        }
+
+    -- where it is the first open one, the turn goes on
+    module _ (first : IsFirstOpen desk.job desk.history k) where
+      at_turn : (j : ℕ) → j ≡ turn → IsAnswered new.history j
+      at_turn j here = elim (cases_Bool (ltb j k)) [
+        | inl less ↦ kept new.history further j (first.least j (ltb-true j k less))
+        | inr more ↦ elim (cases_Bool (ltb k turn)) [
+          | inl below ↦ absurd (first.unanswered (behind.front k (ltb-true k turn below)))
+          | inr above ↦ let a = ltb-false j k more in let b = ltb-false k turn above in let same : k ≡ j = omega (arith, a, b, here) in subst (IsAnswered new.history) same own
+        ]
       ]
-    ]
 
-    front_more : (j : ℕ) → j < turn + 1 → IsAnswered events j
-    front_more j below = elim (cases_Bool (ltb j turn)) [
-      | inl less ↦ kept j (behind.front j (ltb-true j turn less))
-      | inr more ↦ let a = ltb-false j turn more in at_turn j (omega (arith, a, below))
-    ]
+      front_more : (j : ℕ) → j < turn + 1 → IsAnswered new.history j
+      front_more j below = elim (cases_Bool (ltb j turn)) [
+        | inl less ↦ kept new.history further j (behind.front j (ltb-true j turn less))
+        | inr more ↦ let a = ltb-false j turn more in at_turn j (omega (arith, a, below))
+      ]
 
-  pub behind_more : (begun new : CourseView) → IsBegun desk k begun → IsAnswer begun k new → IsBehind old new (turn + 1)
-  behind_more begun new begin answer =
-      let b = begun_is desk k begun begin in
-      let a = answer_is begun k new answer in
-      let on : GoesOn desk.history new.history = on_and_on desk.history begun.history new.history b.2 (Answer k a.2.0 ∷ [], a.2.1) in
-      let own : IsAnswered new.history k = subst (λ (h : List Event). IsAnswered h k) (sym a.2.1) (length begun.history, a.2.0, last_at begun.history (Answer k a.2.0)) in
-      record {
-        job_is = a.0 ∙ (b.0 ∙ behind.job_is);
-        going = a.1 ∙ (b.1 ∙ behind.going);
-        goes_on = on_and_on old.history desk.history new.history behind.goes_on on;
-        front = front_more new.history on own;
-      }
+      pub behind_more : IsBehind old new (turn + 1)
+      behind_more = record { job_is = behind_still.job_is; going = behind_still.going; goes_on = behind_still.goes_on; front = front_more }

@@ -1,4 +1,4 @@
-//! What the lanes have left.
+//! One call after the other on a desk that nobody shares: those of one lane, and what the lanes have left.
 
 ghost use Rattle.std.specs.Prelude.{◌≡◌, ◌⊎◌, false, OnOk};
 ghost use Rattle.replay_history.specs.History.{AnswersAll, IsWaiting};
@@ -11,6 +11,30 @@ use desk_files::Door;
 use replay_schedule::Answering;
 use std::sync::Wait;
 use std::time::Clock;
+
+/// Serves the sessions of a lane in the thread that calls. Each call is the one that a thread of the lane would take next. It ends where
+/// none may start: then, on a desk where no call was under way, each call of the lane is answered or waits for one that is not of the lane.
+pub fn run_alone<R: Clock + Wait, A: Answering, D: Door>(
+    rt: &R,
+    desk: &mut A,
+    door: &D,
+    lane: &[u32],
+) -> Result<(), A::Refusal>
+    requires { A.stopped desk.old ≡ false }
+    ensures job { A.job desk.new ≡ A.job desk.old }
+    ensures going { A.stopped desk.new ≡ false }
+    ensures goes_on { GoesOn (A.history desk.old) (A.history desk.new) }
+{
+    let count = desk.schedule().job().calls.len();
+    for _turn in 0..count {
+        let Some(k) = desk.schedule().pick(lane) else {
+            return Ok(());
+        };
+        begin(rt, desk, door, k);
+        desk.answer(k)?;
+    }
+    Ok(())
+}
 
 /// Answers what waits and runs what is left, one call at a time.
 pub fn finish<R: Clock + Wait, A: Answering, D: Door>(

@@ -12,7 +12,7 @@ mod seats;
 mod target;
 mod turns;
 
-pub use finishing::finish;
+pub use finishing::{finish, run_alone};
 pub use lanes::{run_lane, run_lanes};
 pub use seats::{seats_of, sessions_of};
 pub use target::Target;

@@ -11,7 +11,7 @@ use desk_files::Door;
 use desk_values::{Memory, Reserved, SESSION_LIMIT};
 use replay_core::Desk;
 use replay_job::Job;
-use replay_lanes::{run_lanes, seats_of};
+use replay_lanes::{run_alone, run_lanes, seats_of, sessions_of};
 use std::alloc::Global;
 use std::sync::{Condvar, Mutex, Wait};
 use std::thread::Threads;
@@ -40,8 +40,45 @@ pub fn finish<R: Clock + Wait, D: Door>(rt: &R, desk: &mut Desk, door: &D) -> Re
     replay_lanes::finish(rt, desk, door)
 }
 
-/// Replays a job by so many lanes, each in a thread of its own: session s is served by lane s mod `lanes`.
+/// Replays a job by so many lanes, each in a thread of its own: session s is served by lane s mod `lanes`. One lane is served in the
+/// thread that calls.
 pub fn run_all<R: Clock + Wait + Threads + Sync, D: Door>(
+    rt: &R,
+    alloc: Global,
+    job: Job,
+    door: &D,
+    lanes: u32,
+) -> Result<Desk, Memory>
+    requires lanes { (1 ≤ lanes) × (lanes ≤ 64) }
+    requires job { IsReplayable (seen job) }
+    ensures job { IfOk result (λ desk. desk.job ≡ seen job) }
+    ensures replay { IfOk result (λ desk. IsToldReplay desk.job desk.history desk.stage) }
+{
+    if lanes == 1 {
+        return alone(rt, alloc, job, door);
+    }
+    together(rt, alloc, job, door, lanes)
+}
+
+// Replays a job in the thread that calls. Nobody shares the desk, so what it carries is known.
+fn alone<R: Clock + Wait, D: Door>(
+    rt: &R,
+    alloc: Global,
+    job: Job,
+    door: &D,
+) -> Result<Desk, Memory>
+    requires { IsReplayable (seen job) }
+    ensures job { IfOk result (λ desk. desk.job ≡ seen job) }
+    ensures replay { IfOk result (λ desk. IsToldReplay desk.job desk.history desk.stage) }
+{
+    let lane = sessions_of(alloc, job.calls.as_slice())?;
+    let mut desk = Desk::setup(alloc, job)?;
+    run_alone(rt, &mut desk, door, lane.as_slice())?;
+    finished(rt, desk, door)
+}
+
+// Replays a job by lanes that share the desk.
+fn together<R: Clock + Wait + Threads + Sync, D: Door>(
     rt: &R,
     alloc: Global,
     job: Job,

@@ -26,13 +26,24 @@ pub struct Version {
 
 /// The versions of rows. Contracts see a list of images in the order of writing, each with the number of the commit that wrote
 /// it, and the number from which on reads may go, the floor.
-#[derive(Drop)]
 pub struct Versions {
     list: Vec<Version>,
     last: BTreeMap<u64, usize>,
     floor: u64,
     // How many versions there were when some were let go, or a number below which none is.
     left: usize,
+}
+
+// Written out: a caller then drops it by one call, which keeps the caller's proof small.
+impl Drop for Versions {
+    fn drop(self) {
+        let Versions {
+            list: _list,
+            last: _last,
+            floor: _floor,
+            left: _left,
+        } = self;
+    }
 }
 
 /// Fewer versions are not looked through for some to let go.

@@ -30,11 +30,21 @@ pub struct Known {
 }
 
 /// Texts that were read and checked. Once they take too much memory all are let go, and each is read anew.
-#[derive(Drop)]
 pub struct Statements {
     alloc: Global,
     known: HashMap<u64, Known>,
     bytes: usize,
+}
+
+// Written out: a caller then drops it by one call, which keeps the caller's proof small.
+impl Drop for Statements {
+    fn drop(self) {
+        let Statements {
+            alloc: _alloc,
+            known: _known,
+            bytes: _bytes,
+        } = self;
+    }
 }
 
 impl Statements {

@@ -3,7 +3,8 @@
 //! Enters: a start, calls of 64 sessions. Leaves: replies, the committed rows, and which ids were given. It touches
 //! nothing but memory.
 //!
-//! Its clauses speak of the state and the step of `machine_model` alone, so that what stands behind them can change.
+//! Its clauses speak of the state and the step of `machine_model` alone, so that what stands behind them can change. It knows what
+//! `law_keys` says of each state that calls lead to, so its machine need not look for keys that stand twice.
 #![tactic(auto)]
 
 ghost use Rattle.std.specs.Prelude.{◌≡◌, ◌+◌, ◌<◌, length, take, IfOk, OnOk, OnErr};
@@ -12,9 +13,11 @@ ghost use Rattle.machine_model.specs.Clean.{is_clean};
 ghost use Rattle.machine_model.specs.State.{is_connected, is_given, opening, tables};
 ghost use Rattle.machine_model.specs.Step.{Gives};
 ghost use Rattle.machine_model.specs.Sound.{AreStanding};
+ghost use Rattle.txn_engine.specs.Reached.{IsReached};
 
 use desk_schema::Start;
 use desk_values::{Call, Images, Memory, Reply, Value};
+use law_keys::no_key_stands_twice;
 use machine_model::{Copies, PlainMachine};
 use std::alloc::Global;
 use std::marker::Model;
@@ -27,10 +30,13 @@ pub struct Engine {
 
 impl Model for Engine {
     ghost use Rattle.machine_model.specs.Machine.{Running};
+    ghost use Rattle.txn_engine.specs.Reached.{IsReached};
 
     ghost Value = { Running };
 
     ghost view = { λ a. a.machine };
+
+    ghost invariant = { λ a. IsReached a.machine.state };
 }
 
 impl Engine {
@@ -38,6 +44,7 @@ impl Engine {
     pub fn load(alloc: Global, start: &Start) -> Result<Engine, Memory>
         ensures { IfOk result (λ engine. engine ≡ record { state = opening start.now; steps = 0 }) }
     {
+        start.know_rules();
         let machine = PlainMachine::load(alloc, start)?;
         Ok(Engine { machine })
     }
@@ -51,7 +58,8 @@ impl Engine {
         ensures steps { OnOk result (self.new.steps ≡ self.old.steps + 1) }
         ensures err { OnErr result (self.new ≡ self.old) }
     {
-        self.machine.step(session, call)
+        no_key_stands_twice();
+        self.machine.step_apart(session, call)
     }
 
     /// The same step, with its reply three times.
@@ -65,7 +73,16 @@ impl Engine {
         ensures steps { OnOk result (self.new.steps ≡ self.old.steps + 1) }
         ensures err { OnErr result (self.new ≡ self.old) }
     {
-        self.machine.step_copies(session, call)
+        no_key_stands_twice();
+        self.machine.step_copies_apart(session, call)
+    }
+
+    /// What an engine keeps: calls led to its state, from a start that keeps the rules. So the laws of such states hold of it. It does
+    /// nothing: its contract is a law.
+    pub fn know_reached(&self)
+        ensures { IsReached self.now.state }
+    {
+        let _machine = &self.machine;
     }
 
     /// How many steps it has taken.

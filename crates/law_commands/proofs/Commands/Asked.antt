@@ -66,7 +66,8 @@ errands_end asked files after fb fa h result before printed tells (inl done) unf
 errands_end asked files after fb fa h result before printed tells (inr (inl found)) unfailed = absurd found.1
 errands_end asked files after fb fa h result before printed tells (inr (inr (inl undone))) unfailed =
     cause_end asked tells.0 undone.0 result tells.2 (subst (λ (runs : Option RunMap). IsCause asked runs undone.0) tells.1 undone.1.0) undone.3
-errands_end asked files after fb fa h result before printed tells (inr (inr (inr outside))) unfailed = elim outside.0 as (λ _. MayEnd asked result) [
+errands_end asked files after fb fa h result before printed tells (inr (inr (inr (inl unsent)))) unfailed = absurd unsent.1
+errands_end asked files after fb fa h result before printed tells (inr (inr (inr (inr outside)))) unfailed = elim outside.0 as (λ _. MayEnd asked result) [
   | inl five ↦ absurd (unfailed five)
   | inr six ↦ short_end asked result six
 ]

@@ -14,7 +14,7 @@ use Rattle.law_commands.proofs.Legality.Taken.{plan_given}
 use Rattle.desk_words.specs.declared.words.Command.TheVariants.{Run, Prepare, Serve, Generate, Trial, Register, Runs, Accept, Compare}
 use Rattle.register_work.specs.declared.errand.Errand.TheVariants as errand
 use Rattle.remap_ids.specs.Services.{ServicePair}
-use Rattle.replay_cli.specs.Decision.{Legal, ReadIn, RemapIn, SessionOf, TargetIn, ToReplay, ToTell, ToServe, ToMake, ToTry, ToKeep, legal_from, remap_of, run_job}
+use Rattle.replay_cli.specs.Decision.{Legal, ReadIn, RemapIn, SessionOf, TargetIn, ToTell, ToServe, ToMake, ToTry, ToKeep, legal_from, remap_of, run_job, run_task}
 use Rattle.replay_cli.specs.Steps.{Reading, file_in, file_of}
 use Rattle.replay_cli.specs.FileNames.{report_name, session_names, start_name}
 use Rattle.law_commands.specs.Commands.Complete.{AreCapture, AreThere, HasRemap, HasTarget, CapturesAreMade, CapturesArePrepared, CapturesAreReplayed, CapturesAreTried, DivergencesAreAccepted, IsThere, LegalCapturesArePrepared, LegalCapturesAreReplayed, ReportsAreRegistered, RunsAreCompared, RunsAreListed, StartsAreServed, total}
@@ -60,7 +60,7 @@ target_read files (Some name) start target has = (has.0, file_read files file_li
 pub replayed : CapturesAreReplayed
 replayed words files folder out ways file lists services target plan command are has changes is =
     let legal : Legal = record { start = file.start; calls = plan.calls; facts = plan.facts } in
-    verdict_is words files (Run folder out ways) (ToReplay out (run_job legal target services ways)) command
+    verdict_is words files (Run folder out ways) (run_task out (run_job legal target services ways) ways.target) command
     (record { start = file.start; sessions = lists }, capture_read files folder file lists are, (services, remap_read files ways.remap services has, (target, target_read files ways.change file.start target changes, (legal, ap (legal_from file.start) is, refl))))
 
 pub prepared : CapturesArePrepared

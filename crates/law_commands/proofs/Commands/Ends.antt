@@ -26,10 +26,11 @@ use Rattle.desk_files.specs.declared.writes.Write.{Write}
 use Rattle.fence_law.specs.Laws.{AreSame, OneListOfPlainReads, PlainReadsAreSame}
 use Rattle.fence_law.specs.Plain.{ArePlainReads}
 use Rattle.divergence_cause.specs.Laws.{NoUpgradeWhereUnchanged, OneListOfCauses}
+use Rattle.remote_desk.specs.History.{plain}
 use Rattle.replay_cli.specs.Done.{AreReadsOf}
 use Rattle.replay_cli.specs.Lines.{replayed_line}
 use Rattle.replay_cli.proofs.Sound.{is_replay}
-use Rattle.law_commands.specs.Commands.Ends.{JournalsTellTheirHistory, OneIsTold, PlansTellTheirHistory, QuietRunsCarryTables, ReadsMeetTheirCommits, RunsAgainAreQuiet, TablesAreCarried, ToldIsQuiet}
+use Rattle.law_commands.specs.Commands.Ends.{JournalsTellTheirHistory, OneIsTold, PlansTellTheirHistory, QuietRunsCarryTables, ReadsMeetTheirCommits, RunsAgainAreQuiet, SentJournalsTellTheirHistory, SentPlansTellTheirHistory, TablesAreCarried, ToldIsQuiet}
 
 is_journal : (job : JobView) (history : List Event) (texts : AllByRecursion IsEvent history) → IsJournal (journal_text job.mode history) job.mode history
 is_journal job history texts = record { fit = texts; text = refl }
@@ -37,6 +38,12 @@ is_journal job history texts = record { fit = texts; text = refl }
 pub journal_tells : JournalsTellTheirHistory
 journal_tells out job plan history last done =
     let is = is_journal job history done.0.1 in
+    (is, λ mode other also. one_file (journal_text job.mode history) mode job.mode other history also is)
+
+pub sent_journal_tells : SentJournalsTellTheirHistory
+sent_journal_tells out job plan dial sent =
+    let history = plain sent.events in
+    let is = is_journal job history sent.texts in
     (is, λ mode other also. one_file (journal_text job.mode history) mode job.mode other history also is)
 
 -- the bytes of the first file
@@ -49,6 +56,13 @@ unfolding first_bytes
 plan_tells out job plan history other last later done also =
     let same : journal_text job.mode other ≡ journal_text job.mode history = ap first_bytes (sym also.2.writes_are ∙ done.2.writes_are) in
     let told = (journal_tells out job plan history last done).1 job.mode other (subst (λ (bytes : List ℕ). IsJournal bytes job.mode other) same (is_journal job other also.0.1)) in
+    told.1
+
+pub sent_plan_tells : SentPlansTellTheirHistory
+unfolding first_bytes
+sent_plan_tells out job plan dial later sent other =
+    let same : journal_text job.mode (plain other.events) ≡ journal_text job.mode (plain sent.events) = ap first_bytes (sym other.writes ∙ sent.writes) in
+    let told = (sent_journal_tells out job plan dial sent).1 job.mode (plain other.events) (subst (λ (bytes : List ℕ). IsJournal bytes job.mode (plain other.events)) same (is_journal job (plain other.events) other.texts)) in
     told.1
 
 one_reads : OneListOfPlainReads → (job : JobView) (history : List Event) (reads others : Option (List ℕ)) → AreReadsOf job history reads → AreReadsOf job history others → reads ≡ others

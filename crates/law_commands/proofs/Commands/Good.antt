@@ -12,11 +12,12 @@ use Rattle.register_work.specs.declared.errand.Errand.{Errand}
 use Rattle.register_work.specs.declared.errand.Errand.TheVariants as errand
 use Rattle.register_work.specs.Errand.{AreGood}
 use Rattle.law_commands.proofs.Register.Answering.{kept_good}
-use Rattle.replay_cli.specs.declared.failure.Failure.TheVariants.{BadCommand, Refused, Differs, NotDone, DeviceFault, OutOfMemory}
+use Rattle.replay_cli.specs.declared.failure.Failure.TheVariants.{BadCommand, Refused, Differs, NotDone, NotSent, DeviceFault, OutOfMemory}
 use Rattle.replay_cli.specs.declared.plan.Plan.{Plan}
-use Rattle.replay_cli.specs.Decision.{IsTaskOf, Task, ToKeep, ToMake, ToReplay, ToServe, ToTell, ToTry}
+use Rattle.replay_cli.specs.Decision.{IsTaskOf, Task, ToKeep, ToMake, ToReplay, ToSend, ToServe, ToTell, ToTry}
 use Rattle.replay_cli.specs.Done.{IsDone, IsKept}
-use Rattle.replay_cli.specs.Ending.{MayDiffer}
+use Rattle.replay_cli.specs.Ending.{IsUnsentOf, MayDiffer}
+use Rattle.replay_cli.specs.declared.unsent.Unsent.{Unsent}
 use Rattle.replay_cli.specs.Hosting.{Hosting, IsUnasked}
 use Rattle.law_commands.specs.Commands.Complete.{RegistersStayGood, TellsReports}
 
@@ -69,9 +70,21 @@ done_leaves : (command : Command) (task : Task) (plan : Plan) (h : Hosting) → 
 done_leaves command (ToServe out start most port) plan h tells is done = same_leaves h tells done.1.runs
 done_leaves command (ToKeep asked) plan h tells is done = errand_leaves command asked plan h tells is done.0
 done_leaves command (ToReplay out job) plan h tells is done = unasked_leaves h tells done.1
+done_leaves command (ToSend out job port) plan h tells is done = same_leaves h tells done.2.runs
 done_leaves command (ToTell out facts) plan h tells is done = unasked_leaves h tells done.1
 done_leaves command (ToMake n out) plan h tells is done = unasked_leaves h tells done.1
 done_leaves command (ToTry n) plan h tells is done = unasked_leaves h tells done.1
+
+-- ---- where a replay against another server came to no end
+
+unsent_leaves : (task : Task) (cause : Unsent) (h : Hosting) → TellsReports h → IsUnsentOf task cause h → LeavesReports h
+unsent_leaves (ToSend out job port) cause h tells is = same_leaves h tells is.2.runs
+unsent_leaves (ToServe out start most port) cause h tells is = absurd is
+unsent_leaves (ToKeep asked) cause h tells is = absurd is
+unsent_leaves (ToReplay out job) cause h tells is = absurd is
+unsent_leaves (ToTell out facts) cause h tells is = absurd is
+unsent_leaves (ToMake n out) cause h tells is = absurd is
+unsent_leaves (ToTry n) cause h tells is = absurd is
 
 pub registers_good : RegistersStayGood
 registers_good None h done tells may = unasked_leaves h tells may.1
@@ -80,5 +93,6 @@ registers_good (Some command) h (Err BadCommand) tells may = absurd may
 registers_good (Some command) h (Err (Refused refusal)) tells may = unasked_leaves h tells may.1
 registers_good (Some command) h (Err (Differs finding)) tells may = differs_leaves command finding h tells may
 registers_good (Some command) h (Err (NotDone cause)) tells may = unasked_leaves h tells may.2.1
+registers_good (Some command) h (Err (NotSent cause)) tells may = unsent_leaves may.0 cause h tells may.2
 registers_good (Some command) h (Err DeviceFault) tells may = same_leaves h tells may.0
 registers_good (Some command) h (Err OutOfMemory) tells may = same_leaves h tells may.0

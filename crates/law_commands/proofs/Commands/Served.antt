@@ -24,7 +24,7 @@ use Rattle.captured_calls.specs.Verdict.{CanBeLegal, IsLegal}
 use Rattle.capture_recorder.specs.Recording.{Recording}
 use Rattle.capture_recorder.proofs.Listed.{have_just}
 use Rattle.capture_serve.specs.Service.{AreReadFrom, CaptureView, IsCapture}
-use Rattle.replay_cli.specs.Decision.{ToReplay, ToTell, Verdict, run_job}
+use Rattle.replay_cli.specs.Decision.{ToTell, Verdict, run_job, run_task}
 use Rattle.replay_cli.specs.Done.{session_files}
 use Rattle.replay_cli.specs.FileNames.{in_three_digits, session_name, session_names, start_name}
 use Rattle.law_commands.specs.Commands.Complete.{AreCapture, AreThere, total}
@@ -165,7 +165,7 @@ served_legal files out start most plan before after served =
 pub served_replayed : ServedCapturesAreReplayed
 served_replayed words files folder out ways services start target most plan before after command served small has changes =
     let can = served_legal files folder start most plan before after served in
-    subst (λ (calls : List Captured). Verdict words (with_all plan.writes files) (Ok (ToReplay out (run_job (record { start = start; calls = calls; facts = facts_of start.schema calls }) target services ways)))) can.1
+    subst (λ (calls : List Captured). Verdict words (with_all plan.writes files) (Ok (run_task out (run_job (record { start = start; calls = calls; facts = facts_of start.schema calls }) target services ways) ways.target))) can.1
     (legal_replayed words (with_all plan.writes files) folder out ways (start_file served) served.capture.sessions services target command (can.2 small) has changes can.0)
 
 pub served_prepared : ServedCapturesArePrepared

@@ -23,14 +23,14 @@ use Rattle.desk_words.specs.declared.words.Command.{Command}
 use Rattle.desk_words.specs.declared.words.Command.TheVariants.{Run, Prepare}
 use Rattle.desk_words.specs.Command.{command_of}
 use Rattle.replay_cli.specs.declared.capture.Opened.{Opened}
-use Rattle.replay_cli.specs.Decision.{Decides, Legal, OpenedIn, PrepareIn, Read, ReadIn, RemapIn, RunIn, SessionOf, StartOf, TargetIn, TargetOf, Task, ToReplay, ToTell, Verdict, VerdictOf, legal_from, remap_of, run_job}
+use Rattle.replay_cli.specs.Decision.{Decides, Legal, OpenedIn, PrepareIn, Read, ReadIn, RemapIn, RunIn, SessionOf, StartOf, TargetIn, TargetOf, Task, ToTell, Verdict, VerdictOf, legal_from, remap_of, run_job, run_task}
 use Rattle.replay_cli.specs.Done.{IsServed}
 use Rattle.replay_cli.specs.FileNames.{session_name, session_names, start_name}
 use Rattle.replay_cli.specs.Limits.{capture_limit}
 use Rattle.replay_cli.specs.Lines.{refusal_status}
 use Rattle.replay_cli.specs.Steps.{Is, Reading, Then, file_in, file_of}
 use Rattle.replay_cli.specs.declared.failure.Failure.{Failure}
-use Rattle.replay_cli.specs.declared.failure.Failure.TheVariants.{BadCommand, DeviceFault, Differs, NotDone, OutOfMemory, Refused}
+use Rattle.replay_cli.specs.declared.failure.Failure.TheVariants.{BadCommand, DeviceFault, Differs, NotDone, NotSent, OutOfMemory, Refused}
 use Rattle.replay_cli.specs.declared.failure.Refusal.{Refusal}
 use Rattle.replay_cli.specs.declared.failure.Refusal.TheVariants.{TooLong}
 use Rattle.replay_cli.specs.declared.plan.Plan.{Plan}
@@ -173,7 +173,7 @@ module _ (files : FileMap) (folder bytes : List ℕ) (file : StartFile) (texts :
 
   module _ (out : List ℕ) (ways : Ways) where
     abbrev replayed_of : List ServicePair → StartView → Legal → Result Task Refusal → Type 0
-    replayed_of services target legal = Is (Ok (ToReplay out (run_job legal target services ways)))
+    replayed_of services target legal = Is (Ok (run_task out (run_job legal target services ways) ways.target))
 
     abbrev changed_of : Read → List ServicePair → StartView → Result Task Refusal → Type 0
     changed_of read services target = Then (Is (legal_from read.start (verdict read.start read.sessions))) (replayed_of services target)
@@ -215,6 +215,7 @@ verdict_well words files command found safe v is = decided v (subst (λ (c : Opt
   decided (Err (Refused refusal)) there = safe refusal there
   decided (Err (Differs finding)) there = absurd there
   decided (Err (NotDone cause)) there = absurd there
+  decided (Err (NotSent cause)) there = absurd there
   decided (Err DeviceFault) there = absurd there
   decided (Err OutOfMemory) there = absurd there
 

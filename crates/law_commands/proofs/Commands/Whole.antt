@@ -1,13 +1,22 @@
 -- The report of a replay is whole, so its text is that of a report, which can be registered.
-use Rattle.std.proofs.Common.{◌≡◌, ◌≢◌, ◌⊎◌, inl, inr, ℕ, suc, ◌+◌, ◌-◌, ◌≤◌, ◌<◌, Bool, true, false, cond, eqb, List, [], ◌∷◌, ◌++◌, map, length, take, Option, None, Some, refl, sym, subst, ◌∙◌, arith}
-use Rattle.std.specs.Prelude.{◌^◌, count_by}
+use Rattle.std.proofs.Common.{◌≡◌, ◌≢◌, ◌⊎◌, inl, inr, ℕ, zero, suc, ◌+◌, ◌-◌, ◌≤◌, ◌<◌, Bool, true, false, cond, eqb, List, [], ◌∷◌, ◌++◌, map, length, take, Option, None, Some, Ok, refl, sym, ap, subst, ◌∙◌, arith}
+use Rattle.std.specs.Prelude.{◌^◌, count_by, slice_get}
+use Rattle.std.specs.FinMap.{get}
 use Rattle.std.specs.List.{flat_map}
-use Rattle.std.proofs.lemmas.Bool.{eqb-true, ne_eqb}
+use Rattle.std.specs.Option.{option_or}
+use Rattle.std.proofs.lemmas.Bool.{eq-eqb, eqb-true, ne_eqb}
 use Rattle.std.proofs.lemmas.List.{length-append, length-take}
 use Rattle.std.proofs.lemmas.List.Sums.{count_by-le-length, sum_by-append}
-use Rattle.std.proofs.lemmas.Option.{slice_get_within}
+use Rattle.std.proofs.lemmas.Option.{same_Some, slice_get_within}
 use Rattle.desk_values.specs.declared.capture.Captured.{Captured}
+use Rattle.desk_values.specs.declared.call.Reply.{Reply}
 use Rattle.desk_values.specs.declared.capture.Event.{Event}
+use Rattle.desk_values.specs.declared.capture.Event.TheVariants.{Answer}
+use Rattle.desk_files.specs.Outside.{FileMap}
+use Rattle.desk_words.specs.declared.words.Command.TheVariants.{Register}
+use Rattle.desk_words.specs.Command.{command_of}
+use Rattle.id_pairs.specs.Pairs.{IdPair, all_new}
+use Rattle.remap_ids.specs.IdMap.{start_pairs}
 use Rattle.replay_history.specs.Class.{class_number}
 use Rattle.replay_history.specs.Gap.{IsCallAt}
 use Rattle.replay_history.specs.History.{AnswersAt}
@@ -15,13 +24,22 @@ use Rattle.replay_history.specs.Texts.{report_text}
 use Rattle.replay_history.specs.declared.report.Class.{Class}
 use Rattle.replay_history.specs.declared.report.Class.TheVariants.{Same, NewError, GoneError, MutatedError, RowsModified, RowsFetched, RowContents, Images, Shape}
 use Rattle.replay_history.specs.declared.report.Line.{Line}
+use Rattle.replay_history.specs.declared.report.Report.{Report}
 use Rattle.replay_job.specs.Job.{JobView}
 use Rattle.replay_job.specs.Replays.{IsSoundJob}
-use Rattle.replay_job.specs.Runs.{IsCompleteFor, Stage}
+use Rattle.replay_job.specs.Runs.{IsCompleteFor, Stage, gained}
 use Rattle.divergence.specs.Class.{class_between}
-use Rattle.replay_report.specs.Report.{class_of, counts_of, difference, is_class, pairs_after, report_in}
+use Rattle.replay_report.specs.Last.{last_of}
+use Rattle.replay_report.specs.Report.{Growth, class_at, class_by, class_of, counts_of, difference, heard_class_of, heard_report_in, is_class, marked_by, pairs_after, report_by, report_in}
 use Rattle.replay_report.proofs.Reports.{by_own_answer}
 use Rattle.report_format.specs.ReportFile.{AreLinesFrom, IsWhole, count_in, counts_in}
+use Rattle.remote_desk.specs.History.{plain}
+use Rattle.register_work.specs.declared.errand.Errand.TheVariants as errand
+use Rattle.replay_cli.specs.declared.plan.Plan.{Plan}
+use Rattle.replay_cli.specs.Decision.{ToKeep, Verdict}
+use Rattle.replay_cli.specs.Done.{IsSent}
+use Rattle.replay_cli.specs.FileNames.{report_name}
+use Rattle.replay_cli.specs.Hosting.{Dialling}
 use Rattle.law_commands.specs.Commands.Reports.{ReportsAreWhole, WrittenReportsAreRegistered}
 use Rattle.law_commands.proofs.Commands.Complete.{registered}
 use Rattle.law_commands.proofs.Commands.Small.{reports_small}
@@ -120,10 +138,11 @@ module _ (f : Captured → Option Class) where
 
 -- ---- the report of a replay
 
-pub whole : (job : JobView) (history : List Event) (last : Stage) → IsSoundJob job → IsCompleteFor job history last → IsWhole (report_in job history)
-whole job history last sound complete =
+-- where each call of a job has a class, its report is whole
+whole_by : (job : JobView) (f : Captured → Option Class) → IsSoundJob job → AreClassed f job.calls → IsWhole (report_by job f)
+whole_by job f sound classed =
     let legal = sound.replayable.legal in
-    let small : (k : ℕ) (call : Captured) → IsCallAt job.calls k call → (call.stamp ≡ 0 + k) × IsSmall (class_of job history) (length job.calls) call =
+    let small : (k : ℕ) (call : Captured) → IsCallAt job.calls k call → (call.stamp ≡ 0 + k) × IsSmall f (length job.calls) call =
     λ k call at.
     let fits = legal.each k call at in
     let within = slice_get_within job.calls k call at in
@@ -131,22 +150,60 @@ whole job history last sound complete =
     let took = length-take k job.calls in
     let stamp = fits.stamp in let place = fits.place in let session = fits.session in let count = legal.count in
     (stamp ∙ omega arith, (omega arith, omega arith, omega arith)) in
-    let classed : AreClassed (class_of job history) job.calls = λ k call at.
-    let fits = legal.each k call at in
-    let answer = complete.whole k (slice_get_within job.calls k call at) in
-    let own : AnswersAt history answer.0 call.stamp answer.1 = subst (λ (m : ℕ). AnswersAt history answer.0 m answer.1) (sym fits.stamp) answer.2 in
-    (class_between (pairs_after job (take (answer.0 + 1) history)) call.reply answer.1, by_own_answer job history answer.0 call answer.1 complete.legal own) in
     record {
       limit = legal.count;
-      lines = rising (class_of job history) (length job.calls) job.calls 0 0 small (omega arith);
-      counts = counts (class_of job history) job.calls classed;
+      lines = rising f (length job.calls) job.calls 0 0 small (omega arith);
+      counts = counts f job.calls classed;
     }
+
+pub whole : (job : JobView) (history : List Event) (last : Stage) → IsSoundJob job → IsCompleteFor job history last → IsWhole (report_in job history)
+whole job history last sound complete =
+    whole_by job (class_of job history) sound (λ k call at.
+    let fits = sound.replayable.legal.each k call at in
+    let answer = complete.whole k (slice_get_within job.calls k call at) in
+    let own : AnswersAt history answer.0 call.stamp answer.1 = subst (λ (m : ℕ). AnswersAt history answer.0 m answer.1) (sym fits.stamp) answer.2 in
+    (class_between (pairs_after job (take (answer.0 + 1) history)) call.reply answer.1, by_own_answer job history answer.0 call answer.1 complete.legal own))
 
 pub reports_whole : ReportsAreWhole
 reports_whole job history last sound replay = record { whole = whole job history last sound replay.0; text = refl }
 
+-- wherever a whole report stands as it is written, it is to be registered
+pub whole_registered : (words : List (List ℕ)) (files : FileMap) (out run : List ℕ) (report : Report) → command_of words ≡ Some (Register out run) → IsWhole report → get files (report_name out) ≡ Some (report_text report)
+    → Verdict words files (Ok (ToKeep (errand.Register run (report_text report) report)))
+whole_registered words files out run report command is there =
+    registered words files out run (report_text report) report command (there, reports_small report is) (record { whole = is; text = refl })
+
 pub written_registered : WrittenReportsAreRegistered
 written_registered words files out run job history last command sound replay there =
-    let report = report_in job history in
-    let is = reports_whole job history last sound replay in
-    registered words files out run (report_text report) report command (there, reports_small report is.whole) is
+    whole_registered words files out run (report_in job history) command (whole job history last sound replay.0) there
+
+-- ---- the report of a replay against another server
+
+by_own : (call : Captured) (reply : Reply) (pairs : List IdPair) → class_by call (Answer call.stamp reply) pairs ≡ Some (class_between pairs call.reply reply)
+by_own call reply pairs = ap (λ (b : Bool). cond b (Some (class_between pairs call.reply reply)) None) (eq-eqb call.stamp call.stamp refl)
+
+some_of : (later own : Option Class) (class : Class) → own ≡ Some class → (found : Class) × (option_or later own ≡ Some found)
+some_of None own class is = (class, is)
+some_of (Some found) own class is = (found, refl)
+
+-- a call that is answered has a class, however the pairs grow
+classed_in : (grow : Growth) (calls : List Captured) (call : Captured) (pairs : List IdPair) (xs : List Event) (i : ℕ) (reply : Reply) → slice_get xs i ≡ Some (Answer call.stamp reply)
+    → (class : Class) × (last_of (class_at call) (marked_by grow calls pairs xs) ≡ Some class)
+classed_in grow calls call pairs [] i reply at = absurd cc
+classed_in grow calls call pairs (first ∷ xs) zero reply at =
+    let known = grow pairs (gained calls first) in
+    let is : class_by call first known ≡ Some (class_between known call.reply reply) = ap (λ (e : Event). class_by call e known) (same_Some first (Answer call.stamp reply) at) ∙ by_own call reply known in
+    some_of (last_of (class_at call) (marked_by grow calls known xs)) (class_by call first known) (class_between known call.reply reply) is
+classed_in grow calls call pairs (first ∷ xs) (suc i) reply at =
+    let known = grow pairs (gained calls first) in
+    let rest = classed_in grow calls call known xs i reply at in
+    (rest.0, ap (λ (o : Option Class). option_or o (class_by call first known)) rest.1)
+
+pub sent_whole : (out : List ℕ) (job : JobView) (plan : Plan) (dial : Dialling) (sent : IsSent out job plan dial) → IsSoundJob job → IsWhole (heard_report_in job (plain sent.events))
+sent_whole out job plan dial sent sound =
+    let history = plain sent.events in
+    whole_by job (heard_class_of job history) sound (λ k call at.
+    let fits = sound.replayable.legal.each k call at in
+    let answer = sent.whole k (slice_get_within job.calls k call at) in
+    let own : AnswersAt history answer.0 call.stamp answer.1 = subst (λ (m : ℕ). AnswersAt history answer.0 m answer.1) (sym fits.stamp) answer.2 in
+    classed_in all_new job.calls call (start_pairs job.start) history answer.0 answer.1 own)

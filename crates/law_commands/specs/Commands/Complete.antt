@@ -3,7 +3,7 @@ use Rattle.std.specs.Prelude.{◌≡◌, ◌≢◌, ℕ, ◌+◌, ◌≤◌, ◌
 use Rattle.std.specs.FinMap.{get}
 use Rattle.std.specs.List.{sum_by}
 use Rattle.desk_values.specs.declared.capture.Captured.{Captured}
-use Rattle.desk_files.specs.Outside.{FileMap}
+use Rattle.desk_files.specs.Outside.{FileMap, HasRisen}
 use Rattle.desk_files.specs.Limits.{file_limit}
 use Rattle.replay_cli.specs.Limits.{capture_limit}
 use Rattle.capture_format.specs.declared.start.StartFile.{StartFile}
@@ -28,7 +28,8 @@ use Rattle.register_work.specs.declared.errand.Errand.TheVariants as errand
 use Rattle.register_work.specs.Errand.{AreGood}
 use Rattle.replay_cli.specs.declared.failure.Failure.{Failure}
 use Rattle.replay_cli.specs.declared.plan.Plan.{Plan}
-use Rattle.replay_cli.specs.Decision.{Verdict, ToReplay, ToTell, ToServe, ToMake, ToTry, ToKeep, run_job}
+use Rattle.replay_job.specs.Job.{JobView}
+use Rattle.replay_cli.specs.Decision.{Verdict, ToSend, ToTell, ToServe, ToMake, ToTry, ToKeep, run_job, run_task}
 use Rattle.replay_cli.specs.Ending.{Ends, MayComeTo}
 use Rattle.replay_cli.specs.FileNames.{report_name, session_names, start_name}
 use Rattle.replay_cli.specs.Hosting.{Hosting}
@@ -73,7 +74,7 @@ CapturesAreReplayed = (words : List (List ℕ)) (files : FileMap) (folder out : 
     → command_of words ≡ Some (Run folder out ways) → AreCapture files folder file lists
     → HasRemap files ways.remap services → HasTarget files ways.change file.start target → verdict file.start lists ≡ Ok plan
     → Verdict words files
-    (Ok (ToReplay out (run_job (record { start = file.start; calls = plan.calls; facts = plan.facts }) target services ways)))
+    (Ok (run_task out (run_job (record { start = file.start; calls = plan.calls; facts = plan.facts }) target services ways) ways.target))
 
 abbrev pub CapturesArePrepared : Type 0
 CapturesArePrepared =
@@ -89,7 +90,7 @@ LegalCapturesAreReplayed = (words : List (List ℕ)) (files : FileMap) (folder o
     → HasRemap files ways.remap services → HasTarget files ways.change file.start target → CanBeLegal file.start (all_calls lists)
     → let calls = by_stamp (all_calls lists) in
     Verdict words files
-    (Ok (ToReplay out (run_job (record { start = file.start; calls = calls; facts = facts_of file.start.schema calls }) target services ways)))
+    (Ok (run_task out (run_job (record { start = file.start; calls = calls; facts = facts_of file.start.schema calls }) target services ways) ways.target))
 
 -- and which wait for which is told
 abbrev pub LegalCapturesArePrepared : Type 0
@@ -144,6 +145,14 @@ MayEnd (errand.Compare a b) n = (n ≡ 0) ⊎ ((n ≡ 1) ⊎ ((n ≡ 6) ⊎ ((n 
 abbrev pub ErrandsEndSo : Type 0
 ErrandsEndSo = (asked : Errand) (files after : FileMap) (fb fa : ℕ) (h : Hosting) (result : ℕ) (before printed : Option (List ℕ))
     → TellsReports h → Ends (Ok (ToKeep asked)) files after fb fa h result before printed → result ≢ 5 → MayEnd asked result
+
+-- how a replay against another server may end, where neither a device nor a line fails
+abbrev pub MayEndSent : ℕ → Type 0
+MayEndSent n = (n ≡ 0) ⊎ ((n ≡ 1) ⊎ ((n ≡ 6) ⊎ (n ≡ 9)))
+
+abbrev pub SentRunsEndSo : Type 0
+SentRunsEndSo = (out : List ℕ) (job : JobView) (port : ℕ) (files after : FileMap) (fb fa : ℕ) (h : Hosting) (result : ℕ) (before printed : Option (List ℕ))
+    → ¬ HasRisen h.dial.faults_before h.dial.faults_after → Ends (Ok (ToSend out job port)) files after fb fa h result before printed → result ≢ 5 → MayEndSent result
 
 -- whatever a command comes to, a register of reports stays one
 abbrev pub RegistersStayGood : Type 0

@@ -18,9 +18,11 @@ use Rattle.law_replays.specs.End.Laws.{IsAsCaptured}
 use Rattle.law_replays.specs.End.Tables.{AreCarried, CameTo}
 use Rattle.fence_law.specs.Laws.{AreSame}
 use Rattle.divergence_cause.specs.Causes.{AllAreTiming}
+use Rattle.remote_desk.specs.History.{plain}
 use Rattle.replay_cli.specs.declared.plan.Plan.{Plan}
 use Rattle.replay_cli.specs.declared.told.Told.{Told}
-use Rattle.replay_cli.specs.Done.{IsDoneBy, IsQuiet, IsToldOf}
+use Rattle.replay_cli.specs.Done.{IsDoneBy, IsQuiet, IsSent, IsToldOf}
+use Rattle.replay_cli.specs.Hosting.{Dialling}
 use Rattle.replay_cli.specs.Lines.{replayed_line}
 
 -- the journal that is written is that of the replay's history, and of no other
@@ -30,6 +32,18 @@ JournalsTellTheirHistory = (out : List ℕ) (job : JobView) (plan : Plan) (histo
     → IsJournal (journal_text job.mode history) job.mode history
     × ((mode : Mode) (other : List Event) → IsJournal (journal_text job.mode history) mode other
     → (mode ≡ job.mode) × (other ≡ history))
+
+-- the same of a replay against another server: the journal is that of its history without what was sent
+abbrev pub SentJournalsTellTheirHistory : Type 0
+SentJournalsTellTheirHistory = (out : List ℕ) (job : JobView) (plan : Plan) (dial : Dialling) (sent : IsSent out job plan dial)
+    → IsJournal (journal_text job.mode (plain sent.events)) job.mode (plain sent.events)
+    × ((mode : Mode) (other : List Event) → IsJournal (journal_text job.mode (plain sent.events)) mode other
+    → (mode ≡ job.mode) × (other ≡ plain sent.events))
+
+-- and its files and its line are those of one history alone
+abbrev pub SentPlansTellTheirHistory : Type 0
+SentPlansTellTheirHistory = (out : List ℕ) (job : JobView) (plan : Plan) (dial later : Dialling) (sent : IsSent out job plan dial) (other : IsSent out job plan later)
+    → plain other.events ≡ plain sent.events
 
 -- so the files and the line are those of one history alone
 abbrev pub PlansTellTheirHistory : Type 0

@@ -12,13 +12,15 @@ use Rattle.replay_history.specs.Texts.{report_text}
 use Rattle.replay_job.specs.Job.{JobView}
 use Rattle.replay_job.specs.Replays.{IsSoundJob}
 use Rattle.replay_job.specs.Runs.{Stage}
-use Rattle.replay_report.specs.Report.{report_in}
+use Rattle.replay_report.specs.Report.{heard_report_in, report_in}
+use Rattle.remote_desk.specs.History.{plain}
 use Rattle.report_format.specs.ReportFile.{IsReport, IsWhole}
 use Rattle.register_work.specs.declared.errand.Errand.TheVariants as errand
 use Rattle.replay_cli.specs.declared.plan.Plan.{Plan}
 use Rattle.replay_cli.specs.Decision.{ToKeep, Verdict}
-use Rattle.replay_cli.specs.Done.{IsDoneBy, IsReplayOf}
+use Rattle.replay_cli.specs.Done.{IsDoneBy, IsReplayOf, IsSent}
 use Rattle.replay_cli.specs.FileNames.{report_name}
+use Rattle.replay_cli.specs.Hosting.{Dialling}
 
 -- the text of a replay's report is that of a report
 abbrev pub ReportsAreWhole : Type 0
@@ -41,3 +43,10 @@ abbrev pub RunsAreRegistered : Type 0
 RunsAreRegistered = (words : List (List ℕ)) (files : FileMap) (out run : List ℕ) (job : JobView) (plan : Plan) (history : List Event) (last : Stage)
     → command_of words ≡ Some (Register out run) → IsSoundJob job → IsDoneBy out job plan history last
     → Verdict words (with_all plan.writes files) (Ok (ToKeep (errand.Register run (report_text (report_in job history)) (report_in job history))))
+
+-- and so behind a replay against another server
+abbrev pub SentReportsAreRegistered : Type 0
+SentReportsAreRegistered = (words : List (List ℕ)) (files : FileMap) (out run : List ℕ) (job : JobView) (plan : Plan) (dial : Dialling) (sent : IsSent out job plan dial)
+    → command_of words ≡ Some (Register out run) → IsSoundJob job
+    → Verdict words (with_all plan.writes files)
+    (Ok (ToKeep (errand.Register run (report_text (heard_report_in job (plain sent.events))) (heard_report_in job (plain sent.events)))))

@@ -15,7 +15,7 @@ use Rattle.remap_ids.specs.Services.{ServicePair}
 use Rattle.desk_words.specs.declared.ways.Ways.{Ways}
 use Rattle.desk_words.specs.declared.words.Command.TheVariants.{Run, Prepare}
 use Rattle.desk_words.specs.Command.{command_of}
-use Rattle.replay_cli.specs.Decision.{Task, ToReplay, ToTell, Verdict, run_job}
+use Rattle.replay_cli.specs.Decision.{Task, ToTell, Verdict, run_job, run_task}
 use Rattle.replay_cli.specs.Done.{IsServed}
 use Rattle.replay_cli.specs.Limits.{capture_limit}
 use Rattle.replay_cli.specs.Lines.{failure_status}
@@ -49,7 +49,7 @@ ServedCapturesAreReplayed =
     → HasRemap (with_all plan.writes files) ways.remap services → HasTarget (with_all plan.writes files) ways.change start target
     → let calls = served.service.recording.calls in
     Verdict words (with_all plan.writes files)
-    (Ok (ToReplay out (run_job (record { start = start; calls = calls; facts = facts_of start.schema calls }) target services ways)))
+    (Ok (run_task out (run_job (record { start = start; calls = calls; facts = facts_of start.schema calls }) target services ways) ways.target))
 
 -- and `prepare` tells which of it wait for which
 abbrev pub ServedCapturesArePrepared : Type 0

@@ -3,12 +3,12 @@ use Rattle.std.specs.Prelude.{◌≡◌, ℕ, ◌≤◌, ◌⊎◌, Result, Ok, 
 use Rattle.desk_files.specs.Outside.{FileMap, HasRisen}
 use Rattle.desk_files.specs.Writes.{with_all}
 use Rattle.replay_cli.specs.declared.failure.Failure.{Failure}
-use Rattle.replay_cli.specs.declared.failure.Failure.TheVariants.{BadCommand, Refused, Differs, NotDone, DeviceFault, OutOfMemory}
+use Rattle.replay_cli.specs.declared.failure.Failure.TheVariants.{BadCommand, Refused, Differs, NotDone, NotSent, DeviceFault, OutOfMemory}
 use Rattle.replay_cli.specs.declared.plan.Plan.{Plan}
 use Rattle.replay_cli.specs.Decision.{Task}
 use Rattle.replay_cli.specs.Done.{IsDone}
 use Rattle.replay_cli.specs.Hosting.{HasNoFault, Hosting, IsUnasked}
-use Rattle.replay_cli.specs.Ending.{IsCauseOf, IsFoundOf, LeftOf}
+use Rattle.replay_cli.specs.Ending.{IsCauseOf, IsFoundOf, IsUnsentOf, LeftOf}
 use Rattle.replay_cli.specs.Inside.Serving.{OneFailed}
 
 -- the files are as before and neither the host nor the keeper was asked, or it is as after some of the work of a task that was wanted
@@ -22,6 +22,7 @@ RunSays wanted before after fb fa h (Err BadCommand) = wanted (Err BadCommand) �
 RunSays wanted before after fb fa h (Err (Refused refusal)) = wanted (Err (Refused refusal)) × (after ≡ before) × IsUnasked h
 RunSays wanted before after fb fa h (Err (Differs finding)) = (task : Task) × wanted (Ok task) × IsFoundOf task finding h × (after ≡ before)
 RunSays wanted before after fb fa h (Err (NotDone cause)) = (task : Task) × wanted (Ok task) × IsCauseOf task cause h × (after ≡ before)
+RunSays wanted before after fb fa h (Err (NotSent cause)) = (task : Task) × wanted (Ok task) × IsUnsentOf task cause h × (after ≡ before)
 RunSays wanted before after fb fa h (Err DeviceFault) = LeftOver wanted before after fb fa h
 RunSays wanted before after fb fa h (Err OutOfMemory) = LeftOver wanted before after fb fa h
 
@@ -36,5 +37,6 @@ RunFaults (Err BadCommand) fb fa h = (fa ≡ fb) × HasNoFault h
 RunFaults (Err (Refused refusal)) fb fa h = (fa ≡ fb) × HasNoFault h
 RunFaults (Err (Differs finding)) fb fa h = (fa ≡ fb) × HasNoFault h
 RunFaults (Err (NotDone cause)) fb fa h = (fa ≡ fb) × HasNoFault h
+RunFaults (Err (NotSent cause)) fb fa h = (fa ≡ fb) × HasNoFault h
 RunFaults (Err DeviceFault) fb fa h = OneRose fb fa h
 RunFaults (Err OutOfMemory) fb fa h = (fa ≡ fb) × HasNoFault h

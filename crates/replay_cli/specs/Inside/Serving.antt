@@ -1,5 +1,5 @@
 -- What the work of a task answers, and how the counts of the host and of the keeper move in it.
-use Rattle.std.specs.Prelude.{◌≡◌, ℕ, ◌≤◌, ◌⊎◌, Option, Result, Ok, Err, ⊤}
+use Rattle.std.specs.Prelude.{◌≡◌, ℕ, ◌≤◌, ◌⊎◌, nat_lt, List, length, Option, Result, Ok, Err, ⊤}
 use Rattle.desk_files.specs.Outside.{Answered, DeviceFailed, HasRisen, MemoryShort}
 use Rattle.desk_files.specs.Hosts.{Connections}
 use Rattle.desk_schema.specs.Start.{StartView}
@@ -9,11 +9,21 @@ use Rattle.register_work.specs.declared.errand.Errand.{Errand}
 use Rattle.register_work.specs.Errand.{IsCause}
 use Rattle.register_work.specs.Keeping.{KeepsAll, Keeping}
 use Rattle.replay_cli.specs.declared.failure.Failure.{Failure}
-use Rattle.replay_cli.specs.declared.failure.Failure.TheVariants.{BadCommand, Refused, Differs, NotDone, DeviceFault, OutOfMemory}
+use Rattle.replay_cli.specs.declared.failure.Failure.TheVariants.{BadCommand, Refused, Differs, NotDone, NotSent, DeviceFault, OutOfMemory}
 use Rattle.replay_cli.specs.declared.plan.Plan.{Plan}
-use Rattle.replay_cli.specs.Decision.{Task, ToKeep, ToServe}
-use Rattle.replay_cli.specs.Hosting.{HasKept, HasNoFault, Hosting, IsHostUnasked, IsKeeperUntouched, IsUnasked}
-use Rattle.replay_cli.specs.Ending.{IsCauseOf, IsFoundOf}
+use Rattle.replay_cli.specs.Decision.{Task, ToKeep, ToSend, ToServe}
+use Rattle.replay_cli.specs.Done.{sent_files}
+use Rattle.replay_cli.specs.Lines.{replayed_line}
+use Rattle.replay_cli.specs.Hosting.{Dialling, HasKept, HasNoFault, Hosting, IsDialUnasked, IsHostUnasked, IsKeeperUntouched, IsUnasked}
+use Rattle.replay_cli.specs.Ending.{HasDialled, IsCauseOf, IsFoundOf, IsUnsent, IsUnsentOf}
+use Rattle.replay_job.specs.Job.{JobView}
+use Rattle.replay_report.specs.Report.{heard_report_in}
+use Rattle.remote_desk.specs.Desk.{RemoteView}
+use Rattle.remote_desk.specs.History.{plain}
+use Rattle.remote_target.specs.declared.remote_err.RemoteErr.{RemoteErr}
+use Rattle.remote_target.specs.declared.remote_err.RemoteErr.TheVariants as remote
+use Rattle.remote_target.specs.Ends.{GaveBack}
+use Rattle.replay_cli.specs.declared.unsent.Unsent.TheVariants as unsent
 
 -- how the work of a task may fail: something is found to differ of what was served, an errand is not done, the host or the keeper
 -- fails, or memory is short
@@ -22,8 +32,9 @@ PlanFails task h BadCommand = ⊥
 PlanFails task h (Refused refusal) = ⊥
 PlanFails task h (Differs finding) = IsFoundOf task finding h
 PlanFails task h (NotDone cause) = IsCauseOf task cause h
-PlanFails task h DeviceFault = HasKept h
-PlanFails task h OutOfMemory = HasKept h
+PlanFails task h (NotSent cause) = IsUnsentOf task cause h
+PlanFails task h DeviceFault = HasKept h × HasDialled task h.dial
+PlanFails task h OutOfMemory = HasKept h × HasDialled task h.dial
 
 -- just one of the two failed
 abbrev pub OneFailed : Hosting → Type 0
@@ -38,13 +49,15 @@ WorkFaults (Err BadCommand) h = HasNoFault h
 WorkFaults (Err (Refused refusal)) h = HasNoFault h
 WorkFaults (Err (Differs finding)) h = HasNoFault h
 WorkFaults (Err (NotDone cause)) h = HasNoFault h
+WorkFaults (Err (NotSent cause)) h = HasNoFault h
 WorkFaults (Err DeviceFault) h = OneFailed h
 WorkFaults (Err OutOfMemory) h = HasNoFault h
 
--- no work but serving asks the host, and none but errands the keeper
+-- no work but serving asks the host, none but errands the keeper, and none the dial but a replay against another server
 abbrev pub AsksFor : Task → Hosting → Type 0
-AsksFor (ToServe out start most port) h = IsKeeperUntouched h
-AsksFor (ToKeep errand) h = IsHostUnasked h
+AsksFor (ToSend out job port) h = IsHostUnasked h × IsKeeperUntouched h
+AsksFor (ToServe out start most port) h = IsKeeperUntouched h × IsDialUnasked h
+AsksFor (ToKeep errand) h = IsHostUnasked h × IsDialUnasked h
 AsksFor other h = IsUnasked h
 
 -- how an errand may fail
@@ -53,8 +66,37 @@ KeepFails errand k BadCommand = ⊥
 KeepFails errand k (Refused refusal) = ⊥
 KeepFails errand k (Differs finding) = ⊥
 KeepFails errand k (NotDone cause) = IsCause errand k.runs_before cause × KeepsAll k Answered
+KeepFails errand k (NotSent cause) = ⊥
 KeepFails errand k DeviceFault = KeepsAll k DeviceFailed
 KeepFails errand k OutOfMemory = KeepsAll k MemoryShort
+
+-- the count of the dial rises where the link failed, and never falls
+abbrev pub DialFaults : Result Plan Failure → Dialling → Type 0
+DialFaults (Err (NotSent unsent.Link)) dial = HasRisen dial.faults_before dial.faults_after × (dial.faults_before ≤ dial.faults_after)
+DialFaults other dial = dial.faults_before ≤ dial.faults_after
+
+-- what is told of a replay against another server
+pub record IsToldSent (out : List ℕ) (desk : RemoteView) (plan : Plan) : Type 0 where
+  pub line : plan.line ≡ replayed_line (length desk.job.calls) (length (heard_report_in desk.job (plain desk.events)).lines)
+  pub differs : plan.differs ≡ nat_lt 0 (length (heard_report_in desk.job (plain desk.events)).lines)
+  pub writes : plan.writes ≡ sent_files out desk.job desk.events
+
+-- what an error of a replay against another server is told as
+abbrev pub failed_as : RemoteErr → Failure
+failed_as remote.Link = NotSent unsent.Link
+failed_as (remote.OtherJob kept) = NotSent unsent.Job
+failed_as (remote.Mismatch session place kept answered) = NotSent (unsent.Mismatch session place kept answered)
+failed_as remote.Memory = OutOfMemory
+
+-- how a replay against another server may fail: it comes to no end, or memory is short
+abbrev pub SendFails : JobView → Dialling → Failure → Type 0
+SendFails job dial BadCommand = ⊥
+SendFails job dial (Refused refusal) = ⊥
+SendFails job dial (Differs finding) = ⊥
+SendFails job dial (NotDone cause) = ⊥
+SendFails job dial (NotSent cause) = IsUnsent job cause dial
+SendFails job dial DeviceFault = ⊥
+SendFails job dial OutOfMemory = (dial.faults_before ≤ dial.faults_after) × GaveBack job.calls (Err remote.Memory) dial.before dial.after
 
 -- how serving may fail: something is found to differ, the host fails, or memory is short
 abbrev pub ServeFails : StartView → ℕ → Option Connections → Option Connections → Failure → Type 0
@@ -62,6 +104,7 @@ ServeFails start most before after BadCommand = ⊥
 ServeFails start most before after (Refused refusal) = ⊥
 ServeFails start most before after (Differs finding) = IsFinding start finding × HasGivenBackAll most before after
 ServeFails start most before after (NotDone cause) = ⊥
+ServeFails start most before after (NotSent cause) = ⊥
 ServeFails start most before after DeviceFault = ⊤
 ServeFails start most before after OutOfMemory = ⊤
 
@@ -72,5 +115,6 @@ HostFaults (Err BadCommand) before after = after ≡ before
 HostFaults (Err (Refused refusal)) before after = after ≡ before
 HostFaults (Err (Differs finding)) before after = after ≡ before
 HostFaults (Err (NotDone cause)) before after = after ≡ before
+HostFaults (Err (NotSent cause)) before after = after ≡ before
 HostFaults (Err DeviceFault) before after = HasRisen before after × (before ≤ after)
 HostFaults (Err OutOfMemory) before after = after ≡ before

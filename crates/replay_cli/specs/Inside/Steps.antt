@@ -3,7 +3,7 @@ use Rattle.std.specs.Prelude.{◌≡◌, ℕ, ◌<◌, ◌≤◌, List, length, 
 use Rattle.desk_files.specs.Outside.{FileMap, HasRisen, Told}
 use Rattle.replay_cli.specs.declared.failure.Refusal.{Refusal}
 use Rattle.replay_cli.specs.declared.failure.Failure.{Failure}
-use Rattle.replay_cli.specs.declared.failure.Failure.TheVariants.{BadCommand, Refused, Differs, NotDone, DeviceFault, OutOfMemory}
+use Rattle.replay_cli.specs.declared.failure.Failure.TheVariants.{BadCommand, Refused, Differs, NotDone, NotSent, DeviceFault, OutOfMemory}
 use Rattle.replay_cli.specs.declared.failure.Refusal.TheVariants.{Missing, TooLong, BadLine}
 use Rattle.replay_cli.specs.Decision.{IsBadOfSome}
 
@@ -13,6 +13,7 @@ MayFail may BadCommand = ⊥
 MayFail may (Refused refusal) = may refusal
 MayFail may (Differs finding) = ⊥
 MayFail may (NotDone cause) = ⊥
+MayFail may (NotSent cause) = ⊥
 MayFail may DeviceFault = Unit {0}
 MayFail may OutOfMemory = Unit {0}
 
@@ -22,6 +23,7 @@ Stops want BadCommand = ⊥
 Stops want (Refused refusal) = want (Err refusal)
 Stops want (Differs finding) = ⊥
 Stops want (NotDone cause) = ⊥
+Stops want (NotSent cause) = ⊥
 Stops want DeviceFault = ⊤
 Stops want OutOfMemory = ⊤
 
@@ -36,6 +38,7 @@ FailedAt BadCommand before after = ⊥
 FailedAt (Refused refusal) before after = after ≡ before
 FailedAt (Differs finding) before after = ⊥
 FailedAt (NotDone cause) before after = ⊥
+FailedAt (NotSent cause) before after = ⊥
 FailedAt DeviceFault before after = HasRisen before after × (before ≤ after)
 FailedAt OutOfMemory before after = after ≡ before
 
@@ -50,6 +53,7 @@ FaultFree (Err BadCommand) = ⊥
 FaultFree (Err (Refused refusal)) = ⊤
 FaultFree (Err (Differs finding)) = ⊥
 FaultFree (Err (NotDone cause)) = ⊥
+FaultFree (Err (NotSent cause)) = ⊥
 FaultFree (Err DeviceFault) = ⊥
 FaultFree (Err OutOfMemory) = ⊤
 

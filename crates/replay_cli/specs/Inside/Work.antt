@@ -6,9 +6,9 @@ use Rattle.prepare_plan.specs.Lists.{lists_of}
 use Rattle.replay_cli.specs.declared.capture.Legal.{Legal as Loaded}
 use Rattle.replay_cli.specs.declared.capture.Read.{Read as ReadFiles}
 use Rattle.replay_cli.specs.declared.work.Work.{Work}
-use Rattle.replay_cli.specs.declared.work.Work.TheVariants.{Replaying, Telling, Serving, Making, Trying, Keeping}
+use Rattle.replay_cli.specs.declared.work.Work.TheVariants.{Replaying, Sending, Telling, Serving, Making, Trying, Keeping}
 use Rattle.desk_words.specs.Within.{IsCallCount, IsLaneCount}
-use Rattle.replay_cli.specs.Decision.{Legal, Read, Task, ToReplay, ToTell, ToServe, ToMake, ToTry, ToKeep}
+use Rattle.replay_cli.specs.Decision.{Legal, Read, Task, ToReplay, ToSend, ToTell, ToServe, ToMake, ToTry, ToKeep}
 use Rattle.desk_words.specs.Limits.{connection_limit, path_limit}
 use Rattle.replay_history.specs.Limits.{call_limit}
 
@@ -23,6 +23,7 @@ legal_of loaded = record { start = loaded.start; calls = loaded.calls.items; fac
 -- what the work is of which the code holds this
 abbrev pub task_of : Work → Task
 task_of (Replaying out job lanes) = ToReplay out (seen job)
+task_of (Sending out job lanes port) = ToSend out (seen job) port
 task_of (Telling out facts) = ToTell out facts
 task_of (Serving out start most port) = ToServe out start most port
 task_of (Making n out) = ToMake n out
@@ -32,6 +33,7 @@ task_of (Keeping errand) = ToKeep errand
 -- what the code holds is within the limits, and a job can be replayed
 abbrev pub IsWork : Work → Type 0
 IsWork (Replaying out job lanes) = (length out ≤ path_limit) × IsSoundJob (seen job) × IsLaneCount lanes
+IsWork (Sending out job lanes port) = (length out ≤ path_limit) × IsSoundJob (seen job) × IsLaneCount lanes
 IsWork (Telling out facts) = (length out ≤ path_limit) × (length facts ≤ call_limit)
 IsWork (Serving out start most port) = (length out ≤ path_limit) × (most ≤ connection_limit)
 IsWork (Making n out) = IsCallCount n × (length out ≤ path_limit)

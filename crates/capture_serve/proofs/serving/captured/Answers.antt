@@ -9,6 +9,7 @@ use Rattle.captured_calls.specs.Sessions.{AreSessionsFrom, session_lists}
 use Rattle.capture_recorder.specs.Gathering.{lists_of}
 use Rattle.capture_recorder.proofs.Files.{are_sessions}
 use Rattle.capture_serve.proofs.Closed.{all_below, as_many}
+use Rattle.capture_serve.proofs.Whole.{found_fails}
 use Rattle.capture_serve.proofs.serving.captured.Goals as goal
 
 pub overflow_cast-capture : goal.overflow_cast-capture
@@ -24,7 +25,7 @@ returns-clause-captured g c =
       capture = record {
         recording = c.calls.ensures.valid;
         start_is = c.in-Ok.ensures.agrees.starts;
-        calls = c.len-2.ensures ∙ ap length c.calls.ensures.value;
+        calls = c.len-calls.ensures ∙ ap length c.calls.ensures.value;
         below = all_below c.args.start.now r (lists_of c.in_ok-said.said) (lists_of c.args.notes.turned) c.len.result count c.in-Ok.ensures.agrees;
         sessions = c.in-Ok.ensures.answer.3 ∙ ap (λ n. session_lists n r.calls) count;
         off = c.in_ok-said.ensures.off;
@@ -47,3 +48,7 @@ know_files-requires-clause-told g c =
 
 pub know_files-requires-clause-lists : goal.know_files-requires-clause-lists
 know_files-requires-clause-lists g c = subst (λ l. AreSessionsFrom 0 l) (sym c.in-Ok.ensures.answer.3) (are_sessions c.close_all.new.recorder c.calls.ensures.valid (length (lists_of c.in_ok-said.said)))
+
+pub returns-in-Err-clause-fails : goal.returns-in-Err-clause-fails
+returns-in-Err-clause-fails g c =
+    found_fails c.args.start.now c.close_all.new.recorder (lists_of c.in_ok-said.said) (lists_of c.args.notes.turned) c.in-Err.error c.failed.result c.calls.ensures.valid c.in-Err.ensures.answer c.failed.ensures

@@ -1,7 +1,7 @@
 use Rattle.std.proofs.Common.{arith}
-use Rattle.std.proofs.lemmas.Result.{IfOk-weaker}
+use Rattle.std.proofs.lemmas.Result.{IfErr-weaker, IfOk-weaker}
 use Rattle.capture_serve.specs.Seen.{capture_of}
-use Rattle.capture_serve.proofs.Whole.{few_said, given_back, gives_back, service}
+use Rattle.capture_serve.proofs.Whole.{counts_of, few_said, given_back, gives_back, service}
 use Rattle.capture_serve.proofs.serving.serve.Goals as goal
 
 pub captured-requires-after_bounds : goal.captured-requires-after_bounds
@@ -12,3 +12,9 @@ returns-clause-service g c = IfOk-weaker c.captured.result _ _ (λ capture of. s
 
 pub returns-clause-back : goal.returns-clause-back
 returns-clause-back g c = gives_back c.args.most _ _ c.captured.result (given_back c.args.most c.in_ok-notes.notes _ _ c.in_ok-notes.ensures.connected)
+
+pub returns-clause-fails : goal.returns-clause-fails
+returns-clause-fails g c = IfErr-weaker c.captured.result _ _ (λ error both. both.0) c.captured.ensures.fails
+
+pub returns-clause-counts : goal.returns-clause-counts
+returns-clause-counts g c = counts_of c.captured.result _ _ c.in_ok-notes.ensures.counts (IfErr-weaker c.captured.result _ _ (λ error both. both.1) c.captured.ensures.fails)

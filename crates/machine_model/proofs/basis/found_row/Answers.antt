@@ -4,7 +4,7 @@ use Rattle.std.proofs.lemmas.Result.{IfOk-weaker}
 use Rattle.sql_eval.specs.Totals.{looked_at}
 use Rattle.machine_model.specs.ByKey.{of_key}
 use Rattle.machine_model.specs.Rows.{IsRising}
-use Rattle.machine_model.specs.Inside.Index.{listed, row_under}
+use Rattle.machine_model.specs.Inside.Index.{committed_rows, listed, row_under}
 use Rattle.machine_model.proofs.Twice.{listed_rises, of_key_there}
 use Rattle.machine_model.proofs.basis.found_row.Goals as goal
 
@@ -18,5 +18,5 @@ returns-clause-found c =
     let level = c.args.with.level in
     let key = c.args.key.now in
     let there = option_copied c.row_under.result in
-    IfOk-weaker c.listed.result (λ rows. looked_at rows.items ≡ listed there) (λ rows. of_key level key (looked_at rows.items) ≡ of_key level key c.args.indexed.rows.now)
-    (λ rows is. ap (of_key level key) is ∙ of_key_there (row_under c.args.indexed.index.now) c.args.indexed.rows.now c.requires.rows c.requires.finds level key there c.row_under.ensures there refl) c.listed.ensures
+    IfOk-weaker c.listed.result (λ rows. looked_at rows.items ≡ listed there) (λ rows. of_key level key (looked_at rows.items) ≡ of_key level key (committed_rows c.args.indexed.basis))
+    (λ rows is. ap (of_key level key) is ∙ of_key_there (row_under c.args.indexed.index.now) (committed_rows c.args.indexed.basis) c.requires.rows c.requires.finds level key there c.row_under.ensures there refl) c.listed.ensures

@@ -5,17 +5,17 @@ use Rattle.desk_values.specs.declared.value.Image.{Image}
 use Rattle.sql_eval.specs.Totals.{looked_at}
 use Rattle.machine_model.specs.Rows.{row_key}
 use Rattle.machine_model.specs.Writes.{repeats_key}
-use Rattle.machine_model.specs.Inside.Index.{row_under, staying}
+use Rattle.machine_model.specs.Inside.Index.{committed_rows, row_under, staying}
 use Rattle.machine_model.proofs.Twice.{laid_changed, laid_staying, meets}
 use Rattle.machine_model.proofs.basis.have_indexed_twice.Goals as goal
 
 pub returns-then-branch : goal.returns-then-branch
 returns-then-branch c =
-    laid_changed (row_under c.args.indexed.index.now) c.args.indexed.rows.now c.requires.rows c.requires.finds c.args.with.level (looked_at c.args.indexed.changes.now) c.requires.changes
+    laid_changed (row_under c.args.indexed.index.now) (committed_rows c.args.indexed.basis) c.requires.rows c.requires.finds c.args.with.level (looked_at c.args.indexed.changes.now) c.requires.changes
     (looked_at c.in_ok-changed.changed.items) c.in_ok-changed.ensures (sym c.if-branch.true ∙ c.in_ok-repeats_key.ensures ∙ ap (λ (seen : List (Bor Image)). repeats_key c.args.with.level (map row_key (looked_at seen))) c.deref.ensures.value)
 
 pub returns : goal.returns
 returns c =
-    laid_staying (row_under c.args.indexed.index.now) c.args.indexed.rows.now c.requires.rows c.requires.finds c.args.with.level (looked_at c.args.indexed.changes.now) c.requires.changes
+    laid_staying (row_under c.args.indexed.index.now) (committed_rows c.args.indexed.basis) c.requires.rows c.requires.finds c.args.with.level (looked_at c.args.indexed.changes.now) c.requires.changes
     (looked_at c.in_ok-changed.changed.items) c.in_ok-changed.ensures c.some_meets_staying.result (sym c.if-branch.false ∙ c.in_ok-repeats_key.ensures ∙ ap (λ (seen : List (Bor Image)). repeats_key c.args.with.level (map row_key (looked_at seen))) c.deref.ensures.value)
-    (c.some_meets_staying.ensures ∙ ap (λ (seen : List (Bor Image)). list_any (meets c.args.with.level (staying c.args.indexed.rows.now (looked_at c.args.indexed.changes.now))) (looked_at seen)) c.deref-2.ensures.value)
+    (c.some_meets_staying.ensures ∙ ap (λ (seen : List (Bor Image)). list_any (meets c.args.with.level (staying (committed_rows c.args.indexed.basis) (looked_at c.args.indexed.changes.now))) (looked_at seen)) c.deref-2.ensures.value)

@@ -4,7 +4,7 @@ use Rattle.desk_values.specs.declared.value.Image.{Image}
 use Rattle.sql_eval.specs.Totals.{looked_at}
 use Rattle.machine_model.specs.Rows.{IsRising, lay, of_table, row_key}
 use Rattle.machine_model.specs.Writes.{repeats_key}
-use Rattle.machine_model.specs.Inside.Index.{rows_of_basis}
+use Rattle.machine_model.specs.Inside.Index.{committed_rows, rows_of_basis}
 use Rattle.machine_model.proofs.Laying.{rising_lay}
 use Rattle.machine_model.proofs.Numbers.{lay_twice}
 use Rattle.machine_model.proofs.basis.leaves_twice.Goals as goal
@@ -17,7 +17,7 @@ indexed_rows-requires-clause-rising c =
 
 pub returns-in-Some : goal.returns-in-Some
 returns-in-Some c =
-    let rows = c.in-Some.indexed.rows.now in
+    let rows = committed_rows c.in-Some.indexed.basis in
     let own = looked_at c.in_ok-own.own.items in
     let images = c.args.images.now in
     let news : looked_at c.deref-2.result.now ≡ images = ap looked_at c.deref-2.ensures.value ∙ c.in_ok-news.ensures in

@@ -5,22 +5,22 @@ use Rattle.desk_values.specs.declared.value.Image.{Image}
 use Rattle.sql_eval.specs.Totals.{looked_at}
 use Rattle.machine_model.specs.Rows.{row_key}
 use Rattle.machine_model.specs.Writes.{repeats_key}
-use Rattle.machine_model.specs.Inside.Index.{row_under, staying}
+use Rattle.machine_model.specs.Inside.Index.{committed_rows, row_under, staying}
 use Rattle.machine_model.proofs.Twice.{meets, twice_changed, twice_staying}
 use Rattle.machine_model.proofs.basis.makes_indexed_twice.Goals as goal
 use Rattle.machine_model.proofs.basis.makes_indexed_twice.Goals.{then-meets_staying, else-meets_staying}
 
 pub returns-then-branch : goal.returns-then-branch
 returns-then-branch c =
-    twice_changed (row_under c.args.indexed.index.now) c.args.indexed.rows.now c.requires.rows c.requires.finds c.args.with.level (looked_at c.args.indexed.changes.now) c.requires.changes
+    twice_changed (row_under c.args.indexed.index.now) (committed_rows c.args.indexed.basis) c.requires.rows c.requires.finds c.args.with.level (looked_at c.args.indexed.changes.now) c.requires.changes
     (looked_at c.in_ok-changed.changed.items) c.in_ok-changed.ensures c.args.new.now (sym c.if-branch.true ∙ c.in_ok-makes_key_twice.ensures ∙ ap (λ (seen : List (Bor Image)). repeats_key c.args.with.level (map row_key (c.args.new.now ∷ looked_at seen))) c.deref.ensures.value)
 
 pub returns : goal.returns
 returns c =
     let changed = sym c.if-branch.false ∙ c.in_ok-makes_key_twice.ensures ∙ ap (λ (seen : List (Bor Image)). repeats_key c.args.with.level (map row_key (c.args.new.now ∷ looked_at seen))) c.deref.ensures.value in
-    let so = λ (met : Bool) (some : Bool). twice_staying (row_under c.args.indexed.index.now) c.args.indexed.rows.now c.requires.rows c.requires.finds c.args.with.level (looked_at c.args.indexed.changes.now) c.requires.changes
+    let so = λ (met : Bool) (some : Bool). twice_staying (row_under c.args.indexed.index.now) (committed_rows c.args.indexed.basis) c.requires.rows c.requires.finds c.args.with.level (looked_at c.args.indexed.changes.now) c.requires.changes
     (looked_at c.in_ok-changed.changed.items) c.in_ok-changed.ensures c.args.new.now met some changed in
     elim c.if-meets_staying.branch [
       | then-meets_staying w ↦ w.result-is ∙ w.if-meets_staying.true ∙ so true _ (sym w.if-meets_staying.true ∙ c.meets_staying.ensures) refl
-      | else-meets_staying w ↦ w.result-is ∙ so false w.some_meets_staying.result (sym w.if-meets_staying.false ∙ c.meets_staying.ensures) (w.some_meets_staying.ensures ∙ ap (λ (seen : List (Bor Image)). list_any (meets c.args.with.level (staying c.args.indexed.rows.now (looked_at c.args.indexed.changes.now))) (looked_at seen)) w.deref-else-meets_staying.ensures.value)
+      | else-meets_staying w ↦ w.result-is ∙ so false w.some_meets_staying.result (sym w.if-meets_staying.false ∙ c.meets_staying.ensures) (w.some_meets_staying.ensures ∙ ap (λ (seen : List (Bor Image)). list_any (meets c.args.with.level (staying (committed_rows c.args.indexed.basis) (looked_at c.args.indexed.changes.now))) (looked_at seen)) w.deref-else-meets_staying.ensures.value)
     ]

@@ -1,4 +1,4 @@
 use Rattle.machine_model.proofs.basis.row_under.Goals as goal
 
-pub row_among-requires : goal.row_among-requires
-row_among-requires c = c.requires.rows
+pub row_at-requires : goal.row_at-requires
+row_at-requires c = c.requires.told.floor

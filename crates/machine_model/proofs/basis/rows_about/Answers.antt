@@ -5,7 +5,7 @@ use Rattle.desk_values.specs.declared.value.Image.{Image}
 use Rattle.sql_eval.specs.Totals.{looked_at}
 use Rattle.machine_model.specs.ByKey.{is_of_key, of_key}
 use Rattle.machine_model.specs.Rows.{lay, of_table}
-use Rattle.machine_model.specs.Inside.Index.{rows_of_basis}
+use Rattle.machine_model.specs.Inside.Index.{committed_rows, rows_of_basis}
 use Rattle.machine_model.proofs.Numbers.{filtered_lay}
 use Rattle.machine_model.proofs.basis.rows_about.Goals as goal
 
@@ -13,7 +13,7 @@ pub returns-in-Some : goal.returns-in-Some
 returns-in-Some c =
     let level = c.args.with.level in
     let key = c.args.key.now in
-    let rows = c.in-Some.indexed.rows.now in
+    let rows = committed_rows c.in-Some.indexed.basis in
     let found = looked_at c.in_ok-found-in-Some.found.items in
     let changes = looked_at c.in_ok-changes.changes.items in
     let own : changes ≡ of_table c.args.basis.table c.args.basis.session.now.own.changes = c.in_ok-changes.ensures.value ∙ ap (of_table c.args.basis.table) c.as_slice.ensures.value in

@@ -1,17 +1,16 @@
-use Rattle.std.proofs.Common.{◌≡◌, ◌+◌, ◌∷◌, [], List, length, ap, subst, sym, ◌∙◌, arith}
-use Rattle.std.proofs.lemmas.List.{map-append}
-use Rattle.desk_values.specs.declared.value.Image.{Image}
-use Rattle.machine_model.specs.Rows.{of_table}
-use Rattle.machine_model.specs.Inside.Rows.{AreLatest, Stock, stocked}
-use Rattle.machine_model.proofs.Stocking.{latest_pushed, stocked_length}
+use Rattle.std.proofs.Common.{◌≡◌, [], List, length, ap, subst, sym, ◌∙◌}
+use Rattle.row_versions.specs.History.{History}
+use Rattle.machine_model.specs.Inside.Tables.{ArePut, AreTold, AreWithin}
+use Rattle.machine_model.proofs.Storing.{none_within, told_start, written_back}
 use Rattle.machine_model.proofs.tables.tables_of.Goals as goal
 
-pub loop-table-preserved : goal.loop-table-preserved
-loop-table-preserved c =
-    let at : length (stocked c.loop-table.tables.items) ≡ c.loop-table.table = omega (arith, stocked_length c.loop-table.tables.items, c.loop-table.invariant.len) in
-    let made : c.in_ok-of_table.field-0.rows ≡ of_table (0 + length (stocked c.loop-table.tables.items)) c.args.images.now = c.in_ok-of_table.ensures ∙ ap (λ n. of_table n c.args.images.now) (omega arith) in
-    let pushed = latest_pushed c.args.images.now 0 (stocked c.loop-table.tables.items) c.in_ok-of_table.field-0.rows c.loop-table.invariant.latest made in
-    record {
-      latest = subst (λ (l : List (List Image)). AreLatest c.args.images.now [] 0 l) (sym (ap stocked c.in_ok-push.ensures.items ∙ map-append (λ (u : Stock). u.rows) c.loop-table.tables.items (c.in_ok-of_table.field-0 ∷ []))) pushed;
-      len = omega (arith, c.in_ok-push.ensures.len, c.loop-table.invariant.len);
-    }
+pub put_images-requires : goal.put_images-requires
+put_images-requires c = subst (AreWithin 0) (sym (c.deref_mut.ensures.value ∙ c.in_ok-tables.ensures)) (none_within c.args.count)
+
+pub returns : goal.returns
+returns c =
+    let tables = c.in_ok-tables.tables in
+    let old : length tables.items ≡ tables.len = ap length (sym c.deref_mut.ensures.value) ∙ c.deref_mut.ensures.len in
+    let put = subst (λ (l : List History). ArePut 0 c.args.images.now l c.put_images.new.tables) (c.deref_mut.ensures.value ∙ c.in_ok-tables.ensures) c.in_ok-put_images.ensures.ok in
+    let new : length c.put_images.new.tables ≡ tables.len = c.in_ok-put_images.ensures.ok.count ∙ c.deref_mut.ensures.len in
+    subst (AreTold 0 c.args.images.now []) (sym (written_back tables.len c.put_images.new.tables tables.items new old)) (told_start c.args.images.now c.args.count c.put_images.new.tables c.requires put)

@@ -16,9 +16,10 @@ loop-turn-preserved g c =
     let begun = c.begin.new.desk in
     let new = c.answer.new.self in
     let first = subst (λ (j : JobView). IsFirstOpen j (history desk) c.in-Some.k) c.schedule-in-loop-turn.ensures.job (c.in-Some.ensures.least (history desk) c.schedule-in-loop-turn.ensures.follows) in
-    behind_more (course_of (job old) (history old) (stopped old)) (course_of (job desk) (history desk) (stopped desk)) c.loop-turn._turn c.loop-turn.invariant c.in-Some.k first
+    behind_more (course_of (job old) (history old) (stopped old)) (course_of (job desk) (history desk) (stopped desk)) c.loop-turn._turn c.loop-turn.invariant c.in-Some.k
     (course_of (job begun) (history begun) (stopped begun)) (course_of (job new) (history new) (stopped new)) c.begin.ensures.begun
     (answered_course (job begun) (job new) (history begun) (history new) (stopped begun) (stopped new) c.in-Some.k c.in_ok-answer.ensures.ok c.in_ok-answer.ensures.job c.in_ok-answer.ensures.stopped)
+    first
 
 pub begin-requires-clause-open : goal.begin-requires-clause-open
 begin-requires-clause-open g c κs within =

@@ -1,0 +1,2 @@
+-- Words of private clauses. They need not be believed.
+pub mod Numbers

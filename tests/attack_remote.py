@@ -1,0 +1,237 @@
+"""Replays against a `serve` of the program and against servers that break off. What is sent is told by the server's own capture."""
+import contextlib
+import itertools
+import json
+import random
+import socket
+import threading
+from pathlib import Path
+
+from attack_crowd import FINDS, STATEMENTS, call_json, reply_of
+from attack_program import HOST, PATIENCE, Client, Service, files_below, in_folder, ran, same, until
+from conversation_answers import compact
+
+SESSIONS, CALLS, ROUNDS = 6, 150, 4
+PACE = ("--think", "0", "--connect", "0")
+WAYS = (
+    ("--mode", "order"), ("--mode", "order", "--lanes", "2"), ("--mode", "object"), ("--mode", "scn", "--lanes", "3"), ("--mode", "off"),
+    ("--mode", "off", "--lanes", "1"),
+)
+NO_SUCH_ID = "refused 16 [] -"
+# The rows of the start, which both servers have.
+OF_THE_START = {"r1": "r1", "r2": "r2"}
+
+
+# A capture, made by clients of whom one calls at a time.
+
+
+class Speaker:
+    """A connection that makes random calls, with ids that it was given."""
+
+    def __init__(self, port, chance):
+        self.client, self.random = Client(port), chance
+        self.given = {"row": [("row", 1), ("row", 2)], "draw": []}
+        self.say(("connect", chance.choice(("main", "main", "main", "report", "none"))))
+
+    def say(self, call):
+        _, draws, made = reply_of(self.client.ask(call_json(call)))
+        self.given["draw"] += draws
+        self.given["row"] += [("row", made)] if made else []
+
+    def speak(self):
+        kind = self.random.randrange(10)
+        if kind < 6:
+            return self.say(("sql", self.random.choice(STATEMENTS), ()))
+        if kind == 6:
+            return self.say(("sql", "INSERT INTO acct VALUES (:1, :2)", (self.random.randrange(40), self.random.randrange(900))))
+        word = ("row", "draw")[kind % 2]
+        return self.say(("sql", FINDS[word], (self.random.choice(self.given[word] or [1]),)))
+
+
+def capture(program, folder, number):
+    """Captures random calls; how many there are."""
+    chance = random.Random(number)
+    with Service(program, folder, SESSIONS) as service, contextlib.ExitStack() as open_clients:
+        speakers = [Speaker(service.port, chance) for _ in range(SESSIONS)]
+        for speaker in speakers:
+            open_clients.enter_context(speaker.client)
+        for _ in range(CALLS):
+            chance.choice(speakers).speak()
+        open_clients.close()
+        status, line = service.ended()
+    same("serve", (status, line.split(" ")[:3]), (0, ["served", str(SESSIONS), "connections,"]))
+    return int(line.split(" ")[3])
+
+
+def calls_of(folder, session):
+    """The calls of a session of a capture: each one's stamp, its text and its reply's."""
+    lines = (folder / f"session-{session:03}.cap").read_text().split("\n")
+    same("first line", lines[0], f"session 1 {session}")
+    split = [line.split(" ", 5) for line in lines[1:-2]]
+    return [(int(fields[0]), *fields[5].split(" > ")) for fields in split]
+
+
+# A server of the program.
+
+
+def mapped(call, pairs):
+    """The text of a call with its ids by the pairs, and with 2 to the 40th added to those that have none."""
+    head, opened, binds = call.rpartition(" [")
+    if not opened:
+        return call
+    return head + opened + ",".join(pairs.get(bind) or strange(bind) for bind in binds[:-1].split(",")) + "]"
+
+
+def strange(bind):
+    """A bind that no pair has: an id as one that was never given, anything else as it is."""
+    head, dot, number = (bind[:1], "", bind[1:]) if bind[:1] == "r" else bind.rpartition(".")
+    return f"{head}{dot}{int(number) + 2**40}" if bind[:1] in ("r", "d") else bind
+
+
+def replies_of(journal):
+    """The reply to each call by its stamp, and that each is started once and answered once."""
+    lines = journal.split("\n")
+    same("last lines", lines[-2:], ["end", ""])
+    events = [line.split(" ", 2) for line in lines[1:-2]]
+    starts = [int(stamp) for word, stamp, _ in events if word == "s"]
+    same("starts", len(set(starts)), len(starts))
+    answers = {int(stamp): reply for word, stamp, reply in events if word == "a"}
+    same("answers", sorted(answers), sorted(starts))
+    return answers
+
+
+def replayed(program, folder, calls, way, number):
+    """Replays the capture against a `serve`, and compares what came there with what the files tell; how many calls differ."""
+    name = f"again-{number}"
+    with Service(program, folder, SESSIONS, into=name) as service:
+        words = ["run", "cap", f"out-{number}", *way, *PACE, "--target", str(service.port)]
+        status, line = ran(program, folder, words)
+        ended = service.ended()
+    out, again = folder / f"out-{number}", folder / name
+    same("files", sorted(files_below(out)), ["journal.txt", "maps.csv", "report.csv", "report.txt"])
+    differ = (out / "report.csv").read_text().count("\n") - 1
+    same("run", (status, line), (1 if differ else 0, f"replayed {calls} calls, {differ} divergent\n"))
+    pairs = OF_THE_START | dict(pair.split(",") for pair in (out / "maps.csv").read_text().split("\n")[1:-1])
+    answers, sent = replies_of((out / "journal.txt").read_text()), 0
+    for session in range(SESSIONS):
+        wanted = [(mapped(call, pairs), answers[stamp]) for stamp, call, _ in calls_of(folder / "cap", session)]
+        wanted = [told for told in wanted if told[1] != NO_SUCH_ID]
+        same(f"what came on line {session}", [told[1:] for told in calls_of(again, session)], wanted)
+        sent += len(wanted)
+    same("serve", ended, (0, f"served {SESSIONS} connections, {sent} calls\n"))
+    if "order" in way:
+        same("calls that differ in the captured order", differ, 0)
+    return differ
+
+
+# Servers that break off.
+
+
+def as_answer(body, status=b"200 OK"):
+    return b"HTTP/1.1 %s\r\nContent-Length: %d\r\n\r\n" % (status, len(body)) + body
+
+
+CONNECTED = compact({"draws": [], "made": None, "outcome": {"connected": True}})
+GOOD = as_answer(CONNECTED)
+# What comes in the place of an answer, before the connection is closed.
+BREAKS = (
+    b"", GOOD[:1], GOOD[:30], GOOD[:-1], b"HTTP/1.1 200 OK\r\n\r\n" + CONNECTED, b"nothing of this kind\r\n\r\n", b"\x00" * 9_000,
+    as_answer(CONNECTED, b"500 Internal Server Error"), as_answer(CONNECTED, b"503 Service Unavailable"), as_answer(b"{}"), as_answer(b"[1"),
+    as_answer(b'{"draws":[],"made":null,"outcome":{"rows":[[1e3]]}}'), b"HTTP/1.1 200 OK\r\nContent-Length: 99999999999\r\n\r\n" + CONNECTED,
+    b"HTTP/1.1 200 OK\r\nX: " + b"x" * 20_000 + b"\r\n\r\n",
+)
+
+
+class Breaking:
+    """A server that answers so many requests, and breaks the one behind them off. It keeps the calls of each connection."""
+
+    def __init__(self, answered, ending):
+        self.left, self.ending, self.heard, self.threads = answered, ending, [], []
+        self.lock, self.listener = threading.Lock(), socket.create_server((HOST, 0))
+        self.port = self.listener.getsockname()[1]
+
+    def __enter__(self):
+        self.threads.append(threading.Thread(target=self.accept))
+        self.threads[0].start()
+        return self
+
+    def __exit__(self, *_):
+        with contextlib.suppress(OSError):
+            self.listener.shutdown(socket.SHUT_RDWR)
+        for thread in self.threads:
+            thread.join()
+        self.listener.close()
+
+    def accept(self):
+        with contextlib.suppress(OSError):
+            for number in itertools.count():
+                stream, _ = self.listener.accept()
+                stream.settimeout(PATIENCE)
+                self.heard.append([])
+                thread = threading.Thread(target=self.serve, args=(stream, number))
+                thread.start()
+                self.threads.append(thread)
+
+    def serve(self, stream, number):
+        with stream, contextlib.suppress(OSError):
+            while (call := request(stream)) is not None:
+                self.heard[number].append(call)
+                with self.lock:
+                    self.left -= 1
+                    last = self.left < 0
+                stream.sendall(self.ending if last else GOOD)
+                if last:
+                    return
+
+
+def request(stream):
+    """The call of the next request; `None` where the connection has ended."""
+    held = b""
+    while b"\r\n\r\n" not in held:
+        part = stream.recv(65536)
+        if not part:
+            return None
+        held += part
+    head, _, body = held.partition(b"\r\n\r\n")
+    fields = dict(line.split(": ", 1) for line in head.decode().split("\r\n")[1:])
+    while len(body) < int(fields["Content-Length"]):
+        body += stream.recv(65536)
+    return json.loads(body)
+
+
+def broken(program, folder, calls, answered, ending):
+    """A replay of which one answer breaks off: it ends so, writes nothing, and each line has heard captured calls, in order, each once."""
+    with Breaking(answered, ending) as server:
+        words = ["run", "cap", "broken", "--mode", "off", *PACE, "--target", str(server.port)]
+        same(f"run, {answered} answered, then {ending[:60]!r}", ran(program, folder, words), (10, "link fault\n"))
+        # (a line that was dialled may not have been taken yet)
+        until("each session has a line", lambda: len(server.heard) >= SESSIONS)
+    same("files behind it", (folder / "broken").exists(), False)
+    same("lines", len(server.heard), SESSIONS)
+    for session, heard in enumerate(server.heard):
+        wanted = [call for _, call, _ in calls_of(folder / "cap", session)]
+        same(f"calls of line {session}", [word_of(call) for call in heard], [call.split(" ")[0] for call in wanted[:len(heard)]])
+    return sum(map(len, server.heard))
+
+
+def word_of(call):
+    return next(word for word in ("connect", "sql", "disconnect") if word in call)
+
+
+@in_folder
+def remote(program, folder):
+    """Random captures replayed against a `serve`, and against servers that break off at each place in turn."""
+    differ = calls = 0
+    for number in range(ROUNDS):
+        part = Path(folder / str(number))
+        part.mkdir()
+        count = capture(program, part, number)
+        for at, way in enumerate(WAYS):
+            differ += replayed(program, part, count, way, at)
+            calls += count
+    breaks = [(answered, BREAKS[answered % len(BREAKS)]) for answered in range(40)] + [(3, ending) for ending in BREAKS]
+    heard = sum(broken(program, part, count, answered, ending) for answered, ending in breaks)
+    with socket.create_server((HOST, 0)) as nobody:
+        port = nobody.getsockname()[1]
+    same("a run where nobody listens", ran(program, part, ["run", "cap", "broken", "--target", str(port)]), (10, "link fault\n"))
+    return f"{ROUNDS * len(WAYS)} replays of {calls} calls against a serve, {differ} calls differ; {len(breaks)} broken off behind {heard} calls"
