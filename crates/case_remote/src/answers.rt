@@ -186,6 +186,8 @@ pub fn ends<R: Print>(rt: &R, alloc: Global) -> Result<(), anyhow::Error> {
     tell_each(rt, alloc, "two answers in one read", bytes, (none, none), 3)?;
     let bytes = two_answers(alloc)?;
     tell_each(rt, alloc, "a read that fails", bytes, (first, none), 1)?;
+    let (name, bytes) = ("a second read that fails", two_answers(alloc)?);
+    tell_each(rt, alloc, name, bytes, (second, none), 3)?;
     let (name, bytes) = ("a read behind the head that fails", long_head(alloc, 8192)?);
     tell_each(rt, alloc, name, bytes, (second, none), 1)?;
     let bytes = two_answers(alloc)?;

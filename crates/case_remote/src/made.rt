@@ -1,276 +1,220 @@
-//! Replays of generated captures whose lines fail at each place in turn, and of which none fails.
+//! Random captures: their files, and the calls of their lines.
 
-use crate::captures::{count_of, ran};
-use capture_format::read_session;
+use anyhow::anyhow;
+use capture_format::{append_call, append_reply, read_start};
+use case_random::{Kind, Random, random_capture};
 use case_text::txt;
 use desk_files::MemFiles;
-use desk_values::{CallList, Captured, Copied, List, Reply, Same, SessionLists, Stamps};
-use remote_link::{Heard, MemDial, MemScript, MemScripts, ReplyList};
+use desk_values::{Bytes, Captured, List, Memory, SessionLists, Stamps, Txt};
 use std::alloc::Global;
-use std::sync::Wait;
-use std::thread::Threads;
-use std::time::Clock;
+use std::marker::Model;
 
-/// The modes of a replay.
-const MODES: [&str; 5] = ["off", "scn", "object", "order", "fence"];
+/// The start of the captures, but for its last lines, which tell how many sessions there are.
+const START: &str = "start 2
+level 1
+seq s 4
+seq z 7
+svc main rw
+svc report ro
+svc test rw
+table acct
+col id int 0 20 notnull
+col bal int -1000 1000 null
+table item
+col no seq s notnull
+col qty int 0 100 null
+col other seq s null
+row 1 0 [i1,i100]
+row 2 0 [i2,i50]
+row 3 0 [i3,-]
+row 4 0 [i4,i40]
+row 5 1 [d0.1,i10,-]
+row 6 1 [d0.2,i20,d0.1]
+row 7 1 [d0.3,i30,-]
+nextrow 8
+";
 
-/// How many lanes it has.
-const LANES: [u32; 3] = [1, 2, 4];
+/// The kinds of their calls, of which some stand there more than once.
+const KINDS: &str = "connect main
+connect main
+connect test
+connect report
+disconnect -
+disconnect -
+sql COMMIT
+sql COMMIT
+sql COMMIT
+sql COMMIT
+sql COMMIT
+sql COMMIT
+sql ROLLBACK
+sql SET TRANSACTION READ ONLY
+sql SAVEPOINT p
+sql ROLLBACK TO p
+sql SELECT s.NEXTVAL FROM dual
+sql SELECT z.NEXTVAL FROM dual
+sql SELECT id, bal FROM acct
+sql SELECT ROWID, id FROM acct
+sql SELECT no, qty, other FROM item
+sql SELECT ROWID, no FROM item
+sql SELECT COUNT(*), SUM(qty) FROM item
+sql SELECT id, bal FROM acct WHERE ROWID = :4
+sql SELECT qty FROM item WHERE no = :5
+sql SELECT no, qty FROM item WHERE no = :5
+sql SELECT bal FROM acct WHERE id = :1 FOR UPDATE
+sql INSERT INTO item (no, qty) VALUES (s.NEXTVAL, :3)
+sql INSERT INTO item (no, qty) VALUES (s.NEXTVAL, :3)
+sql INSERT INTO item VALUES (s.NEXTVAL, :3, :5)
+sql INSERT INTO item VALUES (s.NEXTVAL, :3, :5)
+sql INSERT INTO acct VALUES (:1, :3)
+sql INSERT INTO acct (id) VALUES (:1 + 8)
+sql UPDATE acct SET bal = bal + :3 WHERE id = :1
+sql UPDATE acct SET bal = bal + :3 WHERE id = :1
+sql UPDATE acct SET bal = :3 WHERE ROWID = :4
+sql UPDATE item SET qty = :3 WHERE no = :5
+sql UPDATE item SET other = :5 WHERE qty > :3
+sql UPDATE item SET qty = :3 WHERE ROWID = :4
+sql UPDATE acct SET id = :2 WHERE id = :1
+sql DELETE FROM acct WHERE id = :1
+sql DELETE FROM item WHERE no = :5";
 
-/// How many calls the generated captures have.
-const CALLS: [u32; 4] = [5, 9, 16, 24];
-
-/// How many sessions a generated capture has.
-const SESSIONS: u32 = 4;
-
-/// What came of the replays: how many there were, in how many no line failed and all was as captured, in how many a line failed and
-/// nothing was written, and on the lines of how many stands what the captured sessions begin with.
+/// A capture. Contracts see nothing of it.
 #[derive(Drop)]
-struct Tally {
-    replays: u32,
-    quiet: u32,
-    faults: u32,
-    in_order: u32,
+pub struct Made {
+    files: Vec<(Txt, Bytes)>,
+    /// The calls of each session that has some. A line is dialled for each of them, in this order.
+    pub lines: SessionLists,
 }
 
-/// Replays of generated captures, in each mode and with lanes of each number, where no line fails and where each call of each line fails
-/// in turn.
-pub fn replays<R: Clock + Wait + Threads + Sync + Print>(
-    rt: &R,
-    alloc: Global,
-) -> Result<(), anyhow::Error> {
-    let mut tally = Tally {
-        replays: 0,
-        quiet: 0,
-        faults: 0,
-        in_order: 0,
-    };
-    for calls in CALLS {
-        replays_of(rt, alloc, calls, &mut tally)?;
+impl Model for Made {
+    ghost Value = { Unit {0} };
+
+    ghost view = { λ made. tt };
+}
+
+impl Made {
+    /// The random capture of a seed: so many calls of so many sessions, and those that close some of these.
+    pub fn random(
+        alloc: Global,
+        seed: u64,
+        calls: u32,
+        sessions: u32,
+    ) -> Result<Made, anyhow::Error> {
+        let start = start_file(alloc, sessions)?;
+        let mut random = Random::new(seed);
+        let lists = random_lists(alloc, start.as_slice(), &mut random, calls, sessions)?;
+        Ok(Made {
+            files: files_of(alloc, start, &lists)?,
+            lines: with_calls(alloc, &lists)?,
+        })
     }
-    let (replays, quiet) = (tally.replays, tally.quiet);
-    let (faults, in_order) = (tally.faults, tally.in_order);
-    println!(rt;
-        "lines that fail or not: {replays} replays, {quiet} as captured, {faults} link faults, {in_order} in order"
-    )?;
-    Ok(())
-}
 
-// Those of one capture.
-fn replays_of<R: Clock + Wait + Threads + Sync>(
-    rt: &R,
-    alloc: Global,
-    calls: u32,
-    tally: &mut Tally,
-) -> Result<(), anyhow::Error> {
-    let mut made = MemFiles::new(alloc, Stamps::new(alloc));
-    let mut none = MemDial::new(alloc, MemScripts::new(alloc), Stamps::new(alloc));
-    let words = format!(in alloc; "generate {calls} cap")?;
-    ran(rt, alloc, &words, &mut made, &mut none)?;
-    let lists = lists_of(alloc, &made)?;
-    for mode in MODES {
-        replays_in(rt, alloc, mode, &made, &lists, tally)?;
-    }
-    Ok(())
-}
-
-// Those in one mode.
-fn replays_in<R: Clock + Wait + Threads + Sync>(
-    rt: &R,
-    alloc: Global,
-    mode: &str,
-    made: &MemFiles,
-    lists: &SessionLists,
-    tally: &mut Tally,
-) -> Result<(), anyhow::Error> {
-    for lanes in LANES {
-        let words = format!(in alloc; "run cap out --mode {mode} --lanes {lanes} --target 7080")?;
-        // (no session has this number, so no line fails)
-        fail_one(rt, alloc, &words, made, lists, (lists.len(), 0), tally)?;
-        fail_each(rt, alloc, &words, made, lists, tally)?;
-    }
-    Ok(())
-}
-
-// The calls of each session of a capture.
-fn lists_of(alloc: Global, files: &MemFiles) -> Result<SessionLists, anyhow::Error> {
-    let mut lists = List::new(alloc);
-    for session in 0..SESSIONS {
-        let name = format!(in alloc; "cap/session-00{session}.cap")?;
-        let Some(bytes) = files.held(&txt(alloc, &name)?) else {
-            continue;
-        };
-        if let Ok(calls) = read_session(alloc, bytes.as_slice(), session, 1) {
-            lists.push(calls)?;
+    /// The files of the capture, in memory.
+    pub fn files(&self, alloc: Global) -> Result<MemFiles, Memory> {
+        let mut files = MemFiles::new(alloc, Stamps::new(alloc));
+        for (name, bytes) in self.files.as_slice() {
+            files.put(name, bytes.as_slice())?;
         }
+        Ok(files)
     }
+}
+
+// The file of the start.
+fn start_file(alloc: Global, sessions: u32) -> Result<Bytes, anyhow::Error> {
+    let last = format!(in alloc; "sessions {sessions}\nend\n")?;
+    let mut file = Bytes::new(alloc);
+    file.append(START.as_bytes())?;
+    file.append(last.as_str().as_bytes())?;
+    Ok(file)
+}
+
+// The calls of each session of a random capture from the start of this file.
+fn random_lists(
+    alloc: Global,
+    start: &[u8],
+    random: &mut Random,
+    calls: u32,
+    sessions: u32,
+) -> Result<SessionLists, anyhow::Error> {
+    let start = match read_start(alloc, start) {
+        Ok(file) => file.start,
+        Err(_) => return Err(anyhow!("no start file")),
+    };
+    let kinds = kinds_of(alloc)?;
+    let lists = random_capture(alloc, &start, kinds.as_slice(), random, calls, sessions)?;
     Ok(lists)
 }
 
-// The replays of these words, where each call of each line fails in turn.
-fn fail_each<R: Clock + Wait + Threads + Sync>(
-    rt: &R,
+// The kinds of calls.
+fn kinds_of(alloc: Global) -> Result<Vec<Kind>, anyhow::Error> {
+    let mut kinds = Vec::new(alloc);
+    for line in KINDS.split('\n') {
+        let kind = Kind::of_line(alloc, line)?;
+        kinds.push(kind)?;
+    }
+    Ok(kinds)
+}
+
+// The file of the start, and that of each session, by their names.
+fn files_of(
     alloc: Global,
-    words: &str,
-    made: &MemFiles,
+    start: Bytes,
     lists: &SessionLists,
-    tally: &mut Tally,
-) -> Result<(), anyhow::Error> {
-    for session in 0..lists.len() {
-        fail_line(rt, alloc, words, made, lists, session, tally)?;
-    }
-    Ok(())
-}
-
-// Those where each call of one line fails in turn.
-fn fail_line<R: Clock + Wait + Threads + Sync>(
-    rt: &R,
-    alloc: Global,
-    words: &str,
-    made: &MemFiles,
-    lists: &SessionLists,
-    session: usize,
-    tally: &mut Tally,
-) -> Result<(), anyhow::Error> {
-    for place in 0..calls_in(lists, session) {
-        fail_one(rt, alloc, words, made, lists, (session, place), tally)?;
-    }
-    Ok(())
-}
-
-fn calls_in(lists: &SessionLists, session: usize) -> usize {
-    match lists.get(session) {
-        Some(list) => list.len(),
-        None => 0,
-    }
-}
-
-fn fail_one<R: Clock + Wait + Threads + Sync>(
-    rt: &R,
-    alloc: Global,
-    words: &str,
-    made: &MemFiles,
-    lists: &SessionLists,
-    failing: (usize, usize),
-    tally: &mut Tally,
-) -> Result<(), anyhow::Error> {
-    let mut files = copied(alloc, made)?;
-    let scripts = scripts_of(alloc, lists, failing)?;
-    let mut dial = MemDial::new(alloc, scripts, Stamps::new(alloc));
-    let said = ran(rt, alloc, words, &mut files, &mut dial)?;
-    let written = count_of(alloc, &files)?;
-    tally.replays = tally.replays.saturating_add(1);
-    if said.starts_with("0 ") && written == 4 && are_whole(lists, &dial) {
-        tally.quiet = tally.quiet.saturating_add(1);
-    }
-    if said.as_str() == "10 link fault" && written == 0 {
-        tally.faults = tally.faults.saturating_add(1);
-    }
-    if are_in_order(lists, &dial) {
-        tally.in_order = tally.in_order.saturating_add(1);
-    }
-    Ok(())
-}
-
-// The files of the capture.
-fn copied(alloc: Global, made: &MemFiles) -> Result<MemFiles, anyhow::Error> {
-    let mut files = MemFiles::new(alloc, Stamps::new(alloc));
-    copy_file(alloc, made, "cap/start.cap", &mut files)?;
-    for session in 0..SESSIONS {
+) -> Result<Vec<(Txt, Bytes)>, anyhow::Error> {
+    let mut files = Vec::new(alloc);
+    let name = txt(alloc, "cap/start.cap")?;
+    files.push((name, start))?;
+    for (session, calls) in lists.as_slice().iter().enumerate() {
         let name = format!(in alloc; "cap/session-00{session}.cap")?;
-        copy_file(alloc, made, &name, &mut files)?;
+        let name = txt(alloc, name.as_str())?;
+        let file = session_file(alloc, session, calls.as_slice())?;
+        files.push((name, file))?;
     }
     Ok(files)
 }
 
-fn copy_file(
-    alloc: Global,
-    made: &MemFiles,
-    name: &str,
-    to: &mut MemFiles,
-) -> Result<(), anyhow::Error> {
-    let name = txt(alloc, name)?;
-    if let Some(bytes) = made.held(&name) {
-        to.put(&name, bytes.as_slice())?;
+// The file of a session, of the version of the start.
+fn session_file(alloc: Global, session: usize, calls: &[Captured]) -> Result<Bytes, anyhow::Error> {
+    let first = format!(in alloc; "session 2 {session}\n")?;
+    let mut file = Bytes::new(alloc);
+    file.append(first.as_str().as_bytes())?;
+    for captured in calls {
+        append_line(alloc, captured, &mut file)?;
     }
+    file.append(b"end\n")?;
+    Ok(file)
+}
+
+// The line of a call: its numbers, what was asked, and what was answered.
+fn append_line(alloc: Global, captured: &Captured, to: &mut Bytes) -> Result<(), anyhow::Error> {
+    let (stamp, seen) = (captured.stamp, captured.seen);
+    let (began, ended) = (captured.began, captured.ended);
+    let number = number_text(alloc, captured.number)?;
+    let numbers = format!(in alloc; "{stamp} {began} {ended} {seen} {number} ")?;
+    to.append(numbers.as_str().as_bytes())?;
+    append_call(&captured.call, to)?;
+    to.append(b" > ")?;
+    append_reply(&captured.reply, to)?;
+    to.append(b"\n")?;
     Ok(())
 }
 
-// The captured replies of each session, and that one call of one line fails.
-fn scripts_of(
-    alloc: Global,
-    lists: &SessionLists,
-    failing: (usize, usize),
-) -> Result<MemScripts, anyhow::Error> {
-    let mut scripts = MemScripts::new(alloc);
-    for session in 0..lists.len() {
-        let mut fails = Stamps::new(alloc);
-        if session == failing.0 {
-            fails.push(u32::try_from(failing.1).unwrap_or(u32::MAX))?;
-        }
-        scripts.push(MemScript {
-            replies: replies_of(alloc, lists, session)?,
-            fails,
-        })?;
-    }
-    Ok(scripts)
-}
-
-fn replies_of(
-    alloc: Global,
-    lists: &SessionLists,
-    session: usize,
-) -> Result<ReplyList, anyhow::Error> {
-    let mut replies = ReplyList::new(alloc);
-    if let Some(list) = lists.get(session) {
-        for call in list.as_slice() {
-            let reply = call.reply.copy()?;
-            if reply.good() {
-                replies.push(reply)?;
-            }
-        }
-    }
-    Ok(replies)
-}
-
-// Whether each line was given back, and was sent the calls of its session in order, each once at most, and answered as captured: without
-// an answer is the last alone.
-fn are_in_order(lists: &SessionLists, dial: &MemDial) -> bool {
-    for session in 0..lists.len() {
-        match (lists.get(session), dial.given_back(session)) {
-            (Some(list), Some(line)) if is_front(list, line.said()) => {}
-            _ => return false,
-        }
-    }
-    true
-}
-
-fn is_front(list: &CallList, said: &[Heard]) -> bool {
-    for place in 0..said.len() {
-        match list.get(place) {
-            Some(captured)
-                if captured.call.same(&said[place].call)
-                    && is_answer(captured, &said[place].reply, place + 1 == said.len()) => {}
-            _ => return false,
-        }
-    }
-    true
-}
-
-fn is_answer(captured: &Captured, reply: &Option<Reply>, is_last: bool) -> bool {
-    match reply {
-        Some(reply) => captured.reply.same(reply),
-        None => is_last,
+// The number of a commit, or a dash.
+fn number_text(alloc: Global, number: u64) -> Result<String, anyhow::Error> {
+    if number == 0 {
+        Ok(String::from_str(alloc, "-")?)
+    } else {
+        Ok(format!(in alloc; "{number}")?)
     }
 }
 
-// Whether each line was sent all calls of its session.
-fn are_whole(lists: &SessionLists, dial: &MemDial) -> bool {
-    for session in 0..lists.len() {
-        match (lists.get(session), dial.given_back(session)) {
-            (Some(list), Some(line)) if line.said().len() == list.len() => {}
-            _ => return false,
+// Those of the lists that have a call.
+fn with_calls(alloc: Global, lists: &SessionLists) -> Result<SessionLists, Memory> {
+    let mut lines = List::new(alloc);
+    for calls in lists.as_slice() {
+        if !calls.is_empty() {
+            lines.push(calls.copy()?)?;
         }
     }
-    true
+    Ok(lines)
 }

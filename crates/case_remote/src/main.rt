@@ -1,6 +1,6 @@
-//! Replays against a server that runs elsewhere: lines in memory that answer as captured or otherwise, lines that fail at each place in
-//! turn or can't be dialled, files that fail, a server of this desk at the other end of the loopback, which is asked for an id that it never
-//! gave too, and answers by HTTP that give a reply or none.
+//! Replays against a server that runs elsewhere: lines in memory that answer as captured or otherwise, that fail or can't be dialled, files
+//! that fail, a server of this desk at the other end of the loopback, which is asked for an id that it never gave too, random captures over
+//! lines of which each call and each dial fails in turn, and answers by HTTP that give a reply or none.
 //!
 //! Enters: nothing. Leaves: lines, the same whatever the schedule: the status and the line of each run, its files, and what its lines
 //! heard; and of each answer what it begins with and what it gives. It touches the standard output, threads, the clock and the network
@@ -9,10 +9,16 @@
 
 mod answers;
 mod captures;
+mod contents;
 mod dials;
+mod ended;
+mod heard;
 mod lines;
 mod loopback;
 mod made;
+mod rounds;
+mod scripts;
+mod tally;
 
 use captures::{DRAWS, STRANGER};
 use std::alloc::Global;
@@ -33,7 +39,7 @@ fn main(rt: HostRuntime) -> Result<(), anyhow::Error> {
     lines::on_failing_files(&rt, alloc)?;
     at_the_loopback(&rt, alloc)?;
     never_given(&rt, alloc)?;
-    made::replays(&rt, alloc)?;
+    rounds::replays(&rt, alloc)?;
     answers::each(&rt, alloc)?;
     answers::ends(&rt, alloc)?;
     Ok(())

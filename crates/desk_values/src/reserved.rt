@@ -71,6 +71,13 @@ impl<T> Reserved<T> {
         self.items.reserve(more as usize)?;
         Ok(())
     }
+
+    /// The vector of the items.
+    pub fn into_vec(self) -> Vec<T>
+        ensures { result.items ≡ self.items }
+    {
+        self.items
+    }
 }
 
 impl<T: Drop> Reserved<T> {

@@ -1,19 +1,17 @@
 -- The seats of calls by their stamps.
-use Rattle.std.proofs.Common.{◌≡◌, ◌≢◌, ℕ, suc, ◌+◌, ◌-◌, ◌<◌, ◌≤◌, Bool, true, false, cond, List, [], ◌∷◌, ◌++◌, length, get_or, set, take, refl, sym, ap, subst, ◌∙◌, arith, length-set}
+use Rattle.std.proofs.Common.{◌≡◌, ◌≢◌, ℕ, suc, ◌+◌, ◌-◌, ◌<◌, ◌≤◌, Bool, true, false, cond, List, [], ◌∷◌, ◌++◌, length, get_or, set, replicate, refl, sym, ap, subst, ◌∙◌, arith, length-set}
 use Rattle.std.specs.Prelude.{Option, None, Some, nat_eq, not, slice_get, slice_index_or, option_map, Ok, Err}
 use Rattle.std.specs.List.{cons_option, filter, find, filter_map, range_with_len}
 use Rattle.std.proofs.lemmas.Bool.{eq-eqb, eqb-true, ne_eqb, true≢false}
-use Rattle.std.proofs.lemmas.List.{append-nil, get_or-set_same, get_or-set_other, get_or_default, map-append, length-map}
+use Rattle.std.proofs.lemmas.List.{append-nil, get_or-set_same, get_or-set_other, get_or-replicate, get_or_default, length-replicate}
 use Rattle.std.proofs.lemmas.List.Elements.{filter-append}
 use Rattle.std.proofs.lemmas.List.Sums.{length-filter}
-use denote.Ref.{Bor}
 use Rattle.desk_values.specs.declared.capture.Captured.{Captured}
 use Rattle.captured_calls.specs.Stamps.{HasEach, has_stamp, count_at, call_at, by_stamp, stamps_for}
-use Rattle.captured_calls.proofs.Scanning.{taken}
 use Rattle.captured_calls.proofs.Stamping.{has_each}
 use Rattle.prepare_plan.specs.declared.seats.Seat.{Seat}
 use Rattle.prepare_plan.specs.declared.seats.Seat.TheVariants.{Empty, Taken, Crowded}
-use Rattle.prepare_plan.specs.Inside.{shown, calls_at, IsSeat, AreSeatsOf, is_taken, taken_call, ordered, ordered_or}
+use Rattle.prepare_plan.specs.Inside.{calls_at, IsSeat, AreSeatsOf, is_taken, taken_call, ordered, ordered_or}
 use Rattle.captured_calls.specs.declared.refusal.Refusal.TheVariants.{Stamp}
 
 -- ---- one more call
@@ -25,17 +23,17 @@ module _ (calls : List Captured) (call : Captured) where
   other_more : (k : ℕ) → call.stamp ≢ k → calls_at (calls ++ call ∷ []) k ≡ calls_at calls k
   other_more k apart = filter-append (has_stamp k) calls (call ∷ []) ∙ ap (λ (b : Bool). calls_at calls k ++ cond b (call ∷ []) []) (ne_eqb call.stamp k apart) ∙ append-nil (calls_at calls k)
 
-  module _ (seats : List Seat) (are : AreSeatsOf calls (length seats) seats) where
-    stays : (k : ℕ) → k < length seats → call.stamp ≢ k → IsSeat (calls_at (calls ++ call ∷ []) k) (get_or seats k Empty)
+  module _ (n : ℕ) (seats : List Seat) (are : AreSeatsOf calls n seats) where
+    stays : (k : ℕ) → k < n → call.stamp ≢ k → IsSeat (calls_at (calls ++ call ∷ []) k) (get_or seats k Empty)
     stays k lt apart = subst (λ (mine : List Captured). IsSeat mine (get_or seats k Empty)) (sym (other_more k apart)) (are.1 k lt)
 
-    pub seat_left : length seats ≤ call.stamp → AreSeatsOf (calls ++ call ∷ []) (length seats) seats
-    seat_left out = (refl, λ k lt. stays k lt (λ same. absurd (omega (arith, same, lt, out))))
+    pub seat_left : length seats ≤ call.stamp → AreSeatsOf (calls ++ call ∷ []) n seats
+    seat_left out = (are.0, λ k lt. stays k lt (λ same. absurd (omega (arith, same, lt, out, are.0))))
 
-    pub seat_taken : (seat : Seat) → call.stamp < length seats → IsSeat (calls_at calls call.stamp ++ call ∷ []) seat → AreSeatsOf (calls ++ call ∷ []) (length seats) (set seats call.stamp seat)
-    seat_taken seat within is = (length-set seats call.stamp seat, λ k lt. each k lt (nat_eq call.stamp k) refl)
+    pub seat_taken : (seat : Seat) → call.stamp < length seats → IsSeat (calls_at calls call.stamp ++ call ∷ []) seat → AreSeatsOf (calls ++ call ∷ []) n (set seats call.stamp seat)
+    seat_taken seat within is = (length-set seats call.stamp seat ∙ are.0, λ k lt. each k lt (nat_eq call.stamp k) refl)
       where
-        each : (k : ℕ) → k < length seats → (b : Bool) → nat_eq call.stamp k ≡ b → IsSeat (calls_at (calls ++ call ∷ []) k) (get_or (set seats call.stamp seat) k Empty)
+        each : (k : ℕ) → k < n → (b : Bool) → nat_eq call.stamp k ≡ b → IsSeat (calls_at (calls ++ call ∷ []) k) (get_or (set seats call.stamp seat) k Empty)
         each k lt true same = subst (λ (j : ℕ). IsSeat (calls_at (calls ++ call ∷ []) j) (get_or (set seats call.stamp seat) j Empty)) (eqb-true call.stamp k same)
             (subst (IsSeat (calls_at (calls ++ call ∷ []) call.stamp)) (sym (get_or-set_same seats call.stamp seat Empty within)) (subst (λ (mine : List Captured). IsSeat mine seat) (sym own_more) is))
         each k lt false other =
@@ -43,15 +41,12 @@ module _ (calls : List Captured) (call : Captured) where
             subst (IsSeat (calls_at (calls ++ call ∷ []) k)) (sym (get_or-set_other seats call.stamp k seat Empty (λ same. apart (sym same)))) (stays k lt apart)
 
 -- the seat that was read is that of its stamp
-pub seat_read : (calls : List Captured) (seats : List Seat) (k : ℕ) (seat : Seat) → AreSeatsOf calls (length seats) seats → k < length seats → seat ≡ get_or seats k seat → IsSeat (calls_at calls k) seat
-seat_read calls seats k seat are lt read = subst (IsSeat (calls_at calls k)) (get_or_default seats k Empty seat lt ∙ sym read) (are.1 k lt)
+pub seat_read : (calls : List Captured) (n : ℕ) (seats : List Seat) (k : ℕ) (seat : Seat) → AreSeatsOf calls n seats → k < length seats → seat ≡ get_or seats k seat → IsSeat (calls_at calls k) seat
+seat_read calls n seats k seat are lt read = subst (IsSeat (calls_at calls k)) (get_or_default seats k Empty seat lt ∙ sym read) (are.1 k (omega (arith, lt, are.0)))
 
-pub seated_more : (calls : List (Bor Captured)) (i : ℕ) (call : Bor Captured) (n : ℕ) (old new : List Seat) → i < length calls → call ≡ get_or calls i call → AreSeatsOf (shown (take i calls)) n old
-    → ((cs : List Captured) → AreSeatsOf cs (length old) old → AreSeatsOf (cs ++ call.now ∷ []) (length old) new) → AreSeatsOf (shown (take (i + 1) calls)) n new
-seated_more calls i call n old new within read was step =
-    let shows : shown (take (i + 1) calls) ≡ shown (take i calls) ++ call.now ∷ [] = ap shown (taken calls i call within read) ∙ map-append (λ (c : Bor Captured). c.now) (take i calls) (call ∷ []) in
-    let next = step (shown (take i calls)) (refl, λ k lt. was.1 k (omega (arith, was.0, lt))) in
-    subst (λ (cs : List Captured). AreSeatsOf cs n new) (sym shows) (next.0 ∙ was.0, λ k lt. next.1 k (omega (arith, was.0, lt)))
+-- seats of no call
+pub none_seated : (n : ℕ) → AreSeatsOf [] n (replicate n Empty)
+none_seated n = (length-replicate n Empty, λ k lt. subst (IsSeat []) (sym (get_or-replicate n k Empty Empty lt)) refl)
 
 -- ---- the first that is free
 
@@ -101,21 +96,21 @@ call_is mine Crowded is one = absurd (omega (arith, is, one))
 listed_is : (calls : List Captured) (seats : List Seat) → AreSeatsOf calls (length seats) seats → length seats ≡ length calls → HasEach calls → filter_map taken_call seats ≡ filter_map (call_at calls) (range_with_len 0 (length seats))
 listed_is calls seats are len has = picked_same taken_call (call_at calls) Empty 0 seats (λ k lt. call_is (calls_at calls k) _ (are.1 k lt) (length-filter (has_stamp k) calls ∙ has.each k (omega (arith, lt, len))) ∙ sym (found_first (has_stamp k) calls) ∙ ap (call_at calls) (omega arith))
 
-module _ (looked : List (Bor Captured)) (seats : List Seat) (are : AreSeatsOf (shown looked) (length looked) seats) (o : Option ℕ) (found : o ≡ find (λ k. not (is_taken (slice_index_or seats k Empty))) (range_with_len 0 (length seats))) where
-  same_length : length seats ≡ length (shown looked)
-  same_length = are.0 ∙ sym (length-map looked (λ (c : Bor Captured). c.now))
+module _ (looked : List Captured) (seats : List Seat) (are : AreSeatsOf looked (length looked) seats) (o : Option ℕ) (found : o ≡ find (λ k. not (is_taken (slice_index_or seats k Empty))) (range_with_len 0 (length seats))) where
+  same_length : length seats ≡ length looked
+  same_length = are.0
 
-  own : AreSeatsOf (shown looked) (length seats) seats
+  own : AreSeatsOf looked (length seats) seats
   own = (refl, λ k lt. are.1 k (omega (arith, are.0, lt)))
 
-  free : find (λ k. not (nat_eq (count_at (shown looked) k) 1)) (stamps_for (shown looked)) ≡ o
-  free = sym (found ∙ free_is (shown looked) seats own ∙ ap (λ (n : ℕ). find (λ k. not (nat_eq (count_at (shown looked) k) 1)) (range_with_len 0 n)) same_length)
+  free : find (λ k. not (nat_eq (count_at looked k) 1)) (stamps_for looked) ≡ o
+  free = sym (found ∙ free_is looked seats own ∙ ap (λ (n : ℕ). find (λ k. not (nat_eq (count_at looked k) 1)) (range_with_len 0 n)) same_length)
 
-  pub order_fails : (stamp : ℕ) → o ≡ Some stamp → ordered (shown looked) ≡ Err (Stamp stamp)
-  order_fails stamp is = ap (λ (f : Option ℕ). ordered_or (option_map Stamp f) (shown looked)) (free ∙ is)
+  pub order_fails : (stamp : ℕ) → o ≡ Some stamp → ordered looked ≡ Err (Stamp stamp)
+  order_fails stamp is = ap (λ (f : Option ℕ). ordered_or (option_map Stamp f) looked) (free ∙ is)
 
-  pub order_holds : (items : List Captured) → o ≡ None → items ≡ filter_map taken_call seats → ordered (shown looked) ≡ Ok items
+  pub order_holds : (items : List Captured) → o ≡ None → items ≡ filter_map taken_call seats → ordered looked ≡ Ok items
   unfolding by_stamp
   order_holds items is listed =
-      ap (λ (f : Option ℕ). ordered_or (option_map Stamp f) (shown looked)) (free ∙ is)
-      ∙ ap (λ (l : List Captured). Ok l) (sym (listed ∙ listed_is (shown looked) seats own same_length (has_each (shown looked) (free ∙ is)) ∙ ap (λ (n : ℕ). filter_map (call_at (shown looked)) (range_with_len 0 n)) same_length))
+      ap (λ (f : Option ℕ). ordered_or (option_map Stamp f) looked) (free ∙ is)
+      ∙ ap (λ (l : List Captured). Ok l) (sym (listed ∙ listed_is looked seats own same_length (has_each looked (free ∙ is)) ∙ ap (λ (n : ℕ). filter_map (call_at looked) (range_with_len 0 n)) same_length))

@@ -1,7 +1,6 @@
 -- Words for the steps of the work.
-use Rattle.std.specs.Prelude.{◌≡◌, ℕ, ◌<◌, ◌≤◌, Bool, true, false, List, [], ◌∷◌, length, map, Option, None, Some, Result, Ok, Err, slice_index_or}
+use Rattle.std.specs.Prelude.{◌≡◌, ℕ, ◌<◌, ◌≤◌, Bool, true, false, List, [], ◌∷◌, length, Option, None, Some, Result, Ok, Err, slice_index_or}
 use Rattle.std.specs.List.{filter}
-use denote.Ref.{Bor}
 use Rattle.desk_values.specs.Room.{Room}
 use Rattle.captured_calls.specs.Stamps.{has_stamp, by_stamp}
 use Rattle.desk_values.specs.declared.capture.Captured.{Captured}
@@ -14,10 +13,6 @@ use Rattle.sql_eval.specs.SchemaNames.{table_of}
 use Rattle.captured_calls.specs.Facts.{all_tables, only_table}
 use Rattle.prepare_plan.specs.Answered.{told_as}
 
--- the calls that are looked at
-abbrev pub shown : List (Bor Captured) → List Captured
-shown calls = map (λ (call : Bor Captured). call.now) calls
-
 -- what a refusal tells of a test
 abbrev pub told : Refusal → Option (Option Refusal)
 told refusal = told_as Some refusal
@@ -29,7 +24,7 @@ passed tt = None
 -- the seat of a stamp tells which calls have it, where it is at most one
 abbrev pub IsSeat : List Captured → Seat → Type 0
 IsSeat mine Empty = mine ≡ []
-IsSeat mine (Taken call) = mine ≡ call.now ∷ []
+IsSeat mine (Taken call) = mine ≡ call ∷ []
 IsSeat mine Crowded = 2 ≤ length mine
 
 abbrev pub calls_at : List Captured → ℕ → List Captured
@@ -43,7 +38,7 @@ is_taken (Taken call) = true
 is_taken other = false
 
 abbrev pub taken_call : Seat → Option Captured
-taken_call (Taken call) = Some call.now
+taken_call (Taken call) = Some call
 taken_call other = None
 
 -- the calls by stamp, where each stamp is that of one call

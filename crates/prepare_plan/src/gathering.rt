@@ -3,27 +3,25 @@
 ghost use Rattle.std.specs.Prelude.{◌≡◌, ◌++◌, IfOk, OnOk};
 ghost use Rattle.captured_calls.specs.Stamps.{all_calls};
 ghost use Rattle.prepare_plan.specs.Lists.{lists_of};
-ghost use Rattle.prepare_plan.specs.Inside.{shown};
 
-use desk_values::{CallList, Captured, Memory};
+use desk_values::{CallList, Captured, Memory, SessionLists};
 use std::alloc::Global;
 
 /// The calls of all sessions, one session after the other.
-pub(crate) fn gathered(alloc: Global, sessions: &[CallList]) -> Result<Vec<&Captured>, Memory>
-    ensures { IfOk result (λ calls. shown calls.items ≡ all_calls (lists_of sessions.now)) }
+pub(crate) fn gathered(alloc: Global, sessions: SessionLists) -> Result<Vec<Captured>, Memory>
+    ensures { IfOk result (λ calls. calls.items ≡ all_calls (lists_of sessions)) }
 {
     let mut calls = Vec::new(alloc);
-    for session in sessions {
-        append(&mut calls, session.as_slice())?;
+    for session in sessions.into_vec() {
+        append(&mut calls, session)?;
     }
     Ok(calls)
 }
 
-fn append<'a>(calls: &mut Vec<&'a Captured>, session: &'a [Captured]) -> Result<(), Memory>
-    ensures { OnOk result (shown calls.new.items ≡ shown calls.old.items ++ session.now) }
+fn append(calls: &mut Vec<Captured>, session: CallList) -> Result<(), Memory>
+    ensures { OnOk result (calls.new.items ≡ calls.old.items ++ session.items) }
 {
-    for call in session {
-        calls.push(call)?;
-    }
+    let mut session = session.into_vec();
+    calls.append(&mut session)?;
     Ok(())
 }

@@ -16,5 +16,5 @@ mod replies;
 mod seats;
 
 pub use captured_calls::Refusal;
-pub use prepared::{Prepared, prepare};
+pub use prepared::{Prepared, prepare, prepare_owned};
 pub use replay_history::CALL_LIMIT;

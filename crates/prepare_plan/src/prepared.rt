@@ -43,23 +43,41 @@ pub fn prepare(alloc: Global, start: &Start, sessions: &SessionLists) -> Result<
     ensures each_has_facts { IfOk result (λ prepared. length prepared.facts ≡ length prepared.calls.items) }
     ensures count { IfOk result (λ prepared. length prepared.calls.items ≤ 100000) }
 {
+    let owned = sessions.copy()?;
+    prepare_owned(alloc, start, owned)
+}
+
+/// As [`prepare`], of calls that are given away: none is copied.
+pub fn prepare_owned(
+    alloc: Global,
+    start: &Start,
+    sessions: SessionLists,
+) -> Result<Prepared, Refusal>
+    requires sessions { length sessions ≤ 64 }
+    requires lists { AreSessionsFrom 0 (lists_of sessions) }
+    ensures verdict { Answers plan_seen refusal_told result (verdict start.now (lists_of sessions)) }
+    ensures legal { IfOk result (λ prepared. IsLegal start.now prepared.calls.items) }
+    ensures facts { IfOk result (λ prepared. AreSound prepared.facts) }
+    ensures each_has_facts { IfOk result (λ prepared. length prepared.facts ≡ length prepared.calls.items) }
+    ensures count { IfOk result (λ prepared. length prepared.calls.items ≤ 100000) }
+{
     judged(alloc, start, sessions)
 }
 
 /// What becomes of the calls.
 #[tactic(auto, unfolding(captured_calls::specs::Verdict::verdict))]
-fn judged(alloc: Global, start: &Start, sessions: &SessionLists) -> Result<Prepared, Refusal>
-    requires sessions { length sessions.now ≤ 64 }
-    requires lists { AreSessionsFrom 0 (lists_of sessions.now) }
-    ensures { Answers plan_seen refusal_told result (verdict start.now (lists_of sessions.now)) }
+fn judged(alloc: Global, start: &Start, sessions: SessionLists) -> Result<Prepared, Refusal>
+    requires sessions { length sessions ≤ 64 }
+    requires lists { AreSessionsFrom 0 (lists_of sessions) }
+    ensures { Answers plan_seen refusal_told result (verdict start.now (lists_of sessions)) }
 {
-    let gathered = gathered(alloc, sessions.as_slice())?;
+    let gathered = gathered(alloc, sessions)?;
     if gathered.len() > CALL_LIMIT {
         return Err(Refusal::TooMany {
             calls: gathered.len() as u64,
         });
     }
-    let calls = ordered(alloc, &gathered)?;
+    let calls = ordered(alloc, gathered)?;
     planned(alloc, start, calls)
 }
 

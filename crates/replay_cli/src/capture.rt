@@ -21,7 +21,7 @@ use desk_files::Files;
 use desk_schema::Start;
 use desk_values::{CallList, SessionLists, Txt};
 use object_depends::FactList;
-use prepare_plan::{Refusal as Illegal, prepare};
+use prepare_plan::{Refusal as Illegal, prepare_owned};
 use std::alloc::Global;
 
 /// The greatest number of bytes of the files of a capture together.
@@ -124,7 +124,8 @@ pub fn test(alloc: Global, read: Read) -> Result<Legal, Failure>
     ensures moments { IfOk result (λ legal. HasMoments legal.calls.items) }
     ensures facts { IfOk result (λ legal. length legal.facts ≤ 100000) }
 {
-    match prepare(alloc, &read.start, &read.sessions) {
+    let sessions = read.sessions;
+    match prepare_owned(alloc, &read.start, sessions) {
         Ok(prepared) => Ok(Legal {
             start: read.start,
             calls: prepared.calls,

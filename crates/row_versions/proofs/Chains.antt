@@ -93,6 +93,28 @@ within (y ∷ xs) zero i x h = absurd (grind (arith, h))
 within (y ∷ xs) (suc end) zero x h = (h, omega arith, omega arith, refl)
 within (y ∷ xs) (suc end) (suc i) x h = let rest = within xs end i x h in (rest.0, omega (arith, rest.1), omega (arith, rest.2), ap (λ (zs : List _). y ∷ zs) rest.3)
 
+same_row : (row : ℕ) → nat_eq row row ≡ true
+same_row row = grind arith
+
+-- of versions that are all over the number none is read
+over_all : (low row n : ℕ) (list : List Version) → Ascends low (seen_of list) → n < low → row_at (seen_of list) row n ≡ None
+over_all low row n [] up over = refl
+over_all low row n (x ∷ xs) up over =
+    let beyond : n < x.number = omega (arith, up.0, over) in
+    let past : is_up_to n (written_of x) ≡ false = grind (arith, beyond) in
+    let rest = over_all x.number row n xs up.1 beyond in
+    grind (arith, past, rest)
+
+ascends_taken : (low end : ℕ) (list : List Version) → Ascends low (seen_of list) → Ascends low (seen_of (take end list))
+ascends_taken low zero list up = tt
+ascends_taken low (suc end) [] up = tt
+ascends_taken low (suc end) (x ∷ xs) up = (up.0, ascends_taken x.number end xs up.1)
+
+taken_there : {X : Type 0} (xs : List X) (at : ℕ) (x : X) → slice_get xs at ≡ Some x → (slice_get (take (suc at) xs) at ≡ Some x) × (take at (take (suc at) xs) ≡ take at xs)
+taken_there [] at x is = absurd (grind (arith, is))
+taken_there (y ∷ xs) zero x is = (is, refl)
+taken_there (y ∷ xs) (suc at) x is = let rest = taken_there xs at x is in (rest.0, ap (λ (zs : List _). y ∷ zs) rest.1)
+
 -- where a walk stands
 pub record Stands (row n : ℕ) (list : List Version) (at : ℕ) : Type 0 where
   pub version : Version
@@ -119,6 +141,31 @@ walk_on row n list at s linked after = record {
   end = at;
   place = linked at s.version s.is ∙ ap (λ (r : ℕ). last_place r (take at list)) s.row_is;
   reads = sym (s.reads ∙ ap (λ (b : Bool). if b then Some s.version.image else row_at (seen_of (take at list)) row n) after);
+}
+
+-- nothing from a version over the number on is read
+over_skipped : (low row n : ℕ) (list : List Version) (at : ℕ) (version : Version) → Ascends low (seen_of list) → slice_get list at ≡ Some version → n < version.number → row_at (seen_of list) row n ≡ row_at (seen_of (take at list)) row n
+over_skipped low row n [] at version up is over = absurd (grind (arith, is))
+over_skipped low row n (x ∷ xs) zero version up is over = let same : x ≡ version = grind (arith, is) in over_all x.number row n (x ∷ xs) (omega arith, up.1) (let number = ap (λ (v : Version). v.number) same in omega (arith, over, number))
+over_skipped low row n (x ∷ xs) (suc at) version up is over = ap (λ (o : Option Image). or_else o (if is_of_row row (written_of x) && is_up_to n (written_of x) then Some x.image else None)) (over_skipped x.number row n xs at version up.1 is over)
+
+last_there : (k row : ℕ) (xs : List Version) (at : ℕ) (version : Version) → slice_get xs at ≡ Some version → version.image.row ≡ row → last_from k row (take (suc at) xs) ≡ Some (k + at)
+last_there k row [] at version is same = absurd (grind (arith, is))
+last_there k row (x ∷ xs) zero version is same =
+    let here : x ≡ version = grind (arith, is) in
+    let own : x.image.row ≡ row = ap (λ (v : Version). v.image.row) here ∙ same in
+    ap (λ (b : Bool). or_else None (if b then Some k else None)) (ap (λ (r : ℕ). nat_eq r row) own ∙ same_row row) ∙ ap Some (omega arith)
+last_there k row (x ∷ xs) (suc at) version is same =
+    ap (λ (o : Option ℕ). or_else o (if nat_eq x.image.row row then Some k else None)) (last_there (k + 1) row xs at version is same) ∙ ap Some (omega arith)
+
+pub walk_jumps : (row n : ℕ) (list : List Version) (at : ℕ) (version : Version) → Ascends 0 (seen_of list) → slice_get list at ≡ Some version → version.image.row ≡ row → n < version.number → Walks row n list (Some at)
+walk_jumps row n list at version up is same over = record {
+  end = suc at;
+  place = (let here : at ≡ 0 + at = omega arith in ap Some here) ∙ sym (last_there 0 row list at version is same);
+  reads =
+      let there = taken_there list at version is in
+      over_skipped 0 row n (take (suc at) list) at version (ascends_taken 0 (suc at) list up) there.0 over ∙ ap (λ (xs : List Version). row_at (seen_of xs) row n) there.1
+      ∙ sym (over_skipped 0 row n list at version up is over);
 }
 
 pub walk_falls : (row n : ℕ) (list : List Version) (at : ℕ) (before : Option ℕ) → before ≡ last_place row (take at list) → end_of before < at + 1
@@ -230,9 +277,6 @@ kept_pop ys xs x last last' is kept updates =
         let same : x.image.row ≡ row = grind (arith, e) in
         ap (λ (b : Bool). cond b x.before (get nat_cmp last row)) e ∙ before ∙ ap (λ (r : ℕ). last_place r xs) same
     by row false e was before = ap (λ (b : Bool). cond b x.before (get nat_cmp last row)) e ∙ was ∙ ap (λ (b : Bool). if b then Some (0 + length xs) else last_from 0 row xs) e
-
-same_row : (row : ℕ) → nat_eq row row ≡ true
-same_row row = grind arith
 
 -- the row of the last version stands in the map
 pub has_last : (ys xs : List Version) (x : Version) (last : BTreeMap ℕ ℕ) → ys ≡ xs ++ x ∷ [] → IsKept ys last → get nat_cmp last x.image.row ≡ Some (0 + length xs)

@@ -7,7 +7,7 @@ ghost use Rattle.std.specs.Option.{IsSome, option_copied};
 ghost use Rattle.std.specs.Ordering.{nat_cmp};
 ghost use Rattle.row_versions.specs.declared.versions.Version.{Version as AnyVersion};
 ghost use Rattle.row_versions.specs.History.{AreRowsAt, IsNextRow, IsPartOf, ReadsStay, left_of, looked, row_at, seen_of, up_to};
-ghost use Rattle.row_versions.specs.Inside.Links.{AreLinked, Ascends, all_left, found_in, last_place, listed, needed};
+ghost use Rattle.row_versions.specs.Inside.Links.{AreLinked, Ascends, IsBehind, all_left, found_in, last_place, listed, needed};
 
 use desk_values::{Copied, Image, Memory};
 use std::alloc::Global;
@@ -22,6 +22,10 @@ pub struct Version {
     image: Image,
     // Where the row's version before it stands.
     before: Option<usize>,
+    // Where an earlier one of the row stands, from which a search may go on; its own place where there is none.
+    jump: usize,
+    // How many of the row there are before it.
+    depth: usize,
 }
 
 /// The versions of rows. Contracts see a list of images in the order of writing, each with the number of the commit that wrote
@@ -83,17 +87,20 @@ impl Versions {
     {
         self.list.reserve(1)?;
         let before = self.last.insert(image.row, self.list.len())?;
+        let (jump, depth) = jump_of(&self.list, before);
         let version = Version {
             number: n,
             image,
             before,
+            jump,
+            depth,
         };
         self.list.push(version).unwrap();
         Ok(())
     }
 
     /// The row's last image with a number up to this one, which is not below the floor; `None` where it has none. Takes no
-    /// memory, and looks through the versions of the row that have a greater number.
+    /// memory, and looks at a logarithm of the row's versions.
     pub fn row_at(&self, row: u64, n: u64) -> Option<&Image>
         requires { self.now.floor ≤ n }
         ensures { option_copied result ≡ row_at self.now.list row n }
@@ -205,9 +212,39 @@ fn step_back(last: &mut BTreeMap<u64, usize>, row: u64, before: Option<usize>)
     }
 }
 
+// Where a version goes from which a search may go on, and how many there are before it, where the row's last one stands here: as far back as
+// the jumps of the last two went together, where these are of one length, else to the last one. Which place it is costs time at most.
+fn jump_of(list: &[Version], last: Option<usize>) -> (usize, usize) {
+    let Some(at) = last else {
+        return (list.len(), 0);
+    };
+    let Some(near) = list.get(at) else {
+        return (list.len(), 0);
+    };
+    let depth = near.depth.wrapping_add(1);
+    match far_of(list, near) {
+        Some(far) => (far, depth),
+        None => (at, depth),
+    }
+}
+
+// Where the jump of the version goes to which this one jumps, where both are of one length.
+fn far_of(list: &[Version], near: &Version) -> Option<usize> {
+    let middle = list.get(near.jump)?;
+    let far = list.get(middle.jump)?;
+    let one = near.depth.wrapping_sub(middle.depth);
+    let other = middle.depth.wrapping_sub(far.depth);
+    if one == other {
+        Some(middle.jump)
+    } else {
+        None
+    }
+}
+
 // The row's last image with a number up to this one, where its last of all stands here.
 fn version_at(list: &[Version], row: u64, last: Option<usize>, n: u64) -> Option<&Image>
     requires linked { AreLinked list.now }
+    requires ascends { Ascends 0 (seen_of list.now) }
     requires last { last ≡ last_place row list.now }
     ensures { option_copied result ≡ row_at (seen_of list.now) row n }
 {
@@ -217,9 +254,23 @@ fn version_at(list: &[Version], row: u64, last: Option<usize>, n: u64) -> Option
         if version.number <= n {
             return Some(&version.image);
         }
-        next = version.before;
+        next = behind(list, row, at, version, n);
     }
     None
+}
+
+// Where a search goes on behind a version with a greater number: where it jumps to, if that has a greater one too, else at the one before.
+fn behind(list: &[Version], row: u64, at: usize, version: &Version, n: u64) -> Option<usize>
+    ensures { IsBehind list.now row n at version.now.before result }
+{
+    if version.jump < at {
+        if let Some(far) = list.get(version.jump) {
+            if far.image.row == row && far.number > n {
+                return Some(version.jump);
+            }
+        }
+    }
+    version.before
 }
 
 // The rows at a number, by the rows that the map has.
@@ -230,14 +281,14 @@ fn rows_of<'a>(
     n: u64,
 ) -> Result<Vec<&'a Image>, Memory>
     requires linked { AreLinked list.now }
+    requires ascends { Ascends 0 (seen_of list.now) }
     requires lasts { (row : ℕ) → get nat_cmp last.now row ≡ last_place row list.now }
     ensures rows { IfOk result (λ rows. looked rows.items ≡ all_left (seen_of list.now) n last.now.entries) }
     ensures order { IsOrdered nat_cmp last.now }
 {
     let mut rows = Vec::new(alloc);
-    for (row, _) in last {
-        let at = last.get(row).copied();
-        push_left(&mut rows, version_at(list, *row, at, n))?;
+    for (row, at) in last {
+        push_left(&mut rows, version_at(list, *row, Some(*at), n))?;
     }
     Ok(rows)
 }

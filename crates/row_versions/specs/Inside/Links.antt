@@ -1,5 +1,5 @@
 -- Where the versions of a row stand.
-use Rattle.std.specs.Prelude.{◌≡◌, ℕ, ◌+◌, ◌≤◌, ◌&&◌, Bool, true, not, nat_eq, nat_le, is_some, if◌then◌else◌, List, [], ◌∷◌, take, map, slice_get, Option, None, Some}
+use Rattle.std.specs.Prelude.{◌≡◌, ◌⊎◌, ℕ, ◌+◌, ◌≤◌, ◌<◌, ◌&&◌, Bool, true, not, nat_eq, nat_le, is_some, if◌then◌else◌, List, [], ◌∷◌, take, map, slice_get, Option, None, Some}
 use Rattle.std.specs.List.{flat_map, list_any}
 use denote.Ref.{Bor}
 use Rattle.desk_values.specs.declared.value.Image.{Image}
@@ -29,6 +29,12 @@ pub record IsKept (list : List Version) (last : BTreeMap ℕ ℕ) : Type 0 where
   pub ascends : Ascends 0 (seen_of list)
   pub linked : AreLinked list
   pub lasts : (row : ℕ) → get nat_cmp last row ≡ last_place row list
+
+-- where a search for a number up to n goes on behind the version at this place, before which this one stands: there, or at an earlier
+-- version of the row that is over the number too
+abbrev pub IsBehind : List Version → ℕ → ℕ → ℕ → Option ℕ → Option ℕ → Type 0
+IsBehind list row n at before next = (next ≡ before)
+    ⊎ ((place : ℕ) × (version : Version) × (next ≡ Some place) × (place < at) × (slice_get list place ≡ Some version) × (version.image.row ≡ row) × (n < version.number))
 
 -- ---- the rows at a number
 

@@ -2,7 +2,6 @@ use Rattle.std.proofs.Common.{◌≡◌, ◌≤◌, List, length, refl, sym, ap,
 use Rattle.std.specs.Prelude.{Option, None, Some, Ok}
 use Rattle.std.specs.List.{AllByRecursion}
 use Rattle.std.proofs.lemmas.List.{length-map}
-use denote.Ref.{Bor}
 use Rattle.desk_values.specs.Room.{Room}
 use Rattle.desk_values.specs.declared.capture.Captured.{Captured}
 use Rattle.captured_calls.specs.Sessions.{AreSessionsFrom}
@@ -12,7 +11,7 @@ use Rattle.captured_calls.specs.declared.refusal.Refusal.{Refusal}
 use Rattle.captured_calls.specs.Inside.{IsFit}
 use Rattle.captured_calls.specs.Tests.{bad_stamp}
 use Rattle.captured_calls.proofs.Legality.{all_stamped, fit_by_stamp, fit_lists, ok_is}
-use Rattle.prepare_plan.specs.Inside.{ordered, ordered_or, shown}
+use Rattle.prepare_plan.specs.Inside.{ordered, ordered_or}
 use Rattle.prepare_plan.specs.Lists.{lists_of}
 use Rattle.prepare_plan.proofs.prepared.judged.Goals as goal
 use Rattle.prepare_plan.proofs.prepared.judged.Goals.{In_ok-calls}
@@ -33,19 +32,16 @@ module _ (lists : List (List Captured)) (calls items : List Captured) (all : cal
   order_few few = omega (arith, few, ap length all, by_stamp_len (all_calls lists) (all_stamped (all_calls lists) order_is.0), ap length order_is.1)
 
 abbrev lists : In_ok-calls → List (List Captured)
-lists c = lists_of c.args.sessions.now
-
-all_of : (c : In_ok-calls) → shown c.deref.result.now ≡ all_calls (lists c)
-all_of c = ap shown c.deref.ensures.value ∙ c.in_ok-gathered.ensures ∙ ap (λ (l : List (Room Captured)). all_calls (lists_of l)) c.as_slice.ensures
+lists c = lists_of c.args.sessions
 
 few_lists : (c : In_ok-calls) → length (lists c) ≤ 64
-few_lists c = omega (arith, c.requires.sessions, length-map c.args.sessions.now (λ (r : Room Captured). r.items))
+few_lists c = omega (arith, c.requires.sessions, length-map c.args.sessions (λ (r : Room Captured). r.items))
 
-few_calls : (c : In_ok-calls) → length (shown c.deref.result.now) ≤ 100000
-few_calls c = omega (arith, c.if-len-gt-CALL_LIMIT.false, c.len.ensures, c.in_ok-gathered.gathered.ok, ap length c.deref.ensures.value, length-map c.deref.result.now (λ (r : Bor Captured). r.now))
+few_calls : (c : In_ok-calls) → length c.in_ok-gathered.gathered.items ≤ 100000
+few_calls c = omega (arith, c.if-len-gt-CALL_LIMIT.false, c.len.ensures, c.in_ok-gathered.gathered.ok)
 
 pub planned-requires-clause-fit : goal.planned-requires-clause-fit
-planned-requires-clause-fit c = order_fit (lists c) (shown c.deref.result.now) c.in_ok-calls.calls.items (all_of c) c.in_ok-calls.ensures (few_lists c) c.requires.lists
+planned-requires-clause-fit c = order_fit (lists c) c.in_ok-gathered.gathered.items c.in_ok-calls.calls.items c.in_ok-gathered.ensures c.in_ok-calls.ensures (few_lists c) c.requires.lists
 
 pub planned-requires-clause-count : goal.planned-requires-clause-count
-planned-requires-clause-count c = order_few (lists c) (shown c.deref.result.now) c.in_ok-calls.calls.items (all_of c) c.in_ok-calls.ensures (few_calls c)
+planned-requires-clause-count c = order_few (lists c) c.in_ok-gathered.gathered.items c.in_ok-calls.calls.items c.in_ok-gathered.ensures c.in_ok-calls.ensures (few_calls c)

@@ -1,34 +1,20 @@
-use Rattle.std.proofs.Common.{◌≡◌, ◌≤◌, List, length, arith}
-use Rattle.std.specs.Prelude.{Result, Ok, Err, IfOk}
-use Rattle.desk_values.specs.Answers.{Answers}
+use Rattle.std.proofs.Common.{List, length, sym, ap, subst, arith}
 use Rattle.std.proofs.lemmas.List.{length-map}
 use Rattle.desk_values.specs.Room.{Room}
+use Rattle.desk_values.specs.Answers.{Answers}
 use Rattle.desk_values.specs.declared.capture.Captured.{Captured}
-use Rattle.object_depends.specs.declared.fact.Fact.{Fact}
-use Rattle.object_depends.specs.Facts.{AreSound}
-use Rattle.captured_calls.specs.declared.refusal.Refusal.{Refusal}
-use Rattle.prepare_plan.specs.declared.prepared.Prepared.{Prepared}
+use Rattle.captured_calls.specs.Sessions.{AreSessionsFrom}
+use Rattle.captured_calls.specs.Verdict.{verdict}
 use Rattle.prepare_plan.specs.Answered.{plan_seen, refusal_told}
-use Rattle.prepare_plan.specs.Lists.{lists_of}
-use Rattle.captured_calls.specs.Verdict.{IsLegal, Preparation, verdict}
-use Rattle.captured_calls.proofs.Legality.{plan_facts, plan_few, plan_legal, plan_sound}
 use Rattle.prepare_plan.proofs.prepared.prepare.Goals as goal
 
--- what is said of each plan that the verdict gives holds of an answer
-when_planned : (expected : Result Preparation Refusal) (result : Result Prepared Refusal) (P : List Captured → List Fact → Type 0) → Answers plan_seen refusal_told result expected
-    → ((plan : Preparation) → expected ≡ Ok plan → P plan.calls plan.facts) → IfOk result (λ prepared. P prepared.calls.items prepared.facts)
-when_planned expected (Ok prepared) P is each = each (record { calls = prepared.calls.items; facts = prepared.facts }) is
-when_planned expected (Err refusal) P is each = tt
+pub prepare_owned-requires-clause-sessions : goal.prepare_owned-requires-clause-sessions
+prepare_owned-requires-clause-sessions c =
+    omega (arith, c.requires.sessions, ap length c.in_ok-owned.ensures, length-map c.in_ok-owned.owned (λ (r : Room Captured). r.items), length-map c.args.sessions.now (λ (r : Room Captured). r.items))
 
-pub returns-clause-legal : goal.returns-clause-legal
-returns-clause-legal c = when_planned (verdict c.args.start.now (lists_of c.args.sessions.now)) c.judged.result (λ calls facts. IsLegal c.args.start.now calls) c.judged.ensures
-    (λ plan is. plan_legal c.args.start.now (lists_of c.args.sessions.now) plan is c.requires.lists (omega (arith, c.requires.sessions, length-map c.args.sessions.now (λ (r : Room Captured). r.items))))
+pub prepare_owned-requires-clause-lists : goal.prepare_owned-requires-clause-lists
+prepare_owned-requires-clause-lists c = subst (AreSessionsFrom 0) (sym c.in_ok-owned.ensures) c.requires.lists
 
-pub returns-clause-facts : goal.returns-clause-facts
-returns-clause-facts c = when_planned (verdict c.args.start.now (lists_of c.args.sessions.now)) c.judged.result (λ calls facts. AreSound facts) c.judged.ensures (plan_sound c.args.start.now (lists_of c.args.sessions.now))
-
-pub returns-clause-each_has_facts : goal.returns-clause-each_has_facts
-returns-clause-each_has_facts c = when_planned (verdict c.args.start.now (lists_of c.args.sessions.now)) c.judged.result (λ calls facts. length facts ≡ length calls) c.judged.ensures (plan_facts c.args.start.now (lists_of c.args.sessions.now))
-
-pub returns-clause-count : goal.returns-clause-count
-returns-clause-count c = when_planned (verdict c.args.start.now (lists_of c.args.sessions.now)) c.judged.result (λ calls facts. length calls ≤ 100000) c.judged.ensures (plan_few c.args.start.now (lists_of c.args.sessions.now))
+pub returns-clause-verdict : goal.returns-clause-verdict
+returns-clause-verdict c =
+    subst (λ (lists : List (List Captured)). Answers plan_seen refusal_told c.prepare_owned.result (verdict c.args.start.now lists)) c.in_ok-owned.ensures c.prepare_owned.ensures.verdict
