@@ -17,8 +17,8 @@ use std::marker::Model;
 /// with a line feed: `session V N` with the version and the session's number, a line for each call, and `end`. A call's line is its
 /// stamp, when it began and ended in microseconds from the capture's start, how many numbered commits it had seen, its own
 /// commit's number or `-`, the call, `>` and the reply, with spaces between:
-/// `0 4 9 0 - connect tmain > connected [] -`. Stamps rise from line to line; neither moment is after [`LAST_MOMENT`]. In a file of version 1
-/// `refused 34` is no reply, since its server had no savepoints.
+/// `0 4 9 0 - connect tmain > connected [] -`. Stamps rise from line to line; neither moment is after [`LAST_MOMENT`]. A server
+/// without savepoints wrote version 1, so that `refused 34` stands in no such file.
 /// `Bad` exactly where the bytes are no file of this session, with the first line that is not whole or may not come where
 /// it stands; `Memory` for want of memory.
 ///

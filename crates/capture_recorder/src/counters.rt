@@ -1,15 +1,15 @@
 //! The numbers that the server gives out next, as its replies show them.
 
 ghost use Rattle.std.specs.Prelude.{◌≡◌, ◌<◌, ◌-◌, ◌^◌, ◌&&◌, All, IfOk, nat_le, nat_lt, slice_get};
-ghost use Rattle.std.specs.List.{list_any};
 ghost use Rattle.std.specs.Option.{option_copied};
-ghost use Rattle.machine_model.specs.Draws.{is_draw_of, moved};
+ghost use Rattle.machine_model.specs.Draws.{moved};
 ghost use Rattle.machine_model.specs.State.{is_between};
 ghost use Rattle.machine_model.specs.Step.{after_made};
 ghost use Rattle.capture_recorder.specs.Inside.Given.{is_later};
 
 use desk_schema::Start;
 use desk_values::{Memory, Reply, Value};
+use machine_model::move_sequences;
 use std::alloc::Global;
 
 /// The number of the next row, and the next value of each sequence.
@@ -57,33 +57,6 @@ impl Counters {
             ),
             _ => false,
         }
-    }
-}
-
-// Each sequence that a value was drawn from moves by 1.
-fn move_sequences(next_values: &mut [u64], draws: &[Value])
-    requires { All (λ next. next < 2 ^ 64 - 1) next_values.old }
-    ensures { next_values.new ≡ moved draws.now 0 next_values.old }
-{
-    for (place, next) in next_values.iter_mut().enumerate() {
-        if some_is_of(place, draws) {
-            *next += 1;
-        }
-    }
-}
-
-fn some_is_of(place: usize, draws: &[Value]) -> bool
-    ensures { result ≡ list_any (is_draw_of place) draws.now }
-{
-    draws.iter().any(|draw| is_draw_of(place, draw))
-}
-
-fn is_draw_of(place: usize, draw: &Value) -> bool
-    ensures { result ≡ is_draw_of place draw.now }
-{
-    match draw {
-        Value::Draw(sequence, _) => *sequence as usize == place,
-        _ => false,
     }
 }
 

@@ -8,7 +8,7 @@ use std::alloc::Global;
 use std::fs;
 
 /// How many bytes lie between two places.
-const STEP: usize = 211;
+const STEP: usize = 947;
 
 /// How many bytes the report has that is added.
 const LENGTH: usize = 9_000;

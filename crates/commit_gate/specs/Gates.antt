@@ -72,7 +72,7 @@ IsReadyOf gate session k = IsReady gate k × ((fact_at gate.facts k).session ≡
 abbrev pub NoneReady : GateView → ℕ → Type 0
 NoneReady gate session = (k : ℕ) → IsReadyOf gate session k → ⊥
 
--- call k is the ready call of the first session of the lane that has one
+-- call k is ready, and no session that the lane lists before its own has a ready call
 abbrev pub IsPick : GateView → List ℕ → ℕ → Type 0
 IsPick gate lane k = (i : ℕ) × (i < length lane) × IsReadyOf gate (slice_index lane i) k
     × ((j : ℕ) → j < i → NoneReady gate (slice_index lane j))

@@ -14,8 +14,7 @@ pub trait Door: Sync {
     fn now<R: Clock + Wait>(&self, rt: &R) -> u64;
 }
 
-/// The real door: it sleeps for each pause, and counts the time from the moment when it was made. A
-/// clock that cannot be read counts as 0.
+/// The real door: its pauses are slept, and it is as old as it tells the time. Where the clock fails it tells 0.
 #[derive(Drop)]
 pub struct SleepDoor {
     made: Option<Instant>,

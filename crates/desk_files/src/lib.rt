@@ -24,6 +24,7 @@ mod source;
 mod std_sink;
 mod writes;
 
+pub use calls::Calls;
 pub use door::{Door, SleepDoor};
 pub use fault::{Failed, FileErr, WriteErr};
 pub use files::{FILE_LIMIT, Files};

@@ -1,6 +1,6 @@
 -- What placing a change and laying changes do to rising rows.
 use Rattle.std.proofs.Common.{◌≡◌, ◌≢◌, ℕ, zero, suc, ◌+◌, ◌<◌, ◌≤◌, true, false, ltb, eqb, List, [], ◌∷◌, ◌++◌, length, None, get_or, set, if◌then◌else◌, ◌⊎◌, inl, inr, refl, sym, ap, subst, ◌∙◌, append-nil, arith}
-use Rattle.std.specs.List.{insert, remove}
+use Rattle.std.specs.List.{insert}
 use Rattle.std.specs.List.Sorted.{IsNonDecreasingBy, IsPartitionPoint}
 use Rattle.std.specs.Ordering.{nat_cmp, ordering_index}
 use Rattle.std.specs.declared.cmp.Ordering.TheVariants.{Less, Equal, Greater}
@@ -72,25 +72,6 @@ put_between new x xs at is read apart = rw is (sym (put_insert new xs x (λ with
 
 pub put_last : (new : Image) (xs : List Image) (at : ℕ) → at ≡ place new.row xs → length xs ≤ at → insert xs at new ≡ placed one new xs
 put_last new xs at is beyond = rw is (sym (put_insert new xs new (λ within same. omega arith)))
-
--- ---- one change that is gone
-
-gone_there : (new : Image) (xs : List Image) (d : Image) → is_there new ≡ false → place new.row xs < length xs → (get_or xs (place new.row xs) d).row ≡ new.row → placed shown new xs ≡ remove xs (place new.row xs)
-gone_there new [] d gone within same = absurd (omega arith)
-gone_there new (x ∷ xs) d gone within same = grind (arith, nat_tests, gone, gone_there new xs d gone)
-
-gone_absent : (new : Image) (xs : List Image) (d : Image) → is_there new ≡ false → (place new.row xs < length xs → (get_or xs (place new.row xs) d).row ≢ new.row) → placed shown new xs ≡ xs
-gone_absent new [] d gone other = rw gone refl
-gone_absent new (x ∷ xs) d gone other = grind (arith, nat_tests, gone, gone_absent new xs d gone)
-
-pub gone_out : (new x : Image) (xs : List Image) (at : ℕ) → is_there new ≡ false → at ≡ place new.row xs → at < length xs → x ≡ get_or xs at x → x.row ≡ new.row → remove xs at ≡ placed shown new xs
-gone_out new x xs at gone is within read same = rw is (sym (gone_there new xs x gone (rw is at within) (let P : ℕ → Type 0 = λ k. (get_or xs k x).row ≡ new.row in subst P is (rw (← read) same))))
-
-pub gone_between : (new x : Image) (xs : List Image) (at : ℕ) → is_there new ≡ false → at ≡ place new.row xs → x ≡ get_or xs at x → x.row ≢ new.row → xs ≡ placed shown new xs
-gone_between new x xs at gone is read apart = sym (gone_absent new xs x gone (λ within same. apart (let P : ℕ → Type 0 = λ k. (get_or xs k x).row ≡ new.row in rw read (subst P (sym is) same))))
-
-pub gone_last : (new : Image) (xs : List Image) (at : ℕ) → is_there new ≡ false → at ≡ place new.row xs → length xs ≤ at → xs ≡ placed shown new xs
-gone_last new xs at gone is beyond = sym (gone_absent new xs new gone (λ within same. omega arith))
 
 -- ---- rows keep rising
 

@@ -17,6 +17,7 @@ pub mod Once
 pub mod Noting
 pub mod Numbers
 pub mod Ordering
+pub mod Placing
 pub mod Refusing
 pub mod Repeating
 pub mod Rising

@@ -1,4 +1,5 @@
 -- Words of private clauses and of what holds of fields. They need not be believed.
+pub mod ByRow
 pub mod Decision
 pub mod Evaluation
 pub mod FirstCauses

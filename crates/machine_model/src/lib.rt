@@ -23,6 +23,7 @@ mod holds;
 mod images;
 mod index;
 mod inserting;
+mod latest;
 pub mod laws;
 mod machine;
 mod order;
@@ -37,6 +38,7 @@ mod tables;
 mod updating;
 mod viewing;
 
+pub use draws::move_sequences;
 pub use machine::{Copies, PlainMachine};
 pub use rows::Rows;
 pub use savepoints::Savepoints;

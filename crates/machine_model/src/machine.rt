@@ -16,7 +16,7 @@ ghost use Rattle.hold_index.specs.Told.{AreTold};
 ghost use Rattle.machine_model.specs.Inside.Holds.{IsBeside};
 ghost use Rattle.desk_values.specs.Good.{IsGoodReply};
 ghost use Rattle.machine_model.specs.Sound.{AreStanding, IsSoundState};
-ghost use Rattle.machine_model.specs.Rows.{IsRising, lay_all};
+ghost use Rattle.machine_model.specs.Rows.{IsRising};
 
 mod calls;
 mod executing;
@@ -27,6 +27,7 @@ use crate::following::enact;
 use crate::giving::{is_between, stands_in};
 use crate::holds::{Others, beside};
 use crate::index::{KeyIndex, indexes_of, note_commit};
+use crate::latest::all_laid;
 use crate::laws::tables_stand;
 use crate::rows::Rows;
 use crate::seeing::rows_seen;
@@ -291,9 +292,9 @@ impl PlainMachine {
     {
         self.know_sound();
         tables_stand();
-        let rows = self.start.rows().as_slice();
-        let rows = laid(self.alloc, rows, &self.commits)?;
-        Ok(List::from_vec(rows.into_vec()))
+        let start = self.start.rows().as_slice();
+        let rows = all_laid(self.alloc, start, &self.commits)?;
+        copied(self.alloc, &rows)
     }
 
     /// Executes a call of a session. Every fault is inside the reply. An `Err` changes nothing.
@@ -520,18 +521,6 @@ fn move_all(next_values: &mut Vec<u64>, draws: &[Value])
     ensures { next_values.new.items ≡ moved draws.now 0 next_values.old.items }
 {
     move_sequences(next_values, draws);
-}
-
-/// The rows of a start with all commits laid over them.
-fn laid(alloc: Global, start: &[Image], commits: &[Rows]) -> Result<Rows, Memory>
-    requires { IsRising start.now }
-    ensures { IfOk result (λ rows. rows ≡ lay_all start.now commits.now) }
-{
-    let mut rows = Rows::of(alloc, start)?;
-    for commit in commits {
-        rows.lay(commit.images(alloc)?)?;
-    }
-    Ok(rows)
 }
 
 /// Sessions of which none is connected.

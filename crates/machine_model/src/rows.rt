@@ -1,8 +1,8 @@
 //! Images of rows, ascending by row.
 
-ghost use Rattle.std.specs.Prelude.{◌≡◌, ◌+◌, ◌<◌, ◌≤◌, ◌++◌, ◌∷◌, [], length, map, vec_len, IfOk, IfSome, OnOk, OnErr, IsOk, false};
+ghost use Rattle.std.specs.Prelude.{◌≡◌, ◌+◌, ◌<◌, ◌≤◌, [], length, vec_len, IfOk, OnOk, OnErr};
 ghost use Rattle.std.specs.Vec.{vec_capacity};
-ghost use Rattle.machine_model.specs.Rows.{IsRising, is_there, lay, noted, of_table, one, placed, shown};
+ghost use Rattle.machine_model.specs.Rows.{IsRising, noted, one, placed};
 ghost use Rattle.machine_model.specs.Inside.Rows.{place};
 
 use desk_values::{Copied, Image, List, Memory};
@@ -35,15 +35,6 @@ impl Rows {
         Rows {
             images: Vec::new(alloc),
         }
-    }
-
-    /// Copies of rising images.
-    pub fn of(alloc: Global, images: &[Image]) -> Result<Self, Memory>
-        requires { IsRising images.now }
-        ensures { IfOk result (λ rows. rows ≡ images.now) }
-    {
-        let images = copies(alloc, images)?;
-        Ok(Rows { images })
     }
 
     /// The images themselves.
@@ -94,18 +85,6 @@ impl Rows {
     }
 }
 
-impl Rows {
-    /// Lays changes over the rows: a row that is gone is dropped. An `Err` changes nothing.
-    pub fn lay(&mut self, changes: Vec<Image>) -> Result<(), Memory>
-        ensures ok { OnOk result (self.new ≡ lay self.old changes.items) }
-        ensures err { OnErr result (self.new ≡ self.old) }
-    {
-        self.images.reserve(changes.len())?;
-        lay_within(&mut self.images, changes);
-        Ok(())
-    }
-}
-
 fn copies(alloc: Global, images: &[Image]) -> Result<Vec<Image>, Memory>
     ensures { IfOk result (λ copied. copied.items ≡ images.now) }
 {
@@ -141,21 +120,6 @@ fn put_within(images: &mut Vec<Image>, image: Image)
     }
 }
 
-/// Takes a row out, where it is there.
-fn take_out(images: &mut Vec<Image>, image: &Image)
-    requires rising { IsRising images.old.items }
-    requires gone { is_there image.now ≡ false }
-    ensures items { images.new.items ≡ placed shown image.now images.old.items }
-    ensures rising { IsRising images.new.items }
-    ensures len { vec_len images.new ≤ vec_len images.old }
-    ensures capacity { vec_capacity images.old ≤ vec_capacity images.new }
-{
-    let at = place_of(images, image.row);
-    if at < images.len() && images[at].row == image.row {
-        let _ = images.remove(at);
-    }
-}
-
 /// Notes changes, where there is room for them.
 fn note_within(images: &mut Vec<Image>, changes: Vec<Image>)
     requires rising { IsRising images.old.items }
@@ -167,35 +131,5 @@ fn note_within(images: &mut Vec<Image>, changes: Vec<Image>)
     left.reverse();
     while let Some(image) = left.pop() {
         put_within(images, image);
-    }
-}
-
-/// Lays a change over rows, where there is room for it.
-fn lay_one(images: &mut Vec<Image>, image: Image)
-    requires rising { IsRising images.old.items }
-    requires room { vec_len images.old < vec_capacity images.old }
-    ensures items { images.new.items ≡ placed shown image images.old.items }
-    ensures rising { IsRising images.new.items }
-    ensures len { vec_len images.new ≤ vec_len images.old + 1 }
-    ensures capacity { vec_capacity images.old ≤ vec_capacity images.new }
-{
-    if image.left.is_some() {
-        put_within(images, image);
-    } else {
-        take_out(images, &image);
-    }
-}
-
-/// Lays changes over rows, where there is room for them.
-fn lay_within(images: &mut Vec<Image>, changes: Vec<Image>)
-    requires rising { IsRising images.old.items }
-    requires room { vec_len images.old + vec_len changes ≤ vec_capacity images.old }
-    ensures items { images.new.items ≡ lay images.old.items changes.items }
-    ensures rising { IsRising images.new.items }
-{
-    let mut left = changes;
-    left.reverse();
-    while let Some(image) = left.pop() {
-        lay_one(images, image);
     }
 }

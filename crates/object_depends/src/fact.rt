@@ -60,8 +60,8 @@ pub fn is_commit(fact: &Fact) -> bool
     0 < fact.number
 }
 
-/// Whether the facts are sound: the numbers other than 0 are 1, 2, 3 and so on by stamp, and each `seen` is how many of
-/// them have a lower stamp. Those of a legal capture are.
+/// Whether the facts are sound: commits that have a number are counted up from 1 without a gap, and each call has seen
+/// just those before it. Those of a legal capture are.
 pub fn are_sound(facts: &[Fact]) -> bool
     requires { length facts.now ≤ 100000 }
     ensures { IsTrue result ↔ AreSound facts.now }

@@ -69,8 +69,9 @@ impl IdMap {
         Ok(())
     }
 
-    /// Pairs the draws at equal places that are of one sequence, and then the made rows where both replies made one. An
-    /// `Err` changes nothing, and does not come where there is room for a pair of each place and one more.
+    /// Learns from two replies to one call: a pair for each place at which both have a draw of the same sequence, and
+    /// behind them one for the rows, where both made a row. An `Err` changes nothing, and does not come where there is room
+    /// for a pair of each place and one more.
     pub fn learn(&mut self, captured: &Reply, replayed: &Reply) -> Result<(), Memory>
         requires { HasNoIdTwice (self.old.pairs ++ learnt captured.now replayed.now) }
         ensures ok { OnOk result (self.new.pairs ≡ self.old.pairs ++ learnt captured.now replayed.now) }

@@ -7,7 +7,7 @@ use crate::pairs::Pairs;
 use desk_values::Value;
 use id_pairs::Id;
 
-/// Adds the draws at equal places that are of one sequence.
+/// Adds a pair for each place at which both have a draw of the same sequence.
 pub(crate) fn add_drawn(pairs: &mut Pairs, captured: &[Value], replayed: &[Value])
     requires { min (length captured.now) (length replayed.now) ≤ pairs.old.spare }
     ensures pairs { pairs.new.pairs ≡ all_new pairs.old.pairs (drawn_pairs captured.now replayed.now) }

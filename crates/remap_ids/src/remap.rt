@@ -33,7 +33,7 @@ impl Model for Remap {
 /// Why bytes are no remap file. Records count from 1.
 #[derive(Clone, Copy, Debug, PartialEq, Eq, Error)]
 pub enum RemapErr {
-    /// The record has not exactly three fields, its first is not `service`, or another is no text.
+    /// The record is not the word `service` with two texts behind it.
     #[error("bad record {n}")]
     BadRow {
         /// The record's number.

@@ -34,13 +34,22 @@ is_failing fails number = list_any (λ n. n == number) fails
 abbrev pub next_reply : MemoryLine → Option Reply
 next_reply line = if is_failing line.fails line.made then None else slice_get line.replies line.given
 
--- a dial in memory: the scripts that are left, which dials are to fail, how many there were, how many faults were counted, and
--- the lines that were given back
+-- the counts of a dial: how many calls failed, here or on a line that was given back, how often it was dialled, and how often a line
+-- was given back, whatever came of it
+pub record DialCounts : Type 0 where
+  pub faults : ℕ
+  pub dials : ℕ
+  pub backs : ℕ
+
+-- before any call
+abbrev pub no_dials : DialCounts
+no_dials = record { faults = 0; dials = 0; backs = 0 }
+
+-- a dial in memory: the scripts that are left, which dials are to fail, its counts, and the lines that were given back
 pub record MemoryDial : Type 0 where
   pub scripts : List MemScript
   pub fails : List ℕ
-  pub made : ℕ
-  pub faults : ℕ
+  pub counts : DialCounts
   pub returned : List MemoryLine
 
 -- what was said on those lines

@@ -2,7 +2,7 @@ ghost use Rattle.std.specs.Prelude.{◌≡◌, ◌++◌, ◌∷◌, [], ◌⊎�
 ghost use Rattle.std.specs.Option.{option_copied};
 ghost use Rattle.desk_files.specs.Outside.{raised};
 ghost use Rattle.remote_link.specs.declared.mem_line.MemScript.{MemScript as Script};
-ghost use Rattle.remote_link.specs.Lines.{is_failing, line_of, said_on};
+ghost use Rattle.remote_link.specs.Lines.{is_failing, line_of, no_dials, said_on};
 
 use crate::dial::Dial;
 use crate::link::Link;
@@ -17,14 +17,15 @@ pub type MemScripts = List<MemScript>;
 
 /// A dial in memory, which tells what was said on the lines that were given back. It gives one line for each script. Its dials are
 /// numbered from 0; those whose numbers were given to [`MemDial::new`] fail, and so do those past the scripts. A dial that fails
-/// changes nothing but the two counts.
+/// changes nothing but two of its counts.
 #[derive(Drop)]
 pub struct MemDial {
     alloc: Global,
     scripts: Vec<MemScript>,
     fails: Stamps,
-    made: u64,
     faults: u64,
+    dials: u64,
+    backs: u64,
     returned: Vec<MemLine>,
 }
 
@@ -33,20 +34,26 @@ impl Model for MemDial {
 
     ghost Value = { MemoryDial };
 
-    ghost view = { λ a. record { scripts = a.scripts.items; fails = a.fails; made = a.made; faults = a.faults; returned = a.returned.items } };
+    ghost view = { λ a. record {
+      scripts = a.scripts.items;
+      fails = a.fails;
+      counts = record { faults = a.faults; dials = a.dials; backs = a.backs };
+      returned = a.returned.items;
+    } };
 }
 
 impl MemDial {
     /// A dial that gives a line for each of these scripts. The dials with the numbers `fails` are to fail.
     pub fn new(alloc: Global, scripts: MemScripts, fails: Stamps) -> MemDial
-        ensures { result ≡ record { scripts = scripts; fails = fails; made = 0; faults = 0; returned = [] } }
+        ensures { result ≡ record { scripts = scripts; fails = fails; counts = no_dials; returned = [] } }
     {
         MemDial {
             alloc,
             scripts: scripts.into_vec(),
             fails,
-            made: 0,
             faults: 0,
+            dials: 0,
+            backs: 0,
             returned: Vec::new(alloc),
         }
     }
@@ -59,7 +66,7 @@ impl MemDial {
     }
 
     fn count_fault(&mut self)
-        ensures { self.new ≡ record self.old { faults = raised self.old.faults } }
+        ensures { self.new ≡ record self.old { counts = record self.old.counts { faults = raised self.old.counts.faults } } }
     {
         self.faults = self.faults.saturating_add(1);
     }
@@ -70,16 +77,18 @@ impl Dial for MemDial {
 
     ghost content = { λ s. Some (said_on s) };
 
-    ghost fault_count = { λ s. s.faults };
+    ghost counts = { λ s. s.counts };
 
     fn dial(&mut self, _port: u16) -> Result<MemLine, Failed>
         ensures ok { IfOk result (λ line. (script : Script) × (line ≡ line_of script) × (self.old.scripts ≡ script ∷ self.new.scripts)
-            × (self.new ≡ record self.old { scripts = self.new.scripts; made = raised self.old.made })) }
-        ensures err { OnErr result (self.new ≡ record self.old { made = raised self.old.made; faults = raised self.old.faults }) }
-        ensures failed { IsErr result ↔ ((is_failing self.old.fails self.old.made ≡ true) ⊎ (self.old.scripts ≡ [])) }
+            × (self.new ≡ record self.old { scripts = self.new.scripts; counts = record self.old.counts { dials = raised self.old.counts.dials } })) }
+        ensures err { OnErr result (self.new ≡ record self.old {
+          counts = record self.old.counts { faults = raised self.old.counts.faults; dials = raised self.old.counts.dials };
+        }) }
+        ensures failed { IsErr result ↔ ((is_failing self.old.fails self.old.counts.dials ≡ true) ⊎ (self.old.scripts ≡ [])) }
     {
-        let failing = is_failing(&self.fails, self.made);
-        self.made = self.made.saturating_add(1);
+        let failing = is_failing(&self.fails, self.dials);
+        self.dials = self.dials.saturating_add(1);
         if failing || self.scripts.is_empty() {
             self.count_fault();
             return Err(Failed);
@@ -89,13 +98,20 @@ impl Dial for MemDial {
 
     fn back(&mut self, line: MemLine) -> Result<(), Memory>
         ensures ok { OnOk result (self.new ≡ record self.old {
-          faults = if nat_lt 0 line.faults then raised self.old.faults else self.old.faults;
+          counts = record self.old.counts {
+            faults = if nat_lt 0 line.faults then raised self.old.counts.faults else self.old.counts.faults;
+            backs = raised self.old.counts.backs;
+          };
           returned = self.old.returned ++ line ∷ [];
         }) }
         ensures err { OnErr result (self.new ≡ record self.old {
-          faults = if nat_lt 0 line.faults then raised self.old.faults else self.old.faults;
+          counts = record self.old.counts {
+            faults = if nat_lt 0 line.faults then raised self.old.counts.faults else self.old.counts.faults;
+            backs = raised self.old.counts.backs;
+          };
         }) }
     {
+        self.backs = self.backs.saturating_add(1);
         if line.faults() > 0 {
             self.count_fault();
         }

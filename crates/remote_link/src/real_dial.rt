@@ -1,6 +1,7 @@
 ghost use Rattle.std.specs.Prelude.{◌≡◌, None, IfOk, IsOk, nat_lt, if◌then◌else◌};
 ghost use Rattle.desk_files.specs.Hosts.{accept_ending};
 ghost use Rattle.desk_files.specs.Outside.{counted, raised};
+ghost use Rattle.remote_link.specs.Lines.{no_dials};
 
 use crate::dial::Dial;
 use crate::http_link::HttpLink;
@@ -12,36 +13,40 @@ use std::io;
 use std::marker::Model;
 use std::net::{Ipv4Addr, Net, TcpStream};
 
-/// Lines to a server at a port of 127.0.0.1. It tells nothing of them. Contracts see the count of faults.
+/// Lines to a server at a port of 127.0.0.1. It tells nothing of them. Contracts see its counts.
 #[derive(Drop)]
 pub struct RealDial<'a, R> {
     alloc: Global,
     system: &'a R,
     faults: u64,
+    dials: u64,
+    backs: u64,
 }
 
 impl<'a, R> Model for RealDial<'a, R> {
-    ghost use Rattle.std.specs.Prelude.{ℕ};
+    ghost use Rattle.remote_link.specs.Lines.{DialCounts};
 
-    ghost Value = { ℕ };
+    ghost Value = { DialCounts };
 
-    ghost view = { λ a. a.faults };
+    ghost view = { λ a. record { faults = a.faults; dials = a.dials; backs = a.backs } };
 }
 
 impl<'a, R> RealDial<'a, R> {
-    /// A dial over the network of `system`, with no fault so far.
+    /// A dial over the network of `system`, which was not asked so far.
     pub fn new(system: &'a R, alloc: Global) -> Self
-        ensures { result ≡ 0 }
+        ensures { result ≡ no_dials }
     {
         RealDial {
             alloc,
             system,
             faults: 0,
+            dials: 0,
+            backs: 0,
         }
     }
 
     fn count_fault(&mut self)
-        ensures { self.new ≡ raised self.old }
+        ensures { self.new ≡ record self.old { faults = raised self.old.faults } }
     {
         self.faults = self.faults.saturating_add(1);
     }
@@ -52,15 +57,18 @@ impl<R: Net<Stream = TcpStream>> Dial for RealDial<'_, R> {
 
     ghost content = { λ _. None };
 
-    ghost fault_count = { λ count. count };
+    ghost counts = { λ s. s };
 
     fn dial(
         &mut self,
         port: u16,
     ) -> Result<HttpLink<RealSource<TcpStream>, RealSink<TcpStream>>, Failed>
         ensures fresh { IfOk result (λ line. line.faults ≡ 0) }
-        ensures count { self.new ≡ counted (accept_ending result) self.old }
+        ensures count { self.new.faults ≡ counted (accept_ending result) self.old.faults }
+        ensures dialled { self.new.dials ≡ raised self.old.dials }
+        ensures backs { self.new.backs ≡ self.old.backs }
     {
+        self.dials = self.dials.saturating_add(1);
         match ends(self.system, port) {
             Ok((input, output)) => Ok(HttpLink::new(self.alloc, input, output)),
             Err(_) => {
@@ -76,8 +84,11 @@ impl<R: Net<Stream = TcpStream>> Dial for RealDial<'_, R> {
         line: HttpLink<RealSource<TcpStream>, RealSink<TcpStream>>,
     ) -> Result<(), Memory>
         ensures ok { IsOk result }
-        ensures count { self.new ≡ (if nat_lt 0 line.faults then raised self.old else self.old) }
+        ensures count { self.new.faults ≡ (if nat_lt 0 line.faults then raised self.old.faults else self.old.faults) }
+        ensures dialled { self.new.dials ≡ self.old.dials }
+        ensures backs { self.new.backs ≡ raised self.old.backs }
     {
+        self.backs = self.backs.saturating_add(1);
         if line.faults() > 0 {
             self.count_fault();
         }

@@ -22,8 +22,9 @@ use Rattle.remote_target.specs.Inside.{AreAgreed, AreSentInOrder, AreToldOf, Cou
 use Rattle.remote_target.specs.Lines.{AreLinesInOrder}
 use Rattle.remote_target.proofs.Agreeing.{all_same, same_agreed}
 use Rattle.remote_target.proofs.Compared.{not_one_on}
+use Rattle.remote_target.proofs.Found.{found, found_in}
 use Rattle.remote_target.proofs.Ordered.{all_in_order}
-use Rattle.remote_target.proofs.Giving.{as_many, fresh_empty, fresh_fair, fresh_in_order, in_order_of, told_in_order, told_same}
+use Rattle.remote_target.proofs.Giving.{all_unbroken, as_many, fresh_empty, fresh_fair, fresh_in_order, in_order_of, told_in_order, told_same}
 
 module _ {L : Type 0} (job : JobView) (lines : List (Line L)) (lists : List (List Heard)) (are : AreToldOf (map said_on lines) lists) where
   -- as many as there are lines
@@ -45,27 +46,27 @@ module _ {L : Type 0} (job : JobView) (lines : List (Line L)) (lists : List (Lis
         let order = subst (λ (j : JobView). AreSentInOrder j (map heard_on lines)) is.job_is (all_in_order desk (map heard_on lines) is.kept agreed) in
         subst (λ (of : List ℕ). AreLinesInOrder job.calls of lists) its (told_in_order job lines lists are order)
 
-    gave : (outcome : Result RemoteView RemoteErr) → IsOutcome job (map heard_on lines) (map refusal_on lines) outcome → GaveAs job.calls outcome lists
+    gave : (outcome : Result RemoteView RemoteErr) → IsOutcome job (map heard_on lines) (map refusal_on lines) outcome → GaveAs job outcome lists
     gave (Ok desk) is = (ended desk is, ended_in_order desk is)
-    gave (Err Link) is = (subst (λ (of : List ℕ). AreLinesInOrder job.calls of lists) its (told_in_order job lines lists are is.0), inl each)
+    gave (Err Link) is = (subst (λ (of : List ℕ). AreLinesInOrder job.calls of lists) its (told_in_order job lines lists are is.0), all_unbroken (map said_on lines) lists are, inl each)
     gave (Err (OtherJob kept)) is = each
-    gave (Err (Mismatch session place kept answered)) is = each
+    gave (Err (Mismatch session place kept answered)) is = (each, found_in job lines lists session place kept answered its are is.0)
     gave (Err Memory) is = let same = each in omega (arith, same)
 
   -- where a dial failed
-  gave_fresh : AllByRecursion IsFresh (map said_on lines) → map session_on lines ≡ take (length lines) (sessions job.calls) → GaveAs job.calls (Err Link) lists
+  gave_fresh : AllByRecursion IsFresh (map said_on lines) → map session_on lines ≡ take (length lines) (sessions job.calls) → GaveAs job (Err Link) lists
   gave_fresh fresh first =
-      (in_order_of job.calls (length lines) (sessions job.calls) lists (subst (λ (of : List ℕ). AreLinesInOrder job.calls of lists) first (told_in_order job lines lists are (fresh_in_order job lines fresh))), inr (fresh_empty lines lists are fresh))
+      (in_order_of job.calls (length lines) (sessions job.calls) lists (subst (λ (of : List ℕ). AreLinesInOrder job.calls of lists) first (told_in_order job lines lists are (fresh_in_order job lines fresh))), all_unbroken (map said_on lines) lists are, inr (fresh_empty lines lists are fresh))
 
 module _ {L : Type 0} (job : JobView) (lines : List (Line L)) (before after : Option (List (List Heard))) where
   pub all_given : (outcome : Result RemoteView RemoteErr) → map session_on lines ≡ sessions job.calls → IsOutcome job (map heard_on lines) (map refusal_on lines) outcome → GivesLines (map said_on lines) (Ok tt) before after
-      → GaveBack job.calls outcome before after
+      → GaveBack job outcome before after
   all_given outcome its is gives = told before (λ lists g. (g.0, gave job lines g.0 g.1 its outcome is, g.2)) gives
 
-  pub first_given : AllByRecursion IsFresh (map said_on lines) → map session_on lines ≡ take (length lines) (sessions job.calls) → GivesLines (map said_on lines) (Ok tt) before after → GaveBack job.calls (Err Link) before after
+  pub first_given : AllByRecursion IsFresh (map said_on lines) → map session_on lines ≡ take (length lines) (sessions job.calls) → GivesLines (map said_on lines) (Ok tt) before after → GaveBack job (Err Link) before after
   first_given fresh first gives = told before (λ lists g. (g.0, gave_fresh job lines g.0 g.1 fresh first, g.2)) gives
 
-  pub short_given : (memory : NoMemory) → length lines ≤ length (sessions job.calls) → GivesLines (map said_on lines) (Err memory) before after → GaveBack job.calls (Err Memory) before after
+  pub short_given : (memory : NoMemory) → length lines ≤ length (sessions job.calls) → GivesLines (map said_on lines) (Err memory) before after → GaveBack job (Err Memory) before after
   short_given memory few gives = told before (λ lists g. (g.0, (let same = length-map lines said_on in let most = g.1 in omega (arith, same, most, few)), g.2)) gives
 
 -- ---- the count of the dial
@@ -88,20 +89,21 @@ module _ {L : Type 0} (job : JobView) (lines : List (Line L)) (f0 f1 f2 : ℕ) (
 
 -- ---- what differs
 
-pub difference : {L : Type 0} (job : JobView) (lines : List (Line L)) (error : RemoteErr) → IsBroken job (map heard_on lines) (map refusal_on lines) error → IsDifference job error
-difference job lines Link is = tt
-difference job lines (OtherJob kept) is = is
-difference job lines (Mismatch session place kept answered) is = is
-difference job lines Memory is = tt
+pub difference : {L : Type 0} (job : JobView) (lines : List (Line L)) (error : RemoteErr) → map session_on lines ≡ sessions job.calls → IsBroken job (map heard_on lines) (map refusal_on lines) error → IsDifference job error
+difference job lines Link its is = tt
+difference job lines (OtherJob kept) its is = is
+difference job lines (Mismatch session place kept answered) its is =
+    (not_one_on is.0.desk (map heard_on lines) session place kept answered is.0.differs, is.1.0, is.1.1, found job lines session place kept answered its is.0)
+difference job lines Memory its is = tt
 
 -- ---- what the lanes left
 
 -- the comparison found it
-pub compared_broken : {L : Type 0} (job : JobView) (desk : RemoteView) (lines : List (Line L)) (error : RemoteErr) → Compares desk (map heard_on lines) (Err error) → HasGoodReplies error → IsBroken job (map heard_on lines) (map refusal_on lines) error
-compared_broken job desk lines Link is good = absurd is
-compared_broken job desk lines (OtherJob kept) is good = absurd is
-compared_broken job desk lines (Mismatch session place kept answered) is good = (not_one_on desk (map heard_on lines) session place kept answered is, good.0, good.1)
-compared_broken job desk lines Memory is good = tt
+pub compared_broken : {L : Type 0} (job : JobView) (desk : RemoteView) (lines : List (Line L)) (error : RemoteErr) → desk.job ≡ job → IsKept desk → Compares desk (map heard_on lines) (Err error) → HasGoodReplies error → IsBroken job (map heard_on lines) (map refusal_on lines) error
+compared_broken job desk lines Link same kept is good = absurd is
+compared_broken job desk lines (OtherJob other) same kept is good = absurd is
+compared_broken job desk lines (Mismatch session place one other) same kept is good = (record { desk = desk; job_is = same; is_kept = kept; differs = is }, good)
+compared_broken job desk lines Memory same kept is good = tt
 
 -- a line refused a call
 pub refused_broken : {L : Type 0} (job : JobView) (desk : RemoteView) (lines : List (Line L)) (error : RemoteErr) → desk.job ≡ job → IsKept desk → AreAgreed desk (map heard_on lines) → IsRefused (map refusal_on lines) (Err error)
@@ -130,13 +132,13 @@ Replayed = Result RemoteView RemoteErr
 
 module _ {L : Type 0} (job : JobView) (lines : List (Line L)) (result : Replayed) (before after : Option (List (List Heard))) where
   abbrev back : Replayed → Type 0
-  back r = GaveBack job.calls r before after
+  back r = GaveBack job r before after
 
   module _ (its : map session_on lines ≡ sessions job.calls) (outcome : Replayed) (is : IsOutcome job (map heard_on lines) (map refusal_on lines) outcome) where
     as_many_lines : length lines ≡ length (sessions job.calls)
     as_many_lines = sym (length-map lines session_on) ∙ ap length its
 
-    pub all_returned : IsReturned outcome (map said_on lines) result before after → GaveBack job.calls result before after
+    pub all_returned : IsReturned outcome (map said_on lines) result before after → GaveBack job result before after
     all_returned (inl whole) = subst back (sym whole.0) (all_given job lines before after outcome its is whole.1)
     all_returned (inr short) = subst back (sym short.0) (short_given job lines before after short.1.0 (let same = as_many_lines in omega (arith, same)) short.1.1)
 
@@ -146,7 +148,7 @@ module _ {L : Type 0} (job : JobView) (lines : List (Line L)) (result : Replayed
 
     broken_differs : (r : Replayed) → IsOutcome job (map heard_on lines) (map refusal_on lines) r → IfErr r (IsDifference job)
     broken_differs (Ok desk) ended = tt
-    broken_differs (Err error) broken = difference job lines error broken
+    broken_differs (Err error) broken = difference job lines error its broken
 
     pub all_differ : IsReturned outcome (map said_on lines) result before after → IfErr result (IsDifference job)
     all_differ (inl whole) = subst (λ (r : Replayed). IfErr r (IsDifference job)) (sym whole.0) (broken_differs outcome is)
@@ -173,7 +175,7 @@ module _ {L : Type 0} (job : JobView) (lines : List (Line L)) (result : Replayed
     few_lines : length lines ≤ length (sessions job.calls)
     few_lines = let same = length-map lines session_on in let cut = ap length first in let most = length-take (length lines) (sessions job.calls) in omega (arith, same, cut, most)
 
-    pub first_returned : IsReturned (Err Link) (map said_on lines) result before after → GaveBack job.calls result before after
+    pub first_returned : IsReturned (Err Link) (map said_on lines) result before after → GaveBack job result before after
     first_returned (inl whole) = subst back (sym whole.0) (first_given job lines before after fresh first whole.1)
     first_returned (inr short) = subst back (sym short.0) (short_given job lines before after short.1.0 few_lines short.1.1)
 
@@ -187,7 +189,7 @@ module _ {L : Type 0} (job : JobView) (lines : List (Line L)) (result : Replayed
   link_says P (inr short) = (subst (λ (r : Replayed). IfOk r P) (sym short.0) tt, subst (λ (r : Replayed). IfErr r (IsDifference job)) (sym short.0) tt)
 
 -- no line was dialled
-pub none_returned : (job : JobView) (before : Option (List (List Heard))) → GaveBack job.calls (Err Memory) before before
+pub none_returned : (job : JobView) (before : Option (List (List Heard))) → GaveBack job (Err Memory) before before
 none_returned job None = tt
 none_returned job (Some lists) = ([], omega arith, ap (λ (all : List (List Heard)). Some all) (sym (append-nil lists)))
 

@@ -10,6 +10,7 @@ use Rattle.remote_target.specs.declared.line.Line.{Line}
 use Rattle.remote_target.specs.Agreement.{OfLine, heard_on}
 use Rattle.remote_target.specs.Inside.{AreSentInOrder, AreToldOf, IsFresh, SaidView, refusal_on, said_on, session_on}
 use Rattle.remote_target.specs.Lines.{AreLinesInOrder, IsInOrder}
+use Rattle.remote_target.specs.Spoken.{IsUnbroken}
 use Rattle.remote_target.proofs.Ordered.{own_in_order}
 
 pub as_many : (saids : List SaidView) (lists : List (List Heard)) → AreToldOf saids lists → length lists ≡ length saids
@@ -17,6 +18,12 @@ as_many [] [] are = refl
 as_many [] (list ∷ lists) are = absurd are
 as_many (said ∷ saids) [] are = absurd are
 as_many (said ∷ saids) (list ∷ lists) are = let rest = as_many saids lists are.1 in omega (arith, rest)
+
+pub all_unbroken : (saids : List SaidView) (lists : List (List Heard)) → AreToldOf saids lists → AllByRecursion IsUnbroken lists
+all_unbroken [] [] are = tt
+all_unbroken [] (list ∷ lists) are = absurd are
+all_unbroken (said ∷ saids) [] are = absurd are
+all_unbroken (said ∷ saids) (list ∷ lists) are = (are.0.unbroken, all_unbroken saids lists are.1)
 
 module _ {L : Type 0} where
   -- lines that refused nothing tell just what was kept

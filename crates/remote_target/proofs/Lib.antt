@@ -1,5 +1,6 @@
 pub mod Agreeing
 pub mod Ordered
+pub mod Unbroken
 pub mod Giving
 pub mod Ending
 pub mod Compared
@@ -8,7 +9,9 @@ pub mod Sendings
 pub mod Once
 pub mod Stepping
 pub mod Firsts
+pub mod Found
 pub mod Returning
 pub mod Spokens
 pub mod Telling
 pub mod Crossings
+pub mod Dials

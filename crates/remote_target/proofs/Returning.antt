@@ -1,10 +1,9 @@
 -- Lines that are given back, one after the other.
-use Rattle.std.proofs.Common.{◌≡◌, ◌∙◌, ℕ, ◌+◌, ◌<◌, ◌≤◌, ◌&&◌, ◌⊎◌, zero, suc, inl, inr, Bool, true, false, List, [], ◌∷◌, ◌++◌, length, length-append, get_or, is_ok, Option, None, Some, Result, Ok, Err, refl, sym, ap, subst, append_assoc, append-nil, arith}
-use Rattle.std.specs.Prelude.{IsSomeAnd}
+use Rattle.std.proofs.Common.{◌≡◌, ◌∙◌, ℕ, ◌<◌, ◌≤◌, ◌&&◌, ◌⊎◌, zero, suc, inl, inr, Bool, true, false, List, [], ◌∷◌, ◌++◌, length, length-append, get_or, is_ok, Option, None, Some, Result, Ok, Err, refl, sym, ap, subst, append_assoc, append-nil, arith}
 use Rattle.std.specs.List.{AllByRecursion, Any}
 use Rattle.std.proofs.lemmas.Bool.{cases_eq}
 use Rattle.desk_values.specs.declared.memory.Memory.{Memory as NoMemory}
-use Rattle.desk_files.specs.Outside.{HasRisen, Told, last_count}
+use Rattle.desk_files.specs.Outside.{HasRisen, last_count}
 use Rattle.remote_link.specs.declared.heard.Heard.{Heard}
 use Rattle.remote_link.specs.declared.link_err.LinkErr.{LinkErr}
 use Rattle.remote_link.specs.declared.link_err.LinkErr.TheVariants as refusal
@@ -12,6 +11,7 @@ use Rattle.remote_link.specs.Dials.{CountsBack, GivesBack}
 use Rattle.remote_target.specs.Inside.{AreToldOf, CountsLines, GivesLines, IsToldOf, SaidView}
 use Rattle.remote_target.specs.Spoken.{IsSpoken}
 use Rattle.remote_target.proofs.Giving.{as_many}
+use Rattle.remote_target.proofs.Unbroken.{unbroken_of}
 
 abbrev pub outcome : Bool → Result (Unit {0}) NoMemory
 outcome true = Ok tt
@@ -41,7 +41,7 @@ module _ (saids : List SaidView) (said : SaidView) (faults : ℕ) (told : List (
       → (whole ≡ true → AreToldOf saids lists) → length lists ≤ length saids → GaveSo more (whole && is_ok result) (Some told) after
   given_line None (Ok done) whole after lists spoken gives are few = absurd gives
   given_line (Some list) (Ok done) true after lists spoken gives are few =
-      (lists ++ list ∷ [], told_more saids lists said list (are refl) (record { own = spoken.own; fair = spoken.fair }), gives ∙ ap (λ (all : List (List Heard)). Some all) (append_assoc told lists (list ∷ [])))
+      (lists ++ list ∷ [], told_more saids lists said list (are refl) (record { own = spoken.own; fair = spoken.fair; unbroken = unbroken_of said.heard list said.refusal spoken.replies spoken.own }), gives ∙ ap (λ (all : List (List Heard)). Some all) (append_assoc told lists (list ∷ [])))
   given_line (Some list) (Ok done) false after lists spoken gives are few =
       (lists ++ list ∷ [], omega (arith, few, length-append lists (list ∷ []), length-append saids (said ∷ [])), gives ∙ ap (λ (all : List (List Heard)). Some all) (append_assoc told lists (list ∷ [])))
   given_line line (Err memory) true after lists spoken gives are few = (lists, omega (arith, few, length-append saids (said ∷ [])), gives)
@@ -66,7 +66,7 @@ pub none_counted : (n : ℕ) → CountsLines [] n n
 none_counted n = record { rises = λ some. absurd (let within = some.2 in omega (arith, within)); stays = λ all. refl; never_falls = omega arith }
 
 -- a count that rose and did not fall, or did not fall and rose, rose
-rises_on : (a b c : ℕ) → HasRisen a b → a ≤ b → b ≤ c → HasRisen a c
+pub rises_on : (a b c : ℕ) → HasRisen a b → a ≤ b → b ≤ c → HasRisen a c
 rises_on a b c risen grows on past = elim (cases_eq b last_count) [
   | inl stands ↦ elim (cases_eq b c) [ inl same ↦ absurd (past (sym same ∙ stands)) | inr apart ↦ omega (arith, grows, on, apart) ]
   | inr more ↦ let less = risen more in omega (arith, less, on)

@@ -1,5 +1,5 @@
 -- A desk that agrees with its lines does so with one call more, and with its reply.
-use Rattle.std.proofs.Common.{◌≡◌, ◌≢◌, ◌∙◌, ℕ, zero, suc, ◌+◌, inl, inr, true, false, List, [], ◌∷◌, ◌++◌, get_or, length, map, set, Option, None, Some, Result, Ok, Err, OnErr, OnOk, refl, sym, ap, subst, append-nil, arith}
+use Rattle.std.proofs.Common.{◌≡◌, ◌≢◌, ◌∙◌, ℕ, zero, suc, inl, inr, true, false, List, [], ◌∷◌, ◌++◌, get_or, length, map, set, Option, None, Some, Result, Ok, Err, OnErr, OnOk, refl, sym, ap, subst, append-nil, arith}
 use Rattle.std.specs.Prelude.{IfSome, nat_eq, slice_get}
 use Rattle.std.specs.List.{position}
 use Rattle.std.proofs.lemmas.Bool.{cases_eq, eq-eqb, eqb-true, ne_eqb}
@@ -18,10 +18,9 @@ use Rattle.desk_values.specs.declared.capture.Event.{Event}
 use Rattle.desk_values.specs.declared.capture.Event.TheVariants as event
 use Rattle.desk_values.specs.declared.capture.Captured.{Captured}
 use Rattle.replay_history.specs.Gap.{IsCallAt}
-use Rattle.law_histories.proofs.Places.{same_call}
 use Rattle.remote_desk.specs.declared.event.RemoteEvent.{RemoteEvent}
 use Rattle.remote_desk.specs.declared.event.RemoteEvent.TheVariants.{Sent, Answer}
-use Rattle.remote_desk.specs.Desk.{IsDispatched, IsHeard, IsKept, MayDispatch, RemoteView, with_start}
+use Rattle.remote_desk.specs.Desk.{IsHeard, IsKept, MayDispatch, RemoteView, with_start}
 use Rattle.remote_desk.specs.History.{plain}
 use Rattle.remote_desk.specs.Said.{is_of, said_in}
 use Rattle.remote_desk.proofs.Answered.{said_answered, sent_answered}

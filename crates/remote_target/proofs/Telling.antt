@@ -1,5 +1,5 @@
 -- How the refusal of a line is told.
-use Rattle.std.proofs.Common.{◌≡◌, ◌∙◌, ℕ, zero, suc, ◌+◌, ◌<◌, inl, inr, List, [], ◌∷◌, length, map, get_or, Option, Some, refl, sym, ap, subst, arith}
+use Rattle.std.proofs.Common.{◌≡◌, ◌∙◌, ℕ, zero, suc, ◌<◌, inl, inr, List, [], ◌∷◌, length, map, get_or, Option, Some, refl, sym, ap, arith}
 use Rattle.std.specs.List.{Any}
 use Rattle.remote_link.specs.declared.link_err.LinkErr.{LinkErr}
 use Rattle.remote_link.specs.declared.link_err.LinkErr.TheVariants as refusal

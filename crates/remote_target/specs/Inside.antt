@@ -23,10 +23,10 @@ use Rattle.remote_target.specs.declared.line.Line.{Line}
 use Rattle.remote_target.specs.declared.remote_err.RemoteErr.{RemoteErr}
 use Rattle.remote_target.specs.declared.remote_err.RemoteErr.TheVariants.{Link as LinkFailed, OtherJob, Mismatch, Memory}
 use Rattle.remote_target.specs.declared.seats.Seat.{Seat}
-use Rattle.remote_target.specs.Agreement.{AgreesAt, AgreesIn, DiffersAt, OfLine, kept_of}
-use Rattle.remote_target.specs.Ends.{IsDifference}
+use Rattle.remote_target.specs.Agreement.{AgreesAt, AgreesIn, DiffersAt, DiffersOn, OfLine, kept_of}
+use Rattle.remote_target.specs.Ends.{HasGoodReplies, IsDifference}
 use Rattle.remote_target.specs.Lines.{IsInOrder}
-use Rattle.remote_target.specs.Spoken.{IsOwn}
+use Rattle.remote_target.specs.Spoken.{IsOwn, IsUnbroken}
 
 -- ---- lines
 
@@ -57,6 +57,7 @@ IsFresh said = (said.heard ≡ []) × (said.refusal ≡ None)
 pub record IsToldOf (said : SaidView) (list : List Heard) : Type 0 where
   pub own : IsOwn said.heard list
   pub fair : said.refusal ≡ None → said.heard ≡ list
+  pub unbroken : IsUnbroken list
 
 abbrev pub AreToldOf : List SaidView → List (List Heard) → Type 0
 AreToldOf [] [] = ⊤
@@ -173,11 +174,18 @@ IsRefused refusals (Err error) = ((error ≡ LinkFailed) ⊎ (error ≡ Memory))
 abbrev pub AreSentInOrder : JobView → List OfLine → Type 0
 AreSentInOrder job lines = AllByRecursion (λ (line : OfLine). IsInOrder (calls_of line.0 job.calls) line.1) lines
 
+-- a desk of the job differs from these lines
+pub record HasFound (job : JobView) (lines : List OfLine) (session place : ℕ) (kept answered : Option Heard) : Type 0 where
+  pub desk : RemoteView
+  pub job_is : desk.job ≡ job
+  pub is_kept : IsKept desk
+  pub differs : DiffersOn desk lines session place kept answered
+
 -- how a replay may come to no end
 abbrev pub IsBroken : JobView → List OfLine → List (Option LinkErr) → RemoteErr → Type 0
 IsBroken job lines refusals LinkFailed = AreSentInOrder job lines × Any (λ (r : Option LinkErr). r ≡ Some refusal.Failed) refusals
 IsBroken job lines refusals (OtherJob kept) = IsDifference job (OtherJob kept)
-IsBroken job lines refusals (Mismatch session place kept answered) = IsDifference job (Mismatch session place kept answered)
+IsBroken job lines refusals (Mismatch session place kept answered) = HasFound job lines session place kept answered × HasGoodReplies (Mismatch session place kept answered)
 IsBroken job lines refusals Memory = ⊤
 
 -- what the lanes left: a desk of the job that agrees with its lines, none of which refused a call, or why it is none

@@ -8,7 +8,7 @@ use Rattle.desk_values.specs.declared.capture.Captured.{Captured}
 use Rattle.captured_calls.specs.Sessions.{calls_of}
 use Rattle.remote_link.specs.declared.heard.Heard.{Heard}
 
--- ---- the captured call, with another service or other ids in its binds at most
+-- ---- the captured call, but that the service may be another, and ids that it binds
 
 abbrev pub IsValueOf : Value → Value → Type 0
 IsValueOf (value.Row a) (value.Row b) = Unit {0}

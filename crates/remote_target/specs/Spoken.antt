@@ -6,7 +6,7 @@ use Rattle.desk_values.specs.declared.call.Reply.{Reply}
 use Rattle.desk_files.specs.Outside.{Told}
 use Rattle.remote_link.specs.declared.heard.Heard.{Heard}
 use Rattle.remote_link.specs.declared.link_err.LinkErr.{LinkErr}
-use Rattle.remote_link.specs.declared.link_err.LinkErr.TheVariants.{Failed}
+use Rattle.remote_link.specs.declared.link_err.LinkErr.TheVariants.{Failed, Memory}
 use Rattle.remote_link.specs.Heard.{AreGood, heard}
 
 pub record SpokenView (L : Type 0) : Type 0 where
@@ -29,6 +29,10 @@ pub record IsCutOff (list : List Heard) : Type 0 where
   pub replied : AllByRecursion HasReply front
   pub last : list ≡ front ++ heard call None ∷ []
 
+-- each call has a reply, but for the last one at most
+abbrev pub IsUnbroken : List Heard → Type 0
+IsUnbroken list = AllByRecursion HasReply list ⊎ IsCutOff list
+
 -- what is kept is what the line tells, or that and one call without a reply
 abbrev pub IsOwn : List Heard → List Heard → Type 0
 IsOwn list told = (list ≡ told) ⊎ ((call : Call) × (list ≡ told ++ heard call None ∷ []))
@@ -47,6 +51,11 @@ pub record IsSpoken (told : Option (List Heard)) (faults : ℕ) (list : List Hea
   -- a line that refused no call has no fault, and one that failed has
   pub faultless : refusal ≡ None → faults ≡ 0
   pub failed : refusal ≡ Some Failed → 0 < faults
+
+-- why there is no room for a call: the line refused before, or memory is short
+abbrev pub RefusesRoom : Option LinkErr → LinkErr → Type 0
+RefusesRoom (Some refusal) error = error ≡ refusal
+RefusesRoom None error = error ≡ Memory
 
 -- what a call adds
 abbrev pub Says : Call → Result (Unit {0}) LinkErr → List Heard → List Heard → Option LinkErr → Option LinkErr → Type 0

@@ -22,7 +22,7 @@ pub enum RemoteErr {
     /// What the desk keeps of a session is not what its line heard.
     #[error("session {session} differs at place {place}")]
     Mismatch {
-        /// The first such session.
+        /// A session where it is so.
         session: u32,
         /// The first place where they differ.
         place: u32,

@@ -1,12 +1,13 @@
 //! The whole replay, from its dials to the lines that are given back.
 
-ghost use Rattle.std.specs.Prelude.{◌≡◌, ◌≤◌, [], false, true, map, IfErr, IfOk, OnOk};
+ghost use Rattle.std.specs.Prelude.{◌≡◌, ◌≤◌, [], false, length, true, map, IfErr, IfOk, OnOk};
 ghost use Rattle.std.specs.Vec.{vec_capacity};
 ghost use Rattle.replay_history.specs.History.{AnswersAll};
 ghost use Rattle.replay_job.specs.Job.{IsReplayable, seen};
 ghost use Rattle.replay_lanes.specs.Sessions.{sessions};
 ghost use Rattle.remote_desk.specs.History.{plain};
 ghost use Rattle.remote_target.specs.Agreement.{heard_on};
+ghost use Rattle.remote_target.specs.Dialled.{DialsOnce, risen_by};
 ghost use Rattle.remote_target.specs.Ends.{EndsSo, GaveBack, IsDifference};
 ghost use Rattle.remote_target.specs.Inside.{AreAgreed, CountsLines, IsJudged, IsOutcome, IsRefused, IsReturned, refusal_on, said_on, session_on, told};
 
@@ -27,9 +28,10 @@ use std::thread::Threads;
 use std::time::Clock;
 
 /// Replays a job against the server at a port, by so many lanes, each in a thread of its own: session s is served by lane s mod `lanes`,
-/// and each session with a call has a line of its own. Every line that was dialled is given back, whatever comes, ascending by
-/// session. `Link` where a line failed or could not be dialled; `OtherJob` and `Mismatch` where the desk does not carry the job, or
-/// keeps something else than a line heard, which only a fault of this program can bring about.
+/// and each session with a call has a line of its own, which is dialled once. Every line that was dialled is given back, whatever comes,
+/// ascending by session; where memory is short for that, the dial may not tell it. `Link` where a line failed or could not be dialled;
+/// `OtherJob` and `Mismatch` where the desk does not carry the job, or keeps something else than a line heard, which only a fault of
+/// this program can bring about.
 pub fn run_remote<R: Clock + Wait + Threads + Sync, D: Door, L: Dial>(
     rt: &R,
     alloc: Global,
@@ -43,8 +45,9 @@ pub fn run_remote<R: Clock + Wait + Threads + Sync, D: Door, L: Dial>(
     requires job { IsReplayable (seen job) }
     ensures job { IfOk result (λ desk. desk.job ≡ seen job) }
     ensures all { IfOk result (λ desk. AnswersAll desk.job.calls (plain desk.events)) }
-    ensures back { GaveBack (seen job).calls result (L.content dial.old) (L.content dial.new) }
-    ensures ends { EndsSo result (L.fault_count dial.old) (L.fault_count dial.new) }
+    ensures back { GaveBack (seen job) result (L.content dial.old) (L.content dial.new) }
+    ensures once { DialsOnce (seen job).calls result (L.content dial.old) (L.content dial.new) (L.counts dial.old) (L.counts dial.new) }
+    ensures ends { EndsSo result (L.counts dial.old).faults (L.counts dial.new).faults }
     ensures differs { IfErr result (IsDifference (seen job)) }
 {
     run_by(rt, alloc, &job, door, dial, port, lanes)
@@ -64,8 +67,9 @@ fn run_by<R: Clock + Wait + Threads + Sync, D: Door, L: Dial>(
     requires job { IsReplayable (seen job.now) }
     ensures job { IfOk result (λ desk. desk.job ≡ seen job.now) }
     ensures all { IfOk result (λ desk. AnswersAll desk.job.calls (plain desk.events)) }
-    ensures back { GaveBack (seen job.now).calls result (L.content dial.old) (L.content dial.new) }
-    ensures ends { EndsSo result (L.fault_count dial.old) (L.fault_count dial.new) }
+    ensures back { GaveBack (seen job.now) result (L.content dial.old) (L.content dial.new) }
+    ensures once { DialsOnce (seen job.now).calls result (L.content dial.old) (L.content dial.new) (L.counts dial.old) (L.counts dial.new) }
+    ensures ends { EndsSo result (L.counts dial.old).faults (L.counts dial.new).faults }
     ensures differs { IfErr result (IsDifference (seen job.now)) }
 {
     let sessions = sessions_of(alloc, job.calls.as_slice())?;
@@ -86,7 +90,9 @@ fn returned<L: Dial>(
     outcome: Result<RemoteDesk, RemoteErr>,
 ) -> Result<RemoteDesk, RemoteErr>
     ensures returns { IsReturned outcome (map said_on lines.items) result (L.content dial.old) (L.content dial.new) }
-    ensures counts { CountsLines (map refusal_on lines.items) (L.fault_count dial.old) (L.fault_count dial.new) }
+    ensures counts { CountsLines (map refusal_on lines.items) (L.counts dial.old).faults (L.counts dial.new).faults }
+    ensures dialled { (L.counts dial.new).dials ≡ (L.counts dial.old).dials }
+    ensures backs { (L.counts dial.new).backs ≡ risen_by (length lines.items) (L.counts dial.old).backs }
 {
     match give_back(dial, lines) {
         Ok(()) => outcome,
@@ -192,12 +198,12 @@ fn judged<L: Link + Drop>(
 ) -> Result<(), RemoteErr>
     ensures { IsJudged (seen kept.now) desk.now (map heard_on lines.now) (map refusal_on lines.now) result }
 {
+    desk.history_is_kept();
     if !desk.job().same(kept) {
         return Err(RemoteErr::OtherJob {
             kept: desk.job().copy()?,
         });
     }
-    desk.history_is_kept();
     compare(alloc, desk, lines)?;
     refused(lines)?;
     if desk.stopped() {

@@ -1,11 +1,11 @@
 //! A line, with what was said on it.
 
-ghost use Rattle.std.specs.Prelude.{◌≡◌, ◌<◌, [], None, IfSome, OnOk};
+ghost use Rattle.std.specs.Prelude.{◌≡◌, ◌<◌, [], None, IfErr, IfSome, OnOk};
 ghost use Rattle.std.specs.Option.{option_copied};
 ghost use Rattle.desk_values.specs.Good.{IsGoodReply};
 ghost use Rattle.remote_link.specs.Dials.{IsNew};
 ghost use Rattle.remote_link.specs.Heard.{AreGood, heard};
-ghost use Rattle.remote_target.specs.Spoken.{IsLastReply, IsSpoken, Says};
+ghost use Rattle.remote_target.specs.Spoken.{IsLastReply, IsSpoken, RefusesRoom, Says};
 
 use desk_values::{Call, Reply, Reserved};
 use remote_link::{Heard, Link, LinkErr};
@@ -70,9 +70,10 @@ impl<L: Link + Drop> Spoken<L> {
         self.line
     }
 
-    /// Makes room for one more call. A line that refused refuses again.
+    /// Makes room for one more call. A line that refused refuses again, and one that did not has no room only where memory is short.
     pub fn make_room(&mut self) -> Result<(), LinkErr>
         ensures ok { OnOk result ((0 < self.new.spare) × (self.new.refusal ≡ None)) }
+        ensures err { IfErr result (RefusesRoom self.old.refusal) }
         ensures line { self.new.line ≡ self.old.line }
         ensures heard { self.new.heard ≡ self.old.heard }
         ensures refusal { self.new.refusal ≡ self.old.refusal }

@@ -88,7 +88,7 @@ module _ (h : Hosting) (unasked : IsHostUnasked h) (untouched : IsKeeperUntouche
 
 -- ---- the dial, where it is not asked
 
-module _ (dial : Dialling) (stands : dial.faults_before ≤ dial.faults_after) where
+module _ (dial : Dialling) (stands : dial.counts_before.faults ≤ dial.counts_after.faults) where
   pub serve_dial : (start : StartView) (most : ℕ) (before after : Option Connections) (done : Result Plan Failure) → IfErr done (ServeFails start most before after) → DialFaults done dial
   serve_dial start most before after (Ok plan) fails = stands
   serve_dial start most before after (Err BadCommand) fails = absurd fails

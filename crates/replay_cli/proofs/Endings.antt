@@ -29,7 +29,7 @@ use Rattle.replay_cli.specs.Hosting.{Dialling, HasKept, HasNoFault, Hosting, IsU
 use Rattle.replay_cli.specs.Ending.{Causes, Ends, EndsSo, HasDialled, IsCauseOf, IsFoundOf, IsOutside, IsUnsentOf, Reports, Stands, line_of, moves, status_of}
 use Rattle.replay_cli.specs.Inside.Ending.{LeftOver, OneRose, RunFaults, RunSays}
 use Rattle.replay_cli.specs.Inside.Serving.{DialFaults, PlanFails, WorkFaults}
-use Rattle.replay_cli.proofs.Dialled.{few_given, undialled}
+use Rattle.replay_cli.proofs.Dialled.{few_dialled, undialled}
 use Rattle.replay_cli.proofs.StepLaws.{told_both, told_at}
 use Rattle.replay_cli.proofs.Unique.{verdict_one}
 use Rattle.desk_files.proofs.WriteLaws.{told, some_and}
@@ -144,7 +144,8 @@ module _ (h : Hosting) where
   kept_caused (ToTry n) cause caused = absurd caused
 
   kept_unsent : (task : Task) (cause : Unsent) → IsUnsentOf task cause h → HasKept h × HasDialled task h.dial
-  kept_unsent (ToSend out job port) cause sent = ((sent.2.runs, sent.2.divergences), few_given job.calls sent.0.error h.dial.before h.dial.after sent.0.back)
+  kept_unsent (ToSend out job port) cause sent =
+      ((sent.2.runs, sent.2.divergences), few_dialled job.calls h.dial.before h.dial.after h.dial.counts_before h.dial.counts_after sent.0.error sent.0.once)
   kept_unsent (ToReplay out job) cause sent = absurd sent
   kept_unsent (ToTell out facts) cause sent = absurd sent
   kept_unsent (ToServe out start most port) cause sent = absurd sent
@@ -181,7 +182,7 @@ module _ (h : Hosting) where
   -- it ends so with each verdict, since there is one
   each_end : (words : List (List ℕ)) (files after : FileMap) (f0 f1 result : ℕ) (b a : Option (List ℕ)) → EndsSo (Verdict words files) files after f0 f1 h result b a → (verdict : Result Task Failure) → Verdict words files verdict → Ends verdict files after f0 f1 h result b a
   each_end words files after f0 f1 result b a (inl some) verdict is = subst (λ (v : Result Task Failure). Ends v files after f0 f1 h result b a) (verdict_one words files some.0 verdict some.1 is) some.2
-  each_end words files after f0 f1 result b a (inr none) (Ok task) is = inr (inr (inr (inr (none.0, inl (none.1, (none.2.1.runs, none.2.1.divergences), undialled task h.dial none.2.2.0)))))
+  each_end words files after f0 f1 result b a (inr none) (Ok task) is = inr (inr (inr (inr (none.0, inl (none.1, (none.2.1.runs, none.2.1.divergences), undialled task h.dial none.2.2.0 none.2.2.1)))))
   each_end words files after f0 f1 result b a (inr none) (Err failure) is = (none.1, none.2, inr none.0)
 
   pub told_each : (c0 c1 : Option FileMap) (words : List (List ℕ)) (f0 f1 result : ℕ) (b a : Option (List ℕ)) → Told c0 (λ files. IsSomeAnd c1 (λ after. EndsSo (Verdict words files) files after f0 f1 h result b a))
@@ -295,7 +296,7 @@ fault_of done result b a f0 f1 h s0 s1 faults (inr (inr fault)) five = inr (inr 
 
 -- ---- the count of the dial
 
-dial_grows : (done : Result Plan Failure) (dial : Dialling) → DialFaults done dial → dial.faults_before ≤ dial.faults_after
+dial_grows : (done : Result Plan Failure) (dial : Dialling) → DialFaults done dial → dial.counts_before.faults ≤ dial.counts_after.faults
 dial_grows (Ok plan) dial faults = faults
 dial_grows (Err BadCommand) dial faults = faults
 dial_grows (Err (Refused refusal)) dial faults = faults
@@ -307,7 +308,7 @@ dial_grows (Err (NotSent (unsent.Mismatch session place kept answered))) dial fa
 dial_grows (Err DeviceFault) dial faults = faults
 dial_grows (Err OutOfMemory) dial faults = faults
 
-ten_means : (done : Result Plan Failure) (dial : Dialling) → DialFaults done dial → status_of done ≡ 10 → HasRisen dial.faults_before dial.faults_after
+ten_means : (done : Result Plan Failure) (dial : Dialling) → DialFaults done dial → status_of done ≡ 10 → HasRisen dial.counts_before.faults dial.counts_after.faults
 ten_means (Ok plan) dial faults ten = absurd ((done_own plan.differs).no_link ten)
 ten_means (Err BadCommand) dial faults ten = absurd (omega (arith, ten))
 ten_means (Err (Refused refusal)) dial faults ten = absurd ((refused_own refusal).no_link ten)
@@ -319,13 +320,13 @@ ten_means (Err (NotSent (unsent.Mismatch session place kept answered))) dial fau
 ten_means (Err DeviceFault) dial faults ten = absurd (omega (arith, ten))
 ten_means (Err OutOfMemory) dial faults ten = absurd (omega (arith, ten))
 
-link_of : (done : Result Plan Failure) (dial : Dialling) (result : ℕ) (b a : Option (List ℕ)) (s0 s1 : ℕ) → DialFaults done dial → Reports done result b a s0 s1 → result ≡ 10 → HasRisen dial.faults_before dial.faults_after
+link_of : (done : Result Plan Failure) (dial : Dialling) (result : ℕ) (b a : Option (List ℕ)) (s0 s1 : ℕ) → DialFaults done dial → Reports done result b a s0 s1 → result ≡ 10 → HasRisen dial.counts_before.faults dial.counts_after.faults
 link_of done dial result b a s0 s1 faults (inl own) ten = ten_means done dial faults (sym own.0 ∙ ten)
 link_of done dial result b a s0 s1 faults (inr (inl short)) ten = absurd (omega (arith, short.0, ten))
 link_of done dial result b a s0 s1 faults (inr (inr fault)) ten = absurd (omega (arith, fault.0, ten))
 
 -- a failure of deciding asks no dial
-pub decided_dial : (failure : Failure) (f0 f1 : ℕ) (dial : Dialling) → FailedAt failure f0 f1 → dial.faults_before ≤ dial.faults_after → DialFaults (Err failure) dial
+pub decided_dial : (failure : Failure) (f0 f1 : ℕ) (dial : Dialling) → FailedAt failure f0 f1 → dial.counts_before.faults ≤ dial.counts_after.faults → DialFaults (Err failure) dial
 decided_dial BadCommand f0 f1 dial fails grows = absurd fails
 decided_dial (Refused refusal) f0 f1 dial fails grows = grows
 decided_dial (Differs finding) f0 f1 dial fails grows = absurd fails
@@ -337,7 +338,7 @@ decided_dial OutOfMemory f0 f1 dial fails grows = grows
 -- ---- all causes
 
 module _ (f0 f1 : ℕ) (h : Hosting) (s0 s1 : ℕ) where
-  all_stand : (done : Result Plan Failure) (result : ℕ) (b a : Option (List ℕ)) → RunFaults done f0 f1 h → Reports done result b a s0 s1 → result ≢ 5 → Stands (moves f0 f1 h.faults_before h.faults_after h.keeper.faults_before h.keeper.faults_after h.dial.faults_before h.dial.faults_after s0 s1)
+  all_stand : (done : Result Plan Failure) (result : ℕ) (b a : Option (List ℕ)) → RunFaults done f0 f1 h → Reports done result b a s0 s1 → result ≢ 5 → Stands (moves f0 f1 h.faults_before h.faults_after h.keeper.faults_before h.keeper.faults_after h.dial.counts_before.faults h.dial.counts_after.faults s0 s1)
   all_stand done result b a faults (inl own) other =
       let both = both_stand done f0 f1 h faults (λ e. other (own.0 ∙ ap status_of e)) in
       record { files = both.0; host = both.1.0; keeper = both.1.1; out = own.2 }
@@ -352,7 +353,7 @@ command_of_two words done result b a s0 s1 only (inr (inl short)) two = absurd (
 command_of_two words done result b a s0 s1 only (inr (inr fault)) two = absurd (omega (arith, fault.0, two))
 
 pub causes : (words : List (List ℕ)) (done : Result Plan Failure) (result : ℕ) (b a : Option (List ℕ)) (f0 f1 : ℕ) (h : Hosting) (s0 s1 : ℕ) → (IsErrOf done BadCommand → IsNone (command_of words)) → RunFaults done f0 f1 h → DialFaults done h.dial → Reports done result b a s0 s1 → s0 ≤ s1
-    → Causes words result (moves f0 f1 h.faults_before h.faults_after h.keeper.faults_before h.keeper.faults_after h.dial.faults_before h.dial.faults_after s0 s1)
+    → Causes words result (moves f0 f1 h.faults_before h.faults_after h.keeper.faults_before h.keeper.faults_after h.dial.counts_before.faults h.dial.counts_after.faults s0 s1)
 causes words done result b a f0 f1 h s0 s1 only faults dial reports out =
     let grown = all_grow done f0 f1 h faults in
     record {

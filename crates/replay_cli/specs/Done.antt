@@ -37,6 +37,7 @@ use Rattle.replay_lanes.specs.Sessions.{sessions}
 use Rattle.remote_desk.specs.declared.event.RemoteEvent.{RemoteEvent}
 use Rattle.remote_desk.specs.History.{IsRemoteHistory, pairs_behind, plain}
 use Rattle.remote_desk.specs.Said.{said_in}
+use Rattle.remote_target.specs.Dialled.{risen_by}
 use Rattle.capture_serve.specs.Service.{AreReadFrom, CaptureView, IsService}
 use Rattle.replay_cli.specs.Lines.{generated_line, prepared_line, replayed_line, served_line, trial_line}
 use Rattle.register_work.specs.declared.errand.Errand.{Errand}
@@ -138,7 +139,8 @@ abbrev pub IsDoneBy : List ℕ → JobView → Plan → List Event → Stage →
 IsDoneBy out job plan history last = IsReplayOf job history last × IsReported job history plan × IsWritten out job history last plan.writes
 
 -- The history is a legal one of the captured calls with the replies that came, each call was sent once, and the report names just
--- the calls that differ. On each line that was given back stands what was sent in its session, with what came back.
+-- the calls that differ. Each session with a call was dialled once, each line was given back, and on each stands what was sent in its
+-- session, with what came back.
 pub record IsSent (out : List ℕ) (job : JobView) (plan : Plan) (dial : Dialling) : Type 0 where
   pub events : List RemoteEvent
   pub history : IsRemoteHistory job events
@@ -148,7 +150,9 @@ pub record IsSent (out : List ℕ) (job : JobView) (plan : Plan) (dial : Diallin
   pub differs : plan.differs ≡ nat_lt 0 (length (heard_report_in job (plain events)).lines)
   pub writes : plan.writes ≡ sent_files out job events
   pub lines : WhereTold dial.before (λ told. dial.after ≡ Some (told ++ map (said_in job.calls events) (sessions job.calls)))
-  pub faultless : dial.faults_after ≡ dial.faults_before
+  pub faultless : dial.counts_after.faults ≡ dial.counts_before.faults
+  pub dialled : dial.counts_after.dials ≡ risen_by (length (sessions job.calls)) dial.counts_before.dials
+  pub returned : dial.counts_after.backs ≡ risen_by (length (sessions job.calls)) dial.counts_before.backs
 
 -- the job of replaying calls as they are: from their own start, in their order and without pauses
 abbrev pub trial_job : StartView → List Captured → JobView

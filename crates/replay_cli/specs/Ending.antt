@@ -23,13 +23,14 @@ use Rattle.replay_cli.specs.Lines.{done_status, failure_line, failure_status, fi
 use Rattle.replay_job.specs.Job.{JobView}
 use Rattle.remote_target.specs.declared.remote_err.RemoteErr.{RemoteErr}
 use Rattle.remote_target.specs.declared.remote_err.RemoteErr.TheVariants as remote
+use Rattle.remote_target.specs.Dialled.{DialsOnce}
 use Rattle.remote_target.specs.Ends.{EndsSo as EndsSent, GaveBack, IsDifference}
 use Rattle.replay_cli.specs.declared.unsent.Unsent.{Unsent}
 use Rattle.replay_cli.specs.declared.unsent.Unsent.TheVariants as unsent
 
 -- ---- who is asked
 
--- none asks the host but a command that serves, none the keeper but those of runs, and none the dial but a replay with a target
+-- the host stays as it was but for a command that serves, the keeper but for those of runs, and the dial but for a replay with a target
 abbrev pub MayAsk : Option Command → Hosting → Type 0
 MayAsk (Some (Run capture out ways)) h = IsHostUnasked h × IsKeeperUntouched h × (ways.target ≡ None → IsDialUnasked h)
 MayAsk (Some (Serve capture start connections port)) h = IsKeeperUntouched h × IsDialUnasked h
@@ -46,10 +47,10 @@ abbrev pub WrittenInPart : Plan → FileMap → FileMap → ℕ → ℕ → Type
 WrittenInPart plan before after faults_before faults_after =
     WrittenSoFar plan.writes before after ⊎ (CutShort plan.writes before after × HasRisen faults_before faults_after)
 
--- a replay against another server may have dialled: of each session with a call one line at most was given back, so nothing was
--- sent twice
+-- a replay against another server may have dialled: no more often than there are sessions with a call, and each line that it was given
+-- was given back, but for one at most, where the count of faults rose
 abbrev pub HasDialled : Task → Dialling → Type 0
-HasDialled (ToSend out job port) dial = GaveBack job.calls (Err remote.Memory) dial.before dial.after
+HasDialled (ToSend out job port) dial = DialsOnce job.calls (Err remote.Memory) dial.before dial.after dial.counts_before dial.counts_after
 HasDialled other dial = ⊤
 
 -- what is left of a task that was not done, or not told; nothing is written where the host failed, and nothing kept where the
@@ -86,13 +87,15 @@ unsent_of (remote.OtherJob kept) = Some unsent.Job
 unsent_of (remote.Mismatch session place kept answered) = Some (unsent.Mismatch session place kept answered)
 unsent_of remote.Memory = None
 
--- the replay of a job against another server ended so: each line that was dialled was given back, a failure of the link comes only
--- where the count of the dial rose, and two values that differ are told
+-- the replay of a job against another server ended so: it was dialled no more often than there are sessions with a call, a line was given
+-- back for each dial, but for one with a failure of the link, which comes only where the count of faults rose, and two values that differ
+-- are told
 pub record IsUnsent (job : JobView) (cause : Unsent) (dial : Dialling) : Type 0 where
   pub error : RemoteErr
   pub told : unsent_of error ≡ Some cause
-  pub back : GaveBack job.calls (Err error) dial.before dial.after
-  pub ends : EndsSent (Err error) dial.faults_before dial.faults_after
+  pub back : GaveBack job (Err error) dial.before dial.after
+  pub once : DialsOnce job.calls (Err error) dial.before dial.after dial.counts_before dial.counts_after
+  pub ends : EndsSent (Err error) dial.counts_before.faults dial.counts_after.faults
   pub differs : IsDifference job error
 
 -- this is the cause why the replay of this task came to no end

@@ -4,17 +4,17 @@ use Rattle.desk_files.specs.Outside.{Answered}
 use Rattle.desk_files.specs.Hosts.{Connections}
 use Rattle.register_work.specs.Keeping.{KeepsAll, Keeping}
 use Rattle.remote_link.specs.declared.heard.Heard.{Heard}
+use Rattle.remote_link.specs.Lines.{DialCounts}
 
--- what was said on the lines that a dial was given back, and its count of faults
+-- what was said on the lines that a dial was given back, and its counts
 pub record Dialling : Type 0 where
   pub before : Option (List (List Heard))
   pub after : Option (List (List Heard))
-  pub faults_before : ℕ
-  pub faults_after : ℕ
+  pub counts_before : DialCounts
+  pub counts_after : DialCounts
 
-abbrev pub dialling : Option (List (List Heard)) → Option (List (List Heard)) → ℕ → ℕ → Dialling
-dialling before after faults_before faults_after =
-    record { before = before; after = after; faults_before = faults_before; faults_after = faults_after }
+abbrev pub dialling : Option (List (List Heard)) → Option (List (List Heard)) → DialCounts → DialCounts → Dialling
+dialling before after counts_before counts_after = record { before = before; after = after; counts_before = counts_before; counts_after = counts_after }
 
 -- the connections of the host, its count of faults, the keeper and the dial
 pub record Hosting : Type 0 where
@@ -43,7 +43,7 @@ IsKeeperUntouched h = KeepsAll h.keeper Answered
 
 -- the dial was not asked
 abbrev pub IsDialUnasked : Hosting → Type 0
-IsDialUnasked h = (h.dial.after ≡ h.dial.before) × (h.dial.faults_after ≡ h.dial.faults_before)
+IsDialUnasked h = (h.dial.after ≡ h.dial.before) × (h.dial.counts_after ≡ h.dial.counts_before)
 
 -- all are as if they had not been asked
 abbrev pub IsUnasked : Hosting → Type 0

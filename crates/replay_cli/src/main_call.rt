@@ -53,7 +53,7 @@ use std::time::Clock;
 /// | 3 | the capture is not legal | `bad capture: ` and what is wrong |
 /// | 4 | there is no such file | `missing: NAME` |
 /// | 5 | `files`, `host`, `keeper` or `out` failed | `device fault` |
-/// | 6 | want of memory, where nothing failed | `out of memory` |
+/// | 6 | want of memory, where nothing failed but a line to the server | `out of memory` |
 /// | 7 | the remap file's record N is bad, or repeats a service | `bad remap: row N` |
 /// | 7 | the change file's record N is bad, or the start that it leads to breaks a rule | `bad change: row N` |
 /// | 8 | a file is too long, or all of the capture are together | `too long: NAME` |
@@ -92,7 +92,7 @@ pub fn replay_main<
         (F.faults files.old) (F.faults files.new)
         (hosting (H.content host.old) (H.content host.new) (H.faults host.old) (H.faults host.new)
         (keeping (K.runs keeper.old) (K.runs keeper.new) (K.divergences keeper.old) (K.divergences keeper.new) (K.faults keeper.old) (K.faults keeper.new))
-        (dialling (L.content dial.old) (L.content dial.new) (L.fault_count dial.old) (L.fault_count dial.new)))
+        (dialling (L.content dial.old) (L.content dial.new) (L.counts dial.old) (L.counts dial.new)))
         result (S.content out.old) (S.content out.new))) }
     ensures each { Told (F.content files.old) (λ before. IsSomeAnd (F.content files.new) (λ after.
         (verdict : Result Task Outcome) → Verdict words.now before verdict
@@ -100,19 +100,19 @@ pub fn replay_main<
         (F.faults files.old) (F.faults files.new)
         (hosting (H.content host.old) (H.content host.new) (H.faults host.old) (H.faults host.new)
         (keeping (K.runs keeper.old) (K.runs keeper.new) (K.divergences keeper.old) (K.divergences keeper.new) (K.faults keeper.old) (K.faults keeper.new))
-        (dialling (L.content dial.old) (L.content dial.new) (L.fault_count dial.old) (L.fault_count dial.new)))
+        (dialling (L.content dial.old) (L.content dial.new) (L.counts dial.old) (L.counts dial.new)))
         result (S.content out.old) (S.content out.new))) }
     ensures line { PrintsLine words.now
         (hosting (H.content host.old) (H.content host.new) (H.faults host.old) (H.faults host.new)
         (keeping (K.runs keeper.old) (K.runs keeper.new) (K.divergences keeper.old) (K.divergences keeper.new) (K.faults keeper.old) (K.faults keeper.new))
-        (dialling (L.content dial.old) (L.content dial.new) (L.fault_count dial.old) (L.fault_count dial.new)))
+        (dialling (L.content dial.old) (L.content dial.new) (L.counts dial.old) (L.counts dial.new)))
         result (S.content out.old) (S.content out.new) (S.faults out.old) (S.faults out.new) }
     ensures asks { MayAsk (command_of words.now) (hosting (H.content host.old) (H.content host.new) (H.faults host.old) (H.faults host.new)
         (keeping (K.runs keeper.old) (K.runs keeper.new) (K.divergences keeper.old) (K.divergences keeper.new) (K.faults keeper.old) (K.faults keeper.new))
-        (dialling (L.content dial.old) (L.content dial.new) (L.fault_count dial.old) (L.fault_count dial.new))) }
+        (dialling (L.content dial.old) (L.content dial.new) (L.counts dial.old) (L.counts dial.new))) }
     ensures causes { Causes words.now result
         (moves (F.faults files.old) (F.faults files.new) (H.faults host.old) (H.faults host.new)
-        (K.faults keeper.old) (K.faults keeper.new) (L.fault_count dial.old) (L.fault_count dial.new) (S.faults out.old) (S.faults out.new)) }
+        (K.faults keeper.old) (K.faults keeper.new) (L.counts dial.old).faults (L.counts dial.new).faults (S.faults out.old) (S.faults out.new)) }
 {
     let done = run(rt, alloc, words, files, host, door, keeper, dial);
     report(alloc, &done, out)

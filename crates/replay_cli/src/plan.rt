@@ -84,20 +84,20 @@ pub fn plan_of<R: Clock + Wait + Threads + Sync, H: Host, D: Door, K: Keeper, L:
     ensures done { IfOk result (λ plan. IsDone (task_of work) plan
         (hosting (H.content host.old) (H.content host.new) (H.faults host.old) (H.faults host.new)
         (keeping (K.runs keeper.old) (K.runs keeper.new) (K.divergences keeper.old) (K.divergences keeper.new) (K.faults keeper.old) (K.faults keeper.new))
-        (dialling (L.content dial.old) (L.content dial.new) (L.fault_count dial.old) (L.fault_count dial.new)))) }
+        (dialling (L.content dial.old) (L.content dial.new) (L.counts dial.old) (L.counts dial.new)))) }
     ensures fails { IfErr result (PlanFails (task_of work)
         (hosting (H.content host.old) (H.content host.new) (H.faults host.old) (H.faults host.new)
         (keeping (K.runs keeper.old) (K.runs keeper.new) (K.divergences keeper.old) (K.divergences keeper.new) (K.faults keeper.old) (K.faults keeper.new))
-        (dialling (L.content dial.old) (L.content dial.new) (L.fault_count dial.old) (L.fault_count dial.new)))) }
+        (dialling (L.content dial.old) (L.content dial.new) (L.counts dial.old) (L.counts dial.new)))) }
     ensures faults { WorkFaults result
         (hosting (H.content host.old) (H.content host.new) (H.faults host.old) (H.faults host.new)
         (keeping (K.runs keeper.old) (K.runs keeper.new) (K.divergences keeper.old) (K.divergences keeper.new) (K.faults keeper.old) (K.faults keeper.new))
-        (dialling (L.content dial.old) (L.content dial.new) (L.fault_count dial.old) (L.fault_count dial.new))) }
-    ensures dial { DialFaults result (dialling (L.content dial.old) (L.content dial.new) (L.fault_count dial.old) (L.fault_count dial.new)) }
+        (dialling (L.content dial.old) (L.content dial.new) (L.counts dial.old) (L.counts dial.new))) }
+    ensures dial { DialFaults result (dialling (L.content dial.old) (L.content dial.new) (L.counts dial.old) (L.counts dial.new)) }
     ensures asks { AsksFor (task_of work)
         (hosting (H.content host.old) (H.content host.new) (H.faults host.old) (H.faults host.new)
         (keeping (K.runs keeper.old) (K.runs keeper.new) (K.divergences keeper.old) (K.divergences keeper.new) (K.faults keeper.old) (K.faults keeper.new))
-        (dialling (L.content dial.old) (L.content dial.new) (L.fault_count dial.old) (L.fault_count dial.new))) }
+        (dialling (L.content dial.old) (L.content dial.new) (L.counts dial.old) (L.counts dial.new))) }
 {
     match work {
         Work::Replaying(out, job, lanes) => Ok(replaying(rt, alloc, &out, job, door, lanes)?),

@@ -41,19 +41,19 @@ pub fn run<R: Clock + Wait + Threads + Sync, F: Files, H: Host, D: Door, K: Keep
         (F.faults files.old) (F.faults files.new)
         (hosting (H.content host.old) (H.content host.new) (H.faults host.old) (H.faults host.new)
         (keeping (K.runs keeper.old) (K.runs keeper.new) (K.divergences keeper.old) (K.divergences keeper.new) (K.faults keeper.old) (K.faults keeper.new))
-        (dialling (L.content dial.old) (L.content dial.new) (L.fault_count dial.old) (L.fault_count dial.new))) result)) }
+        (dialling (L.content dial.old) (L.content dial.new) (L.counts dial.old) (L.counts dial.new))) result)) }
     ensures faults { RunFaults result (F.faults files.old) (F.faults files.new)
         (hosting (H.content host.old) (H.content host.new) (H.faults host.old) (H.faults host.new)
         (keeping (K.runs keeper.old) (K.runs keeper.new) (K.divergences keeper.old) (K.divergences keeper.new) (K.faults keeper.old) (K.faults keeper.new))
-        (dialling (L.content dial.old) (L.content dial.new) (L.fault_count dial.old) (L.fault_count dial.new))) }
-    ensures dial { DialFaults result (dialling (L.content dial.old) (L.content dial.new) (L.fault_count dial.old) (L.fault_count dial.new)) }
+        (dialling (L.content dial.old) (L.content dial.new) (L.counts dial.old) (L.counts dial.new))) }
+    ensures dial { DialFaults result (dialling (L.content dial.old) (L.content dial.new) (L.counts dial.old) (L.counts dial.new)) }
     ensures asks { MayAsk (command_of words.now) (hosting (H.content host.old) (H.content host.new) (H.faults host.old) (H.faults host.new)
         (keeping (K.runs keeper.old) (K.runs keeper.new) (K.divergences keeper.old) (K.divergences keeper.new) (K.faults keeper.old) (K.faults keeper.new))
-        (dialling (L.content dial.old) (L.content dial.new) (L.fault_count dial.old) (L.fault_count dial.new))) }
+        (dialling (L.content dial.old) (L.content dial.new) (L.counts dial.old) (L.counts dial.new))) }
     ensures told { MayComeTo (command_of words.now)
         (hosting (H.content host.old) (H.content host.new) (H.faults host.old) (H.faults host.new)
         (keeping (K.runs keeper.old) (K.runs keeper.new) (K.divergences keeper.old) (K.divergences keeper.new) (K.faults keeper.old) (K.faults keeper.new))
-        (dialling (L.content dial.old) (L.content dial.new) (L.fault_count dial.old) (L.fault_count dial.new))) result }
+        (dialling (L.content dial.old) (L.content dial.new) (L.counts dial.old) (L.counts dial.new))) result }
 {
     let Some(command) = command_of(alloc, words)? else {
         return Err(Failure::BadCommand);

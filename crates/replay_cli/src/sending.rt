@@ -44,9 +44,9 @@ pub(crate) fn sending<R: Clock + Wait + Threads + Sync, D: Door, L: Dial>(
     requires out { length out.now ≤ 900 }
     requires job { IsSoundJob (seen job) }
     requires lanes { IsLaneCount lanes }
-    ensures done { IfOk result (λ plan. IsSent out.now (seen job) plan (dialling (L.content dial.old) (L.content dial.new) (L.fault_count dial.old) (L.fault_count dial.new))) }
-    ensures dial { DialFaults result (dialling (L.content dial.old) (L.content dial.new) (L.fault_count dial.old) (L.fault_count dial.new)) }
-    ensures fails { IfErr result (SendFails (seen job) (dialling (L.content dial.old) (L.content dial.new) (L.fault_count dial.old) (L.fault_count dial.new))) }
+    ensures done { IfOk result (λ plan. IsSent out.now (seen job) plan (dialling (L.content dial.old) (L.content dial.new) (L.counts dial.old) (L.counts dial.new))) }
+    ensures dial { DialFaults result (dialling (L.content dial.old) (L.content dial.new) (L.counts dial.old) (L.counts dial.new)) }
+    ensures fails { IfErr result (SendFails (seen job) (dialling (L.content dial.old) (L.content dial.new) (L.counts dial.old) (L.counts dial.new))) }
 {
     match run_remote(rt, alloc, job, door, dial, port, lanes) {
         Ok(desk) => planned(told_of(alloc, out, desk)),

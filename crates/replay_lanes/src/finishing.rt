@@ -36,7 +36,7 @@ pub fn run_alone<R: Clock + Wait, A: Answering, D: Door>(
     Ok(())
 }
 
-/// Answers what waits and runs what is left, one call at a time.
+/// Replays all that the lanes have left, call by call: those first that were started and not answered.
 pub fn finish<R: Clock + Wait, A: Answering, D: Door>(
     rt: &R,
     desk: &mut A,

@@ -29,7 +29,7 @@ pub fn run_lane<R: Clock + Wait, D: Door>(
     replay_lanes::run_lane(rt, desk, turn, door, &Own, lane)
 }
 
-/// Answers what waits and runs what is left, one call at a time.
+/// Replays all that the lanes have left, call by call: those first that were started and not answered.
 pub fn finish<R: Clock + Wait, D: Door>(rt: &R, desk: &mut Desk, door: &D) -> Result<(), Memory>
     requires { desk.old.stopped ≡ false }
     ensures all { OnOk result (AnswersAll desk.new.job.calls desk.new.history) }

@@ -8,4 +8,5 @@
 mod lanes;
 mod turns;
 
+pub use desk_files::{Door, SleepDoor};
 pub use lanes::{finish, run_all, run_lane};

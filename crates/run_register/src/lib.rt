@@ -4,7 +4,6 @@
 //! It touches nothing but the keeper that it is given.
 #![tactic(auto)]
 
-mod calls;
 mod comparison;
 mod keeper;
 mod kept;

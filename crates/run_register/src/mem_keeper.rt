@@ -9,9 +9,9 @@ ghost use Rattle.run_register.specs.Memory.{NamesRise, divergence_of, divergence
 ghost use Rattle.run_register.specs.Register.{accept_of, accepts_of, after_accepting, after_adding, divergence_cmp, entry_of, keeper_ending, name_cmp};
 ghost use Rattle.run_register.specs.Inside.{place_of};
 
-use crate::calls::Calls;
 use crate::keeper::Keeper;
 use crate::kept::{Accept, AcceptList, KeepErr, Kept, KeptList};
+use desk_files::Calls;
 use desk_values::{Bytes, Copied, List, Memory, Stamps, Txt};
 use std::alloc::Global;
 use std::cmp::Ordering;

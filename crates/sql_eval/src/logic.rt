@@ -24,7 +24,7 @@ impl Truth {
         }
     }
 
-    /// `AND`: false where one side is false, else unknown where one is unknown.
+    /// `AND`: one false side makes it false, whatever the other is; without one, an unknown side makes it unknown.
     pub fn and(self, other: Truth) -> Truth
         ensures { result ≡ conjunction self other }
     {
@@ -35,7 +35,7 @@ impl Truth {
         }
     }
 
-    /// `OR`: true where one side is true, else unknown where one is unknown.
+    /// `OR`: one true side makes it true, whatever the other is; without one, an unknown side makes it unknown.
     pub fn or(self, other: Truth) -> Truth
         ensures { result ≡ disjunction self other }
     {

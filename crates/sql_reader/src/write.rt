@@ -11,7 +11,7 @@ use desk_values::{Bytes, Memory};
 use std::alloc::Global;
 
 /// One text that spells the statement, one that some text spells: words of the language in upper case, names in
-/// lower case, one space between any two tokens, numbers without leading zeros, `<>` for what differs, no `;`, and
+/// lower case, tokens a single space apart, no zero before a number's first digit, `<>` for what differs, no `;`, and
 /// parentheses only where the tree needs them. It may have over 1,000 bytes, and then it is no [`Txt`].
 ///
 /// [`Txt`]: desk_values::Txt

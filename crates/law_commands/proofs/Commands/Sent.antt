@@ -23,8 +23,8 @@ link_rose (remote.OtherJob kept) before after is ends = absurd (cc is)
 link_rose (remote.Mismatch session place kept answered) before after is ends = absurd (cc is)
 link_rose remote.Memory before after is ends = absurd (cc is)
 
-unsent_end : (job : JobView) (cause : Unsent) (dial : Dialling) (result : ℕ) → IsUnsent job cause dial → ¬ HasRisen dial.faults_before dial.faults_after → result ≡ unsent_status cause → MayEndSent result
-unsent_end job unsent.Link dial result is still same = absurd (still (link_rose is.error dial.faults_before dial.faults_after is.told is.ends))
+unsent_end : (job : JobView) (cause : Unsent) (dial : Dialling) (result : ℕ) → IsUnsent job cause dial → ¬ HasRisen dial.counts_before.faults dial.counts_after.faults → result ≡ unsent_status cause → MayEndSent result
+unsent_end job unsent.Link dial result is still same = absurd (still (link_rose is.error dial.counts_before.faults dial.counts_after.faults is.told is.ends))
 unsent_end job unsent.Job dial result is still same = inr (inr (inr same))
 unsent_end job (unsent.Mismatch session place kept answered) dial result is still same = inr (inr (inr same))
 

@@ -152,7 +152,7 @@ MayEndSent n = (n ≡ 0) ⊎ ((n ≡ 1) ⊎ ((n ≡ 6) ⊎ (n ≡ 9)))
 
 abbrev pub SentRunsEndSo : Type 0
 SentRunsEndSo = (out : List ℕ) (job : JobView) (port : ℕ) (files after : FileMap) (fb fa : ℕ) (h : Hosting) (result : ℕ) (before printed : Option (List ℕ))
-    → ¬ HasRisen h.dial.faults_before h.dial.faults_after → Ends (Ok (ToSend out job port)) files after fb fa h result before printed → result ≢ 5 → MayEndSent result
+    → ¬ HasRisen h.dial.counts_before.faults h.dial.counts_after.faults → Ends (Ok (ToSend out job port)) files after fb fa h result before printed → result ≢ 5 → MayEndSent result
 
 -- whatever a command comes to, a register of reports stays one
 abbrev pub RegistersStayGood : Type 0

@@ -14,7 +14,7 @@ use Rattle.replay_job.specs.Job.{JobView}
 abbrev pub CameTo : JobView → State → Type 0
 CameTo job state = IsRun Gives (opening job.start) job.calls state
 
--- the rows of the one list are those of the other with each row number and each id replaced by its image, by ascending row
+-- the one list is the other, each number of a row and each id renamed to what the pairs give for it, and sorted by row
 pub record AreCarried (pairs : List IdPair) (captured replayed : List Image) : Type 0 where
   pub rows : AreBags (IsRenamedImage pairs) captured replayed
   pub ascending : IsRising replayed

@@ -75,6 +75,7 @@ impl PlainMachine {
         }
     }
 
+    /// A `SELECT`, on the table as the session sees it.
     pub(super) fn select(
         &self,
         session: usize,
@@ -100,6 +101,7 @@ impl PlainMachine {
         )
     }
 
+    /// An `INSERT`, whose row takes the next number.
     pub(super) fn insert(
         &self,
         session: usize,
@@ -126,6 +128,7 @@ impl PlainMachine {
         )
     }
 
+    /// An `UPDATE`, of the rows that the session sees and the condition picks.
     pub(super) fn update(
         &self,
         session: usize,
@@ -149,6 +152,7 @@ impl PlainMachine {
         )
     }
 
+    /// A `DELETE`, of the rows that the session sees and the condition picks.
     pub(super) fn delete(
         &self,
         session: usize,

@@ -22,7 +22,7 @@ use Rattle.remote_desk.specs.Desk.{RemoteView}
 use Rattle.remote_desk.specs.History.{plain}
 use Rattle.remote_target.specs.declared.remote_err.RemoteErr.{RemoteErr}
 use Rattle.remote_target.specs.declared.remote_err.RemoteErr.TheVariants as remote
-use Rattle.remote_target.specs.Ends.{GaveBack}
+use Rattle.remote_target.specs.Dialled.{DialsOnce}
 use Rattle.replay_cli.specs.declared.unsent.Unsent.TheVariants as unsent
 
 -- how the work of a task may fail: something is found to differ of what was served, an errand is not done, the host or the keeper
@@ -72,8 +72,8 @@ KeepFails errand k OutOfMemory = KeepsAll k MemoryShort
 
 -- the count of the dial rises where the link failed, and never falls
 abbrev pub DialFaults : Result Plan Failure → Dialling → Type 0
-DialFaults (Err (NotSent unsent.Link)) dial = HasRisen dial.faults_before dial.faults_after × (dial.faults_before ≤ dial.faults_after)
-DialFaults other dial = dial.faults_before ≤ dial.faults_after
+DialFaults (Err (NotSent unsent.Link)) dial = HasRisen dial.counts_before.faults dial.counts_after.faults × (dial.counts_before.faults ≤ dial.counts_after.faults)
+DialFaults other dial = dial.counts_before.faults ≤ dial.counts_after.faults
 
 -- what is told of a replay against another server
 pub record IsToldSent (out : List ℕ) (desk : RemoteView) (plan : Plan) : Type 0 where
@@ -96,7 +96,8 @@ SendFails job dial (Differs finding) = ⊥
 SendFails job dial (NotDone cause) = ⊥
 SendFails job dial (NotSent cause) = IsUnsent job cause dial
 SendFails job dial DeviceFault = ⊥
-SendFails job dial OutOfMemory = (dial.faults_before ≤ dial.faults_after) × GaveBack job.calls (Err remote.Memory) dial.before dial.after
+SendFails job dial OutOfMemory =
+    (dial.counts_before.faults ≤ dial.counts_after.faults) × DialsOnce job.calls (Err remote.Memory) dial.before dial.after dial.counts_before dial.counts_after
 
 -- how serving may fail: something is found to differ, the host fails, or memory is short
 abbrev pub ServeFails : StartView → ℕ → Option Connections → Option Connections → Failure → Type 0

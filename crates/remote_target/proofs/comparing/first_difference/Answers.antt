@@ -1,4 +1,4 @@
-use Rattle.std.proofs.Common.{ℕ, ◌+◌, ◌==◌, ◌&&◌, ◌∙◌, ap, length, refl, sym, below_more, arith}
+use Rattle.std.proofs.Common.{ℕ, refl, below_more, arith}
 use Rattle.law_histories.proofs.Items.{item_at}
 use Rattle.remote_target.specs.Agreement.{AgreesAt}
 use Rattle.remote_target.proofs.Compared.{decided}

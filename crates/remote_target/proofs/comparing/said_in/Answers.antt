@@ -1,4 +1,4 @@
-use Rattle.std.proofs.Common.{◌≡◌, ◌∙◌, ◌++◌, ap, length, subst, sym, arith}
+use Rattle.std.proofs.Common.{◌∙◌, ◌++◌, ap, length, subst, sym}
 use Rattle.std.specs.List.{flat_map}
 use Rattle.std.proofs.lemmas.List.{take_all}
 use Rattle.replay_job.specs.Job.{JobView}

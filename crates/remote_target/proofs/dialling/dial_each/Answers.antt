@@ -1,7 +1,9 @@
-use Rattle.std.proofs.Common.{◌≡◌, ◌∙◌, ◌++◌, ◌<◌, [], ◌∷◌, ap, get_or, length, map, refl, sym, arith}
+use Rattle.std.proofs.Common.{◌∙◌, ℕ, ◌+◌, ◌++◌, [], ◌∷◌, ap, get_or, length, length-append, map, refl, sym, arith}
 use Rattle.std.proofs.lemmas.List.{length-map, length-take, map-append, take_all, take_more}
 use Rattle.desk_schema.proofs.Distinct.{all-push}
 use Rattle.remote_target.specs.Inside.{IsFresh, said_on, session_on}
+use Rattle.desk_files.specs.Outside.{raised}
+use Rattle.remote_target.proofs.Dials.{risen_more}
 use Rattle.remote_target.proofs.Stepping.{as_far}
 use Rattle.remote_target.proofs.dialling.dial_each.Goals as goal
 
@@ -12,6 +14,9 @@ loop-session-init g c = record {
   content = refl;
   faults = refl;
   room = c.requires.room;
+  many = rw c.requires.none refl;
+  dialled = refl;
+  backs = refl;
 }
 
 pub loop-session-preserved : goal.loop-session-preserved
@@ -27,6 +32,9 @@ loop-session-preserved g c =
       content = c.in_ok-line.ensures.content ∙ inv.content;
       faults = c.in_ok-line.ensures.counts ∙ inv.faults;
       room = rw c.push_reserved.ensures.capacity inv.room;
+      many = ap length more ∙ length-append items _ ∙ ap (λ (n : ℕ). n + 1) inv.many;
+      dialled = c.in_ok-line.ensures.dialled ∙ ap raised inv.dialled ∙ sym (risen_more c.loop-session.session-index _);
+      backs = c.in_ok-line.ensures.backs ∙ inv.backs;
     }
 
 pub push_reserved-requires : goal.push_reserved-requires

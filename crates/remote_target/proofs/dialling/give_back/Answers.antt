@@ -1,6 +1,9 @@
-use Rattle.std.proofs.Common.{◌≡◌, [], ◌∷◌, true, false, length, map, subst, rules}
+use Rattle.std.proofs.Common.{◌≡◌, ◌∙◌, [], ◌∷◌, true, false, ap, length, length-append, map, refl, subst, sym, rules}
 use Rattle.std.proofs.lemmas.List.{map-append}
+use Rattle.desk_files.specs.Outside.{raised}
+use Rattle.remote_target.specs.Dialled.{risen_by}
 use Rattle.remote_target.specs.Inside.{CountsLines, refusal_on, said_on}
+use Rattle.remote_target.proofs.Dials.{risen_more}
 use Rattle.remote_target.proofs.Returning.{GaveSo, counted_more, given_more, none_counted, none_given}
 use Rattle.remote_target.proofs.Stepping.{none_left, one_taken}
 use Rattle.remote_target.proofs.dialling.give_back.Goals as goal
@@ -11,7 +14,9 @@ loop-line-init g c = record {
   finite = tt;
   rest = c.into_iter-line-iterator.ensures.into_iter_gives.0;
   gave = none_given (g.D.Dial.content c.args.dial.now);
-  counts = none_counted (g.D.Dial.fault_count c.args.dial.now);
+  counts = none_counted (g.D.Dial.counts c.args.dial.now).faults;
+  dialled = refl;
+  backs = refl;
 }
 
 pub loop-line-preserved : goal.loop-line-preserved
@@ -25,7 +30,9 @@ loop-line-preserved g c =
       finite = tt;
       rest = one_taken done c.loop-line.line-iterator.rest.items c.args.lines.items line c.next.new.self.rest.items c.in-Some.ensures.steps.0 inv.rest;
       gave = rw (map-append said_on done (line ∷ []), c.is_whole-whole.ensures) (given_more (map said_on done) (said_on line) _ _ c.back-given.result c.loop-line.whole (g.D.Dial.content c.args.dial.now) (g.D.Dial.content c.loop-line.dial) (g.D.Dial.content c.back-given.new.self) spoken inv.gave c.back-given.ensures.gives_back);
-      counts = rw (map-append refusal_on done (line ∷ [])) (counted_more (map refusal_on done) _ _ line.spoken.heard line.spoken.refusal (g.D.Dial.fault_count c.args.dial.now) (g.D.Dial.fault_count c.loop-line.dial) (g.D.Dial.fault_count c.back-given.new.self) spoken inv.counts c.back-given.ensures.counts);
+      counts = rw (map-append refusal_on done (line ∷ [])) (counted_more (map refusal_on done) _ _ line.spoken.heard line.spoken.refusal (g.D.Dial.counts c.args.dial.now).faults (g.D.Dial.counts c.loop-line.dial).faults (g.D.Dial.counts c.back-given.new.self).faults spoken inv.counts c.back-given.ensures.counts);
+      dialled = c.back-given.ensures.dialled ∙ inv.dialled;
+      backs = rw (length-append done (line ∷ [])) (c.back-given.ensures.backs ∙ ap raised inv.backs ∙ sym (risen_more (length done) _));
     }
 
 pub returns-then-whole-clause-gives : goal.returns-then-whole-clause-gives
@@ -39,7 +46,7 @@ pub returns-then-whole-clause-counts : goal.returns-then-whole-clause-counts
 returns-then-whole-clause-counts g c =
     let none : length c.loop-line.line-iterator.rest.items ≡ 0 = search rules in
     let all = none_left c.loop-line.yielded c.loop-line.line-iterator.rest.items c.args.lines.items none c.loop-line.invariant.rest in
-    subst (λ l. CountsLines (map refusal_on l) (g.D.Dial.fault_count c.args.dial.now) (g.D.Dial.fault_count c.loop-line.dial)) all c.loop-line.invariant.counts
+    subst (λ l. CountsLines (map refusal_on l) (g.D.Dial.counts c.args.dial.now).faults (g.D.Dial.counts c.loop-line.dial).faults) all c.loop-line.invariant.counts
 
 pub returns-else-whole-clause-gives : goal.returns-else-whole-clause-gives
 returns-else-whole-clause-gives g c =
@@ -52,4 +59,16 @@ pub returns-else-whole-clause-counts : goal.returns-else-whole-clause-counts
 returns-else-whole-clause-counts g c =
     let none : length c.loop-line.line-iterator.rest.items ≡ 0 = search rules in
     let all = none_left c.loop-line.yielded c.loop-line.line-iterator.rest.items c.args.lines.items none c.loop-line.invariant.rest in
-    subst (λ l. CountsLines (map refusal_on l) (g.D.Dial.fault_count c.args.dial.now) (g.D.Dial.fault_count c.loop-line.dial)) all c.loop-line.invariant.counts
+    subst (λ l. CountsLines (map refusal_on l) (g.D.Dial.counts c.args.dial.now).faults (g.D.Dial.counts c.loop-line.dial).faults) all c.loop-line.invariant.counts
+
+pub returns-then-whole-clause-backs : goal.returns-then-whole-clause-backs
+returns-then-whole-clause-backs g c =
+    let none : length c.loop-line.line-iterator.rest.items ≡ 0 = search rules in
+    let all = none_left c.loop-line.yielded c.loop-line.line-iterator.rest.items c.args.lines.items none c.loop-line.invariant.rest in
+    c.loop-line.invariant.backs ∙ ap (λ l. risen_by (length l) (g.D.Dial.counts c.args.dial.now).backs) all
+
+pub returns-else-whole-clause-backs : goal.returns-else-whole-clause-backs
+returns-else-whole-clause-backs g c =
+    let none : length c.loop-line.line-iterator.rest.items ≡ 0 = search rules in
+    let all = none_left c.loop-line.yielded c.loop-line.line-iterator.rest.items c.args.lines.items none c.loop-line.invariant.rest in
+    c.loop-line.invariant.backs ∙ ap (λ l. risen_by (length l) (g.D.Dial.counts c.args.dial.now).backs) all

@@ -1,11 +1,11 @@
-use Rattle.std.proofs.Common.{◌≡◌, ◌∙◌, ap, map, subst, sym}
+use Rattle.std.proofs.Common.{◌∙◌, ap, map, subst, sym}
 use Rattle.replay_history.specs.History.{AnswersAll}
 use Rattle.replay_job.specs.Job.{JobView}
 use Rattle.replay_lanes.specs.Sessions.{sessions}
 use Rattle.remote_desk.specs.Desk.{RemoteView}
 use Rattle.remote_desk.specs.History.{plain}
 use Rattle.remote_target.specs.Agreement.{heard_on}
-use Rattle.remote_target.specs.Inside.{IsEnded, IsRefused, refusal_on}
+use Rattle.remote_target.specs.Inside.{IsEnded, refusal_on}
 use Rattle.remote_target.proofs.Ending.{ended_whole, refused_broken, succeeded}
 use Rattle.remote_target.proofs.running.finished.Goals as goal
 

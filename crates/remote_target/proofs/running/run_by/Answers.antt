@@ -1,10 +1,13 @@
-use Rattle.std.proofs.Common.{◌≡◌, ◌∙◌, ap, length, map, take, arith}
+use Rattle.std.proofs.Common.{◌≡◌, ◌∙◌, ap, length, take, arith}
 use Rattle.std.proofs.lemmas.Result.{err_from_is_err_and}
 use Rattle.replay_history.specs.History.{AnswersAll}
 use Rattle.replay_job.specs.Job.{seen}
 use Rattle.replay_lanes.specs.Sessions.{sessions}
 use Rattle.remote_desk.specs.Desk.{RemoteView}
 use Rattle.remote_desk.specs.History.{plain}
+use Rattle.remote_target.specs.Dialled.{risen_by}
+use Rattle.remote_target.proofs.Dials.{all_once, first_once, none_once}
+use Rattle.remote_target.proofs.Returning.{rises_on}
 use Rattle.remote_target.proofs.Ending.{all_answer, all_counted, all_differ, all_jobs, all_returned, first_counted, first_returned, link_says, none_returned}
 use Rattle.remote_target.proofs.running.run_by.Goals as goal
 
@@ -48,7 +51,7 @@ pub returns-in-Ok-clause-ends : goal.returns-in-Ok-clause-ends
 returns-in-Ok-clause-ends g c =
     let back = rw c.dial_each.ensures.content at c.returned.ensures.returns in
     all_counted (seen c.args.job.now) c.replayed-lines.result.0.items c.returned.result (g.L.Dial.content c.args.dial.now) (g.L.Dial.content c.returned.new.dial) c.replayed-lines.ensures.sessions c.replayed-lines.result.1 c.replayed-lines.ensures.outcome
-    (g.L.Dial.fault_count c.args.dial.now) (g.L.Dial.fault_count c.dial_each.new.dial) (g.L.Dial.fault_count c.returned.new.dial) c.in-Ok.ensures.counts c.returned.ensures.counts back
+    (g.L.Dial.counts c.args.dial.now).faults (g.L.Dial.counts c.dial_each.new.dial).faults (g.L.Dial.counts c.returned.new.dial).faults c.in-Ok.ensures.counts c.returned.ensures.counts back
 
 pub returns-in-Ok-clause-differs : goal.returns-in-Ok-clause-differs
 returns-in-Ok-clause-differs g c =
@@ -79,9 +82,34 @@ returns-clause-ends g c =
     let first = c.dial_each.ensures.sessions ∙ ap (take (length lines)) (c.as_slice-2.ensures ∙ c.in_ok-sessions.ensures ∙ ap sessions c.as_slice.ensures) in
     let risen = c.in-Err.ensures.counts in
     first_counted (seen c.args.job.now) lines c.returned-in-Err.result (g.L.Dial.content c.args.dial.now) (g.L.Dial.content c.returned-in-Err.new.dial) c.dial_each.ensures.fresh first
-    (g.L.Dial.fault_count c.args.dial.now) (g.L.Dial.fault_count c.dial_each.new.dial) (g.L.Dial.fault_count c.returned-in-Err.new.dial) risen.0 risen.1 c.returned-in-Err.ensures.counts back
+    (g.L.Dial.counts c.args.dial.now).faults (g.L.Dial.counts c.dial_each.new.dial).faults (g.L.Dial.counts c.returned-in-Err.new.dial).faults risen.0 risen.1 c.returned-in-Err.ensures.counts back
 
 pub returns-clause-differs : goal.returns-clause-differs
 returns-clause-differs g c =
     let back = rw c.dial_each.ensures.content at c.returned-in-Err.ensures.returns in
     (link_says (seen c.args.job.now) c.dial_each.new.lines.items c.returned-in-Err.result (g.L.Dial.content c.args.dial.now) (g.L.Dial.content c.returned-in-Err.new.dial) (λ (desk : RemoteView). desk.job ≡ seen c.args.job.now) back).1
+
+pub returns-in_err-sessions-clause-once : goal.returns-in_err-sessions-clause-once
+returns-in_err-sessions-clause-once g c = let p = err_from_is_err_and c.from_residual.result c.from_residual.ensures.1 in rw (p.1, p.2) (none_once (seen c.args.job.now).calls (g.L.Dial.content c.args.dial.now) (g.L.Dial.counts c.args.dial.now))
+
+pub returns-in_err-lines-clause-once : goal.returns-in_err-lines-clause-once
+returns-in_err-lines-clause-once g c = let p = err_from_is_err_and c.from_residual-in_err-lines.result c.from_residual-in_err-lines.ensures.1 in rw (p.1, p.2) (none_once (seen c.args.job.now).calls (g.L.Dial.content c.args.dial.now) (g.L.Dial.counts c.args.dial.now))
+
+pub returns-in-Ok-clause-once : goal.returns-in-Ok-clause-once
+returns-in-Ok-clause-once g c =
+    let lines = c.replayed-lines.result.0.items in
+    let back = rw c.dial_each.ensures.content at c.returned.ensures.returns in
+    let each = c.as_slice-2.ensures ∙ c.in_ok-sessions.ensures ∙ ap sessions c.as_slice.ensures in
+    let counted = c.returned.ensures.dialled ∙ c.in-Ok.ensures.dialled ∙ ap (λ l. risen_by (length l) (g.L.Dial.counts c.args.dial.now).dials) each in
+    let backs = c.returned.ensures.backs ∙ ap (λ n. risen_by (length lines) n) c.dial_each.ensures.backs in
+    all_once (seen c.args.job.now).calls (g.L.Dial.content c.args.dial.now) (g.L.Dial.content c.returned.new.dial) (g.L.Dial.counts c.args.dial.now) (g.L.Dial.counts c.returned.new.dial) lines c.returned.result backs c.replayed-lines.result.1 c.replayed-lines.ensures.sessions counted back
+
+pub returns-clause-once : goal.returns-clause-once
+returns-clause-once g c =
+    let lines = c.dial_each.new.lines.items in
+    let back = rw c.dial_each.ensures.content at c.returned-in-Err.ensures.returns in
+    let each = ap length (c.as_slice-2.ensures ∙ c.in_ok-sessions.ensures ∙ ap sessions c.as_slice.ensures) in
+    let few = c.in-Err.ensures.few in
+    let backs = c.returned-in-Err.ensures.backs ∙ ap (λ n. risen_by (length lines) n) c.dial_each.ensures.backs in
+    let risen = rises_on _ _ _ c.in-Err.ensures.counts.0 c.in-Err.ensures.counts.1 c.returned-in-Err.ensures.counts.never_falls in
+    first_once (seen c.args.job.now).calls (g.L.Dial.content c.args.dial.now) (g.L.Dial.content c.returned-in-Err.new.dial) (g.L.Dial.counts c.args.dial.now) (g.L.Dial.counts c.returned-in-Err.new.dial) lines c.returned-in-Err.result backs (omega (arith, few, each)) (c.returned-in-Err.ensures.dialled ∙ c.in-Err.ensures.failed) risen back

@@ -1,4 +1,4 @@
-use Rattle.std.proofs.Common.{◌≡◌, ◌∙◌, ap, map, subst, sym}
+use Rattle.std.proofs.Common.{◌∙◌, ap, map, subst, sym}
 use Rattle.replay_job.specs.Job.{JobView}
 use Rattle.replay_lanes.specs.Sessions.{sessions}
 use Rattle.remote_target.specs.Agreement.{heard_on}

@@ -9,11 +9,15 @@ pub dial-tells : goal.dial-tells
 dial-tells g _ c = record {
   content = refl;
   fresh = IfOk-weaker c.result _ _ (λ line none. record { silent = tt; faultless = none }) c.ensures.fresh;
-  counts = Counts-of (accept_ending c.result) c.args.self.now c.new.self.now c.ensures.count;
+  counts = Counts-of (accept_ending c.result) c.args.self.now.faults c.new.self.now.faults c.ensures.count;
+  dialled = c.ensures.dialled;
+  backs = c.ensures.backs;
 }
 
 pub back-tells : goal.back-tells
 back-tells g _ c = record {
   gives_back = gives_untold None c.result;
-  counts = back_counts c.args.line.faults c.args.self.now c.new.self.now c.ensures.count;
+  counts = back_counts c.args.line.faults c.args.self.now.faults c.new.self.now.faults c.ensures.count;
+  dialled = c.ensures.dialled;
+  backs = c.ensures.backs;
 }

@@ -1,10 +1,8 @@
-use Rattle.std.proofs.Common.{◌<◌, ◌∙◌, Some, ap, length, map, refl, sym, set, arith}
+use Rattle.std.proofs.Common.{◌<◌, ◌∙◌, Some, ap, length, map, refl, sym, arith}
 use Rattle.std.proofs.lemmas.List.{length-map}
 use Rattle.std.proofs.lemmas.Option.{slice_get-get_or, slice_get_within}
-use Rattle.law_histories.proofs.Items.{item_at}
 use Rattle.replay_job.specs.Job.{JobView}
 use Rattle.replay_lanes.specs.Sessions.{sessions}
-use Rattle.remote_target.specs.Agreement.{heard_on}
 use Rattle.remote_target.specs.Inside.{session_on}
 use Rattle.remote_target.proofs.Sendings.{exchanged_agreed, exchanged_err, exchanged_job, exchanged_ok, exchanged_stopped, set_session}
 use Rattle.remote_target.proofs.sending.SendingAnswering.answer.Goals as goal
