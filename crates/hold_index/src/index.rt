@@ -50,17 +50,6 @@ impl HoldIndex {
         }
     }
 
-    /// One that is not kept: nothing is told. Takes no memory.
-    pub fn not_kept(alloc: Global) -> HoldIndex
-        ensures { (rows prints : ℕ → List ℕ) → AreTold result rows prints }
-    {
-        HoldIndex {
-            is_kept: false,
-            rows: Numbers::new(alloc),
-            prints: Numbers::new(alloc),
-        }
-    }
-
     /// Whether it is kept.
     pub fn is_kept(&self) -> bool
         ensures { result ≡ self.now.is_kept }

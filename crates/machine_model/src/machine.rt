@@ -12,7 +12,6 @@ ghost use Rattle.machine_model.specs.View.{others, plain_view, rows_seen, view_o
 ghost use Rattle.machine_model.specs.Request.{request_of};
 ghost use Rattle.machine_model.specs.Step.{Gives, after, after_made, committed_in, view_for};
 ghost use Rattle.machine_model.specs.Inside.Decision.{committed_by, done_so};
-ghost use Rattle.hold_index.specs.Told.{AreTold};
 ghost use Rattle.machine_model.specs.Inside.Holds.{IsBeside};
 ghost use Rattle.desk_values.specs.Good.{IsGoodReply};
 ghost use Rattle.machine_model.specs.Sound.{AreStanding, IsSoundState};
@@ -66,7 +65,6 @@ pub struct PlainMachine {
     next_values: Vec<u64>,
     sessions: Vec<Session>,
     holds: HoldIndex,
-    keeps_texts: bool,
     keys_differ: bool,
     statements: Statements,
     steps: u64,
@@ -87,7 +85,6 @@ impl Drop for PlainMachine {
             next_values: _next_values,
             sessions: _sessions,
             holds: _holds,
-            keeps_texts: _keeps_texts,
             keys_differ: _keys_differ,
             statements: _statements,
             steps: _steps,
@@ -150,29 +147,8 @@ impl PlainMachine {
     pub fn load(alloc: Global, start: &Start) -> Result<PlainMachine, Memory>
         ensures { IfOk result (λ machine. machine ≡ record { state = opening start.now; steps = 0 }) }
     {
-        let count = start.schema().tables().len();
-        PlainMachine::over(alloc, start, count, HoldIndex::new(alloc), true)
-    }
-
-    /// The same, but it keeps nothing beside its state: it lays all commits, looks through all holds and reads each text anew.
-    pub fn load_bare(alloc: Global, start: &Start) -> Result<PlainMachine, Memory>
-        ensures { IfOk result (λ machine. machine ≡ record { state = opening start.now; steps = 0 }) }
-    {
-        PlainMachine::over(alloc, start, 0, HoldIndex::not_kept(alloc), false)
-    }
-
-    /// A machine that keeps the versions of the first so many tables.
-    fn over(
-        alloc: Global,
-        start: &Start,
-        count: usize,
-        holds: HoldIndex,
-        keeps_texts: bool,
-    ) -> Result<PlainMachine, Memory>
-        requires { AreTold holds (λ session. []) (λ session. []) }
-        ensures { IfOk result (λ machine. machine ≡ record { state = opening start.now; steps = 0 }) }
-    {
         let start = start.copy()?;
+        let count = start.schema().tables().len();
         let versions = tables_of(alloc, start.rows().as_slice(), count)?;
         let indexes = indexes_of(alloc, &versions, 0)?;
         let next_row = start.next_row();
@@ -187,8 +163,7 @@ impl PlainMachine {
             next_row,
             next_values,
             sessions,
-            holds,
-            keeps_texts,
+            holds: HoldIndex::new(alloc),
             keys_differ: false,
             statements: Statements::new(alloc),
             steps: 0,
@@ -434,9 +409,7 @@ impl PlainMachine {
         ensures { self.new ≡ self.old }
     {
         if let Call::Sql(text, binds) = call {
-            if self.keeps_texts {
-                self.statements.learn(self.start.schema(), text, binds);
-            }
+            self.statements.learn(self.start.schema(), text, binds);
         }
     }
 

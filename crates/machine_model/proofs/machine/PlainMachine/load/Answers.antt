@@ -10,7 +10,7 @@ use Rattle.machine_model.proofs.Held.{nobody_holds}
 use Rattle.machine_model.proofs.SoundSteps.{opening_sound, tables_stand}
 use Rattle.machine_model.proofs.Storing.{told_within}
 use Rattle.machine_model.proofs.Telling.{opened, opening_is}
-use Rattle.machine_model.proofs.machine.PlainMachine.over.Goals as goal
+use Rattle.machine_model.proofs.machine.PlainMachine.load.Goals as goal
 
 pub tables_of-requires : goal.tables_of-requires
 tables_of-requires c = subst AreStanding (sym (c.as_slice.ensures ∙ c.rows.ensures.value)) (tables_stand (opening c.in_ok-start.start) 0 (opening_sound c.in_ok-start.start c.rows.ensures.valid))
@@ -27,10 +27,10 @@ invariant_of-result c =
     let told : AreTold 0 c.in_ok-start.start.rows [] tables = subst (λ (rows : List Image). AreTold 0 rows [] tables) (c.as_slice.ensures ∙ c.rows.ensures.value) c.in_ok-versions.ensures in
     let indexed : AreIndexes c.in_ok-indexes.indexes.items tables 0 [] = subst (λ (l : List History). AreIndexes c.in_ok-indexes.indexes.items l 0 []) c.deref.ensures.value c.in_ok-indexes.ensures in (
       subst (λ (s : State). Keeps (record { state = s; steps = 0 }) tables) (sym same) (opened c.in_ok-start.start tables c.rows.ensures.valid told),
-      c.new-3.ensures,
+      c.new-4.ensures,
       refl,
       subst (λ (l : List (List Image)). AreIndexes c.in_ok-indexes.indexes.items tables (length l) []) (sym c.new.ensures.items) indexed,
-      c.new-2.ensures c.in_ok-start.start.schema,
-      nobody_holds c.args.holds c.in_ok-sessions.sessions.items 64 c.in_ok-sessions.ensures c.requires,
+      c.new-3.ensures c.in_ok-start.start.schema,
+      nobody_holds c.new-2.result c.in_ok-sessions.sessions.items 64 c.in_ok-sessions.ensures c.new-2.ensures,
       λ is. absurd (true≢false (sym is)),
     )
