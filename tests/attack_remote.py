@@ -200,10 +200,12 @@ def request(stream):
 
 
 def broken(program, folder, calls, answered, ending):
-    """A replay of which one answer breaks off: it ends so, writes nothing, and each line has heard captured calls, in order, each once."""
+    """A replay of which one answer breaks off: it ends so, writes nothing, and each line has heard captured calls, in order, each once. In the
+    captured order no call is sent behind the one that broke off."""
+    way = WAYS[answered % len(WAYS)]
     with Breaking(answered, ending) as server:
-        words = ["run", "cap", "broken", "--mode", "off", *PACE, "--target", str(server.port)]
-        same(f"run, {answered} answered, then {ending[:60]!r}", ran(program, folder, words), (10, "link fault\n"))
+        words = ["run", "cap", "broken", *way, *PACE, "--target", str(server.port)]
+        same(f"run, {way}, {answered} answered, then {ending[:60]!r}", ran(program, folder, words), (10, "link fault\n"))
         # (a line that was dialled may not have been taken yet)
         until("each session has a line", lambda: len(server.heard) >= SESSIONS)
     same("files behind it", (folder / "broken").exists(), False)
@@ -211,11 +213,94 @@ def broken(program, folder, calls, answered, ending):
     for session, heard in enumerate(server.heard):
         wanted = [call for _, call, _ in calls_of(folder / "cap", session)]
         same(f"calls of line {session}", [word_of(call) for call in heard], [call.split(" ")[0] for call in wanted[:len(heard)]])
-    return sum(map(len, server.heard))
+    heard = sum(map(len, server.heard))
+    if "order" in way:
+        same("calls in the captured order", heard, answered + 1)
+    return heard
 
 
 def word_of(call):
     return next(word for word in ("connect", "sql", "disconnect") if word in call)
+
+
+# Answers to one call.
+
+
+def with_head(*fields, body=CONNECTED, first=b"HTTP/1.1 200 OK", end=b"\r\n"):
+    """An answer of such a first line, these fields, and a body."""
+    return end.join((first, *fields, b"", b"")) + body
+
+
+def long_head(size):
+    """An answer whose head has so many bytes."""
+    return with_head(b"Content-Length: 53", b"X: " + b"a" * (size - len(with_head(b"Content-Length: 53", b"X: ", body=b""))))
+
+
+LENGTH, NO_LENGTH, BAD_REQUEST = b"Content-Length: 53", b"Content-Length: 0", b"HTTP/1.1 400 Bad Request"
+CHUNKED = b"Transfer-Encoding: chunked"
+REPLY, REFUSED, FAULT = (0, "replayed 1 calls, 0 divergent\n"), (1, "replayed 1 calls, 1 divergent\n"), (10, "link fault\n")
+# An answer, and what a replay of one call comes to that is answered so: the reply, `refused 16`, or none.
+ANSWERS = (
+    ("a reply", with_head(LENGTH), REPLY),
+    ("an answer of HTTP/1.0", with_head(LENGTH, first=b"HTTP/1.0 200 OK"), REPLY),
+    ("lines ended by LF alone", with_head(LENGTH, end=b"\n"), REPLY),
+    ("a field in another case", with_head(b"content-LENGTH: 53"), REPLY),
+    ("ten digits", with_head(b"Content-Length: 0000000053"), REPLY),
+    ("bytes behind it", with_head(LENGTH) + b"HTTP/1.1", REPLY),
+    ("400", with_head(NO_LENGTH, body=b"", first=BAD_REQUEST), REFUSED),
+    ("400 with a reply", with_head(LENGTH, first=BAD_REQUEST), REFUSED),
+    ("400 without a length", with_head(body=b"", first=BAD_REQUEST), FAULT),
+    ("201 with a reply", with_head(LENGTH, first=b"HTTP/1.1 201 Created"), FAULT),
+    ("404", with_head(NO_LENGTH, body=b"", first=b"HTTP/1.1 404 Not Found"), FAULT),
+    ("409", with_head(NO_LENGTH, body=b"", first=b"HTTP/1.1 409 Conflict"), FAULT),
+    ("503", with_head(NO_LENGTH, b"Connection: close", body=b"", first=b"HTTP/1.1 503 Service Unavailable"), FAULT),
+    ("no length", with_head(), FAULT),
+    ("two lengths", with_head(LENGTH, LENGTH), FAULT),
+    ("chunks", with_head(CHUNKED, body=b"35\r\n" + CONNECTED), FAULT),
+    ("chunks beside a length", with_head(CHUNKED, LENGTH), REPLY),
+    ("no digit", with_head(b"Content-Length: "), FAULT),
+    ("11 digits", with_head(b"Content-Length: 00000000053"), FAULT),
+    ("a sign", with_head(b"Content-Length: +53"), FAULT),
+    ("134,217,728 bytes", with_head(b"Content-Length: 134217728"), FAULT),
+    ("134,217,729 bytes", with_head(b"Content-Length: 134217729"), FAULT),
+    ("no byte", b"", FAULT),
+    ("the end in the head", with_head(LENGTH, body=b"")[:-2], FAULT),
+    ("the end in the body", with_head(b"Content-Length: 54"), FAULT),
+    ("a request", with_head(LENGTH, first=b"POST /call HTTP/1.1"), FAULT),
+    ("no HTTP", b"connected\r\n\r\n" + CONNECTED, FAULT),
+    ("no JSON", with_head(b"Content-Length: 1", body=b"{"), FAULT),
+    ("a reply less a byte", with_head(b"Content-Length: 52"), FAULT),
+    ("JSON of no reply", with_head(b"Content-Length: 2", body=b"{}"), FAULT),
+    ("200 with no body", with_head(NO_LENGTH, body=b""), FAULT),
+    ("a head of 8,192 bytes", long_head(8192), REPLY),
+    ("a head of 8,193 bytes", long_head(8193), FAULT),
+    ("64 fields", with_head(LENGTH, *[b"X: a"] * 63), REPLY),
+    ("65 fields", with_head(LENGTH, *[b"X: a"] * 64), FAULT),
+)
+
+
+def answered(program, folder, name, answer, ending):
+    """A replay of one call that is answered so, by a server that then ends the connection."""
+    out = f"answered-{name.replace(' ', '-').replace('/', '-')}"
+    with Breaking(0, answer) as server:
+        words = ["run", "one", out, *PACE, "--target", str(server.port)]
+        same(f"run, answered by {name}", ran(program, folder, words), ending)
+    files = ["journal.txt", "maps.csv", "report.csv", "report.txt"] if ending != FAULT else []
+    same(f"files, answered by {name}", sorted(files_below(folder / out)) if (folder / out).exists() else [], files)
+    if files:
+        reply = "connected [] -" if ending == REPLY else NO_SUCH_ID
+        same(f"the reply, answered by {name}", replies_of((folder / out / "journal.txt").read_text()), {0: reply})
+
+
+def answers(program, folder):
+    """A capture of one call, replayed against a server that gives each of these answers in turn."""
+    same("a reply", len(CONNECTED), 53)
+    (folder / "one").mkdir()
+    (folder / "one" / "start.cap").write_text("start 1\nlevel 1\nsvc main rw\nnextrow 1\nsessions 1\nend\n")
+    (folder / "one" / "session-000.cap").write_text("session 1 0\n0 0 0 0 - connect tmain > connected [] -\nend\n")
+    for name, answer, ending in ANSWERS:
+        answered(program, folder, name, answer, ending)
+    return len(ANSWERS)
 
 
 @in_folder
@@ -229,9 +314,10 @@ def remote(program, folder):
         for at, way in enumerate(WAYS):
             differ += replayed(program, part, count, way, at)
             calls += count
-    breaks = [(answered, BREAKS[answered % len(BREAKS)]) for answered in range(40)] + [(3, ending) for ending in BREAKS]
-    heard = sum(broken(program, part, count, answered, ending) for answered, ending in breaks)
+    breaks = [(at, BREAKS[at % len(BREAKS)]) for at in range(40)] + [(3, ending) for ending in BREAKS]
+    heard = sum(broken(program, part, count, at, ending) for at, ending in breaks)
+    given = answers(program, part)
     with socket.create_server((HOST, 0)) as nobody:
         port = nobody.getsockname()[1]
     same("a run where nobody listens", ran(program, part, ["run", "cap", "broken", "--target", str(port)]), (10, "link fault\n"))
-    return f"{ROUNDS * len(WAYS)} replays of {calls} calls against a serve, {differ} calls differ; {len(breaks)} broken off behind {heard} calls"
+    return f"{ROUNDS * len(WAYS)} replays of {calls} calls against a serve, {differ} calls differ; {len(breaks)} broken off behind {heard} calls; {given} answers"

@@ -1,7 +1,7 @@
 //! Captures in memory, and runs over them.
 
 use case_text::txt;
-use desk_files::{Host, MemConns, MemDoor, MemFiles, MemHost, MemSink};
+use desk_files::{MemConns, MemDoor, MemFiles, MemHost, MemSink};
 use desk_values::{List, ReadErr, Stamps, Txt};
 use remote_link::Dial;
 use replay_cli::replay_main;
@@ -59,7 +59,7 @@ end
 ];
 
 /// The start of captures whose rows have drawn numbers.
-pub const ITEMS: &str = "start 1
+const ITEMS: &str = "start 1
 level 1
 seq s 10
 svc main rw
@@ -148,20 +148,8 @@ pub fn ran<R: Clock + Wait + Threads + Sync, L: Dial>(
     files: &mut MemFiles,
     dial: &mut L,
 ) -> Result<String, anyhow::Error> {
-    let mut host = MemHost::new(alloc, MemConns::new(alloc), Stamps::new(alloc))?;
-    called(rt, alloc, words, files, &mut host, dial)
-}
-
-/// The same, over connections of this host too.
-pub fn called<R: Clock + Wait + Threads + Sync, H: Host, L: Dial>(
-    rt: &R,
-    alloc: Global,
-    words: &str,
-    files: &mut MemFiles,
-    host: &mut H,
-    dial: &mut L,
-) -> Result<String, anyhow::Error> {
     let words = words_of(alloc, words)?;
+    let mut host = MemHost::new(alloc, MemConns::new(alloc), Stamps::new(alloc))?;
     let mut out = MemSink::new(alloc, LINE_ROOM, Stamps::new(alloc))?;
     let mut keeper = MemKeeper::new(alloc, KeptList::new(alloc), Stamps::new(alloc));
     let door = MemDoor::new(alloc);
@@ -170,7 +158,7 @@ pub fn called<R: Clock + Wait + Threads + Sync, H: Host, L: Dial>(
         alloc,
         words.as_slice(),
         files,
-        host,
+        &mut host,
         &door,
         &mut keeper,
         dial,
@@ -207,8 +195,8 @@ pub fn count_of(alloc: Global, files: &MemFiles) -> Result<u32, anyhow::Error> {
     Ok(count)
 }
 
-/// The words of a command.
-pub fn words_of(alloc: Global, words: &str) -> Result<List<Txt>, ReadErr> {
+// The words of a command.
+fn words_of(alloc: Global, words: &str) -> Result<List<Txt>, ReadErr> {
     let mut list = List::new(alloc);
     for word in words.split(' ') {
         list.push(txt(alloc, word)?)?;
