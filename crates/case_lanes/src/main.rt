@@ -1,7 +1,7 @@
 //! Lanes at doors of their own. Each run has two sessions whose calls come in pairs, and a door that holds each call of a pair until
 //! the other one comes: a run that takes one call after the other, in whatever order, does not get past it. Then a door that
-//! keeps the pauses that it is told, also of one lane that serves one session after the other, and a lane at a desk that is stopped. And two
-//! connections to a server, of which the first is held until the second comes too.
+//! keeps the pauses that it is told, also of one lane that serves one session after the other. And two connections to a server, of which the
+//! first is held until the second comes too.
 //!
 //! Enters: nothing. Leaves: lines, the same whatever the schedule: the status and the line of each run, and what its door saw. It touches
 //! the standard output, threads and the clock alone.
@@ -9,7 +9,6 @@
 
 mod captures;
 mod doors;
-mod stopped;
 
 use captures::{Named, PAIRS, PAUSED, files_of, guests, ran};
 use desk_files::{MemDoor, MemFiles};
@@ -45,8 +44,6 @@ fn main(rt: HostRuntime) -> Result<(), anyhow::Error> {
         &PAIRS,
     )?;
     served(&rt, alloc)?;
-    let events = stopped::events(&rt, alloc)?;
-    println!(rt; "a lane at a stopped desk: {events} events")?;
     Ok(())
 }
 
