@@ -34,14 +34,14 @@ def escaped(data, shown):
 LETTERS = "ABCDEFGHIJKLMNOPQRSTUVWXYZabcdefghijklmnopqrstuvwxyz0123456789"
 
 
-def output_text(data):
-    return escaped(data, LETTERS) or "-"
+def coded(data):
+    """Bytes in the form of the program of cases: one that is not printable as `\\N;`, and a byte N times as `\\N*c;`."""
+    runs = re.finditer(rb"([ -~])\1{%d,}|.|\n" % (SHORT_RUN - 1), data, re.DOTALL)
+    return "".join(f"\\{len(run[0])}*{run[1].decode()};" if len(run[0]) > 1 else plain(run[0][0]) for run in runs)
 
 
-def input_text(data):
-    runs = re.finditer(rb"(.)\1{%d,}|.|\n" % (SHORT_RUN - 1), data, re.DOTALL)
-    texts = (f"*{len(run[0])}({run[0][0]:02X})" if len(run[0]) > 1 else escaped(run[0], LETTERS) for run in runs)
-    return "".join(texts) or "-"
+def plain(byte):
+    return chr(byte) if 32 <= byte < 127 and byte != 92 else f"\\{byte};"
 
 
 def value_text(value):
@@ -294,20 +294,19 @@ def answer_text(answered):
     return "".join(line + "\r\n" for line in lines + [""]).encode() + answered.body
 
 
-def ending_of(chunking, data):
-    """How a conversation ends that no request closes, and the bytes that come. A number tells which read fails, from 0."""
-    if not chunking.isdigit():
-        return "ended", data
-    came = data[: LONGEST_READ * int(chunking)]
-    ends = int(chunking) > 0 and len(data) <= LONGEST_READ * (int(chunking) - 1)
-    return "ended" if ends else "source", came
+def came_of(number, data):
+    """The bytes that come of a client where the read with this number, from 0, fails."""
+    return data[: LONGEST_READ * number]
 
 
-def expected_lines(name, chunking, data):
-    end, came = ending_of(chunking, data)
-    conversation = Conversation(came)
-    yield f"{name} {end} {output_text(conversation.output)}"
-    for call, reply in conversation.said:
-        yield f" call {call_text(call)} > {reply_text(reply)}"
-    for call in conversation.turned:
-        yield f" turned {call_text(call)} stranger"
+def expected_line(number, data):
+    """What a `serve` of one connection comes to whose read with this number fails, as the program of cases tells it."""
+    conversation = Conversation(came_of(number, data))
+    lines, commits = ["session 1 0"], 0
+    for stamp, (call, reply) in enumerate(conversation.said):
+        numbered = reply[0][0] == "committed" and bool(reply[0][1])
+        lines.append(f"{stamp} 0 0 {commits} {commits + 1 if numbered else '-'} {call_text(call)} > {reply_text(reply)}")
+        commits += numbered
+    session = "".join(line + "\n" for line in [*lines, "end"])
+    told = f"0 served 1 connections, {len(conversation.said)} calls\n cap/session-000.cap={session} cap/start.cap={small_server.START}"
+    return f"{told} <{conversation.output.decode()}> @7080".replace("\n", "/").replace("\r", "^")

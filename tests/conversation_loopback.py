@@ -18,6 +18,7 @@ FIRST_PORT, LAST_PORT = 20000, 32000
 PATIENCE = 5.0
 WORKERS = 6
 SHORT = 300
+STEP, LAST = 97, 200
 TOGETHER = 64
 TOLD = 10
 
@@ -183,9 +184,16 @@ def jobs(cases):
     short = [case for case in sent if len(case[1]) <= SHORT]
     for way, those in (("whole", sent), ("cut", sent), ("bytes", short)):
         yield from ((1, f"{name}, {way}", alone, (name, data, way)) for name, data in those)
+    yield from ((1, f"{name}, bytes", alone, (name, data, "bytes")) for name, way, data in cases if way == "bytes")
     yield from in_groups([(name, data, "cut") for name, data in sent if not Conversation(data).server.touched])
-    cut = [(name, data) for name, chunking, data in cases if chunking == "every" and len(data) <= SHORT]
-    yield from in_groups([(name, data, place) for name, data in cut for place in range(1, len(data))])
+    cut = [(name, data) for name, chunking, data in cases if chunking == "every"]
+    yield from in_groups([(name, data, place) for name, data in cut for place in places(data)])
+
+
+def places(data):
+    """Where bytes are cut: everywhere, but of many at some places and near the end."""
+    size = len(data)
+    return range(1, size) if size <= SHORT else sorted({*range(1, size, STEP), *range(size - LAST, size)})
 
 
 def fault(job, ends, program, ports):
