@@ -1,5 +1,5 @@
-//! Cases of the register of runs, one on each line: which keeper is called, and its calls with `|` between, a report that is
-//! read, or two runs that are compared. For each line it prints what the calls answer.
+//! Cases of the register of runs, one on each line: which keeper is called, and its calls with `|` between. For each line it prints what
+//! the calls answer.
 //!
 //! - `memory FAILS RUNS CALLS`: a keeper in memory to which these runs were added, of whose calls those with these numbers fail
 //! - `faults CALLS`: one in memory, once for each of the calls, which fails
@@ -7,20 +7,14 @@
 //! - `file NAME CALLS`: one over a file
 //! - `shared NAME CALLS`: two over one file; a call is that of the first, or of the second behind `other `
 //! - `torn NAME NAME`: a file whose log is cut at many places of a write, each read by the second name
-//! - `report TEXT`: a report that is read
-//! - `altered TEXT`: the same report altered in each line
-//! - `compare LINES LINES ACCEPTED`: two runs, less what was accepted
-//! - `many COUNT`: two runs with so many lines each
 //!
 //! Enters: lines of the standard input. Leaves: as many lines. It touches the standard input and output, and files of its own
 //! where it runs. The expected lines were worked out by hand.
 #![tactic(auto)]
 
 mod calls;
-mod comparisons;
 mod databases;
 mod memory;
-mod reports;
 mod torn;
 
 use case_text::first_word;
@@ -43,10 +37,6 @@ fn answer(system: &HostRuntime, alloc: Global, line: &str) -> Result<String, any
         "database" => databases::in_memory(alloc, rest),
         "file" => databases::in_file(system, alloc, rest),
         "shared" => databases::shared(system, alloc, rest),
-        "torn" => torn::answer(system, alloc, rest),
-        "report" => reports::answer(alloc, rest),
-        "altered" => reports::altered(alloc, rest),
-        "many" => comparisons::many(alloc, rest),
-        _ => comparisons::answer(alloc, rest),
+        _ => torn::answer(system, alloc, rest),
     }
 }
