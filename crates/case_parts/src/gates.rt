@@ -1,4 +1,4 @@
-//! Cases of which call may go next in a replay; laws over random captures; and what a bench drives.
+//! Cases of which call may go next in a replay, and what a bench drives.
 //!
 //! - `case NAME`: a new case, with no calls
 //! - `fact SESSION SEEN NUMBER REFS WRITES`: a call more; its tables are `-`, `all`, or numbers joined by `,`
@@ -6,17 +6,13 @@
 //! - `required MODE K`: the stamps that a call requires, how many they are and the last
 //! - `gate MODE`: a gate, where no call is started; then `start K`, `answer K`, `ready` (all ready stamps), `pick S,S`,
 //!   `first`, `done S,S`, `mark`, `table T`
-//! - `random ROUNDS`: laws over random calls, events and gates
 //! - `bench MODE N`: how many events a gate of N calls took
 //!
 //! The expected lines were worked out by hand from what each mode means, independently of the gate.
 
 mod bench;
 mod fields;
-mod laws;
-mod plain;
 mod play;
-mod random;
 
 use crate::some;
 use anyhow::anyhow;
@@ -56,7 +52,6 @@ pub fn answer(alloc: Global, case: &mut Case, line: &str) -> Result<Option<Strin
         "fact" => noted(alloc, &mut case.facts, rest),
         "csv" => some(csv(alloc, &case.facts)?),
         "required" => some(required(alloc, &case.facts, rest)?),
-        "random" => some(laws::told(alloc, number_of(rest)?)?),
         "bench" => some(bench::told(alloc, rest)?),
         "gate" => gated(alloc, case, rest),
         _ => some(played_on(alloc, &mut case.play, word, rest)?),

@@ -1,40 +1,13 @@
-//! The services and the ids that a replay knows. Contracts see nothing of them.
+//! The ids that a replay knows. Contracts see nothing of them.
 
 use anyhow::anyhow;
 use capture_format::{FormErr, read_start};
-use desk_values::{Bytes, Call, Memory, Reply};
+use desk_values::{Memory, Reply};
 use divergence::{Class, class_of};
 use id_pairs::Id;
-use remap_ids::{IdMap, Remap, has_low_ids};
+use remap_ids::IdMap;
 use std::alloc::Global;
 use std::marker::Model;
-
-/// The services of a remap file.
-#[derive(Drop)]
-pub struct Services {
-    remap: Remap,
-}
-
-impl Model for Services {
-    ghost Value = { Unit {0} };
-
-    ghost view = { λ services. tt };
-}
-
-impl Services {
-    /// No services.
-    pub fn none(alloc: Global) -> Services {
-        Services {
-            remap: Remap::none(alloc),
-        }
-    }
-
-    /// The services of a file.
-    pub fn read(alloc: Global, bytes: &[u8]) -> Result<Services, anyhow::Error> {
-        let remap = Remap::read(alloc, bytes)?;
-        Ok(Services { remap })
-    }
-}
 
 /// The pairs of ids.
 #[derive(Drop)]
@@ -76,14 +49,6 @@ impl Ids {
         self.map.image(id)
     }
 
-    /// The call that is sent in the place of a captured one.
-    pub fn send(&self, services: &Services, call: &Call) -> Result<Call, anyhow::Error> {
-        if !has_low_ids(call) {
-            return Err(anyhow!("an id that no server gives out"));
-        }
-        Ok(self.map.send(&services.remap, call)?)
-    }
-
     /// How a replayed reply differs from the captured one.
     pub fn class(
         &self,
@@ -92,10 +57,5 @@ impl Ids {
         replayed: &Reply,
     ) -> Result<Class, Memory> {
         class_of(alloc, &self.map, captured, replayed)
-    }
-
-    /// The text of the learnt pairs.
-    pub fn text(&self) -> Result<Bytes, Memory> {
-        self.map.maps_csv()
     }
 }

@@ -2,7 +2,7 @@
 //!
 //! - `part sql`: the reader of SQL
 //! - `part classes`: how a replayed reply differs from the captured one
-//! - `part remaps`: remap files and maps of ids
+//! - `part remaps`: what a bench drives of the map of ids
 //! - `part gates`: which call may go next in a replay
 //!
 //! Enters: lines of the standard input. Leaves: lines. It touches the standard input and output alone. What the lines of a part
@@ -18,7 +18,6 @@ mod sql;
 
 use anyhow::anyhow;
 use gates::Case;
-use remaps::Replay;
 use std::alloc::Global;
 
 /// The part whose lines are answered, with what they told so far.
@@ -27,7 +26,7 @@ enum Part {
     None,
     Sql,
     Classes,
-    Remaps(Replay),
+    Remaps,
     Gates(Case),
 }
 
@@ -59,7 +58,7 @@ fn begun(alloc: Global, name: &str) -> Result<Part, anyhow::Error> {
     match name {
         "sql" => Ok(Part::Sql),
         "classes" => Ok(Part::Classes),
-        "remaps" => Ok(Part::Remaps(Replay::new(alloc))),
+        "remaps" => Ok(Part::Remaps),
         "gates" => Ok(Part::Gates(Case::new(alloc))),
         _ => Err(anyhow!("no such part")),
     }
@@ -74,7 +73,7 @@ fn answered_in(
         Part::None => Err(anyhow!("no part")),
         Part::Sql => some(sql::answer(alloc, line)?),
         Part::Classes => some(classes::answer(alloc, line)?),
-        Part::Remaps(replay) => some(remaps::answer(alloc, replay, line)?),
+        Part::Remaps => some(remaps::answer(alloc, line)?),
         Part::Gates(case) => gates::answer(alloc, case, line),
     }
 }

@@ -1,16 +1,14 @@
-//! Parts of the lines of files of cases, and what they stand for; numbers that look random.
+//! Parts of the lines of files of cases, and what they stand for.
 //!
-//! Enters: lines, a seed. Leaves: words, numbers, bytes, calls, and texts on one line. It touches memory alone.
+//! Enters: lines. Leaves: words, numbers, bytes, calls, and texts on one line. It touches memory alone.
 #![tactic(auto)]
 
 mod calls;
 mod escape;
-mod random;
 mod shown;
 mod words;
 
 pub use calls::call_of;
 pub use escape::{bytes_of_line, line_of_bytes};
-pub use random::Random;
 pub use shown::{numbers_text, stamp_text};
 pub use words::{first_word, number_of, small_number, stamps_of, txt, unescaped};
