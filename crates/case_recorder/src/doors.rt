@@ -7,7 +7,7 @@ use anyhow::anyhow;
 use capture_recorder::{
     CallDoor, CallErr, LockedDoor, Recorder, SaidList, SaidLists, TurnedList, TurnedLists,
 };
-use case_text::call_of;
+use case_text::{call_of, number_of};
 use desk_files::{Door, MemDoor};
 use desk_schema::Start;
 use desk_values::{Binds, Call, List, Memory, Reply, Txt};
@@ -15,24 +15,32 @@ use std::alloc::Global;
 use std::sync::{Mutex, Wait};
 use std::time::Clock;
 
-/// A clock that goes on by one at each reading.
+/// A clock that tells these moments, one at each reading. Without moments it goes on by one.
 #[derive(Drop)]
-struct CountingDoor {
-    read: Mutex<u64>,
+struct ToldDoor {
+    moments: Vec<u64>,
+    read: Mutex<usize>,
 }
 
-impl Door for CountingDoor {
+impl Door for ToldDoor {
     fn pass<R: Clock + Wait>(&self, _rt: &R, _k: u32, _micros: u64) {}
 
     fn now<R: Clock + Wait>(&self, rt: &R) -> u64 {
-        let mut read = self.read.lock(rt);
-        *read = read.saturating_add(1);
-        *read
+        let place = {
+            let mut read = self.read.lock(rt);
+            let place = *read;
+            *read = place.saturating_add(1);
+            place
+        };
+        if self.moments.is_empty() {
+            return (place as u64).saturating_add(1);
+        }
+        self.moments.get(place).copied().unwrap_or(0)
     }
 }
 
 /// What the lines of a script are answered, and what the doors and the recorder have put together then. Behind a first line `clock`
-/// the clock goes on at each reading; else it stands.
+/// the clock goes on at each reading, or tells the moments that stand there; else it stands.
 pub fn played<R: Clock + Wait>(
     rt: &R,
     alloc: Global,
@@ -40,14 +48,26 @@ pub fn played<R: Clock + Wait>(
     script: &[String],
 ) -> Result<String, anyhow::Error> {
     match script {
-        [first, rest @ ..] if first.as_str() == "clock" => {
-            let clock = CountingDoor {
-                read: Mutex::new(0),
-            };
+        [first, rest @ ..] if first.as_str().starts_with("clock") => {
+            let clock = clock_of(alloc, first.as_str())?;
             played_by(rt, alloc, start, rest, &clock)
         }
         _ => played_by(rt, alloc, start, script, &MemDoor::new(alloc)),
     }
+}
+
+// The clock of a line.
+fn clock_of(alloc: Global, line: &str) -> Result<ToldDoor, anyhow::Error> {
+    let mut moments = Vec::new(alloc);
+    if let Some((_, text)) = line.split_once(' ') {
+        for moment in text.split(',') {
+            moments.push(number_of(moment)?)?;
+        }
+    }
+    Ok(ToldDoor {
+        moments,
+        read: Mutex::new(0),
+    })
 }
 
 // The recorder is let go at one place.
