@@ -73,15 +73,15 @@ fn conns_of(alloc: Global, text: &str) -> Result<MemConns, Memory> {
     Ok(conns)
 }
 
-pub fn listened<H: Host>(host: &mut H, port: u16) -> &'static [u8] {
+fn listened<H: Host>(host: &mut H, port: u16) -> &'static [u8] {
     match host.listen(port) {
         Ok(()) => b"listens",
         Err(_) => b"failed",
     }
 }
 
-/// Takes a connection, sends back the first four bytes of it, and gives it back.
-pub fn served<H: Host>(host: &mut H) -> &'static [u8] {
+// Takes a connection, sends back the first four bytes of it, and gives it back.
+fn served<H: Host>(host: &mut H) -> &'static [u8] {
     match host.accept() {
         Ok(Some((mut input, mut output))) => {
             let said = echoed(&mut input, &mut output);

@@ -1,8 +1,8 @@
 //! Cases of calls that no command shows by itself, one on each line: what it is of, a word, and what the call is given.
 //! For each it prints what the call gives.
 //!
-//! Enters: lines of the standard input. Leaves: as many lines. It touches the standard input and output, folders of
-//! its own where it runs, and ports of 127.0.0.1. The expected values are worked out by hand from the forms and rules.
+//! Enters: lines of the standard input. Leaves: as many lines. It touches the standard input and output and folders of
+//! its own where it runs. The expected values are worked out by hand from the forms and rules.
 #![tactic(auto)]
 
 mod connections;
@@ -19,7 +19,6 @@ use case_text::first_word;
 use desk_files::{Sink, StdSink};
 use desk_values::{Bytes, List, ReadErr};
 use std::alloc::Global;
-use std::net::{Net, TcpListener, TcpStream};
 use std::rt;
 
 fn main(rt: HostRuntime) -> Result<(), anyhow::Error> {
@@ -34,7 +33,7 @@ fn main(rt: HostRuntime) -> Result<(), anyhow::Error> {
     Ok(())
 }
 
-fn append_answer<R: rt::Files + Net<Listener = TcpListener, Stream = TcpStream>>(
+fn append_answer<R: rt::Files>(
     system: &R,
     alloc: Global,
     line: &str,
@@ -44,7 +43,6 @@ fn append_answer<R: rt::Files + Net<Listener = TcpListener, Stream = TcpStream>>
     let (word, rest) = first_word(rest);
     match group {
         "system" => system::answer(system, alloc, word, rest, to),
-        "network" => network::answer(system, alloc, word, rest, to),
         _ => Ok(append_plain(alloc, group, word, rest, to)?),
     }
 }
@@ -60,6 +58,7 @@ fn append_plain(
         "value" => append_text(values::answer(alloc, word, rest), to),
         "error" => append_text(errors::answer(alloc, word), to),
         "reply" => append_text(replies::answer(alloc, word, rest), to),
+        "network" => Ok(network::answer(rest, to)?),
         "list" => lists::answer(alloc, word, rest, to),
         "connection" => connections::answer(alloc, word, rest, to),
         _ => devices::answer(alloc, word, rest, to),
