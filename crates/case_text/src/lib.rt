@@ -9,6 +9,6 @@ mod shown;
 mod words;
 
 pub use calls::call_of;
-pub use escape::{bytes_of_line, line_of_bytes};
+pub use escape::line_of_bytes;
 pub use shown::{numbers_text, stamp_text};
 pub use words::{first_word, number_of, small_number, stamps_of, txt, unescaped};
