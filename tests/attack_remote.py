@@ -292,6 +292,18 @@ def answered(program, folder, name, answer, ending):
         same(f"the reply, answered by {name}", replies_of((folder / out / "journal.txt").read_text()), {0: reply})
 
 
+def of_another_kind(program, folder):
+    """The replay of one call whose reply is of another kind than the captured one, which no server of the program gives."""
+    reply = compact({"draws": [], "made": None, "outcome": {"count": 1}})
+    with Breaking(0, as_answer(reply)) as server:
+        words = ["run", "one", "kind", *PACE, "--target", str(server.port)]
+        same("run, answered by another kind", ran(program, folder, words), REFUSED)
+    report = (folder / "kind" / "report.txt").read_text().split("\n")
+    same("the report, answered by another kind", report[2:3] + report[-4:], ["same 0", "shape 1", "0 0 0 shape", "end", ""])
+    told = (folder / "kind" / "report.csv").read_text().split("\n")[1:]
+    same("the record, answered by another kind", told, ["0,0,0,shape,connected [] -,count 1 [] -", ""])
+
+
 def answers(program, folder):
     """A capture of one call, replayed against a server that gives each of these answers in turn."""
     same("a reply", len(CONNECTED), 53)
@@ -300,6 +312,7 @@ def answers(program, folder):
     (folder / "one" / "session-000.cap").write_text("session 1 0\n0 0 0 0 - connect tmain > connected [] -\nend\n")
     for name, answer, ending in ANSWERS:
         answered(program, folder, name, answer, ending)
+    of_another_kind(program, folder)
     return len(ANSWERS)
 
 

@@ -1,4 +1,4 @@
-use desk_values::{Bytes, List, Memory, ReadErr};
+use desk_values::{Bytes, List, ReadErr};
 use std::alloc::Global;
 
 /// The text on one line, with `|` for each line feed. `Bad` where the bytes are no text.
