@@ -9,7 +9,7 @@ from pathlib import Path
 
 from attack_crowd import FINDS, STATEMENTS, call_json, reply_of
 from attack_program import HOST, PATIENCE, Client, Service, files_below, in_folder, ran, same, until
-from conversation_answers import compact
+from conversation_answers import call_of, call_text, compact, reply_json, reply_text
 
 SESSIONS, CALLS, ROUNDS = 6, 150, 4
 PACE = ("--think", "0", "--connect", "0")
@@ -316,6 +316,92 @@ def answers(program, folder):
     return len(ANSWERS)
 
 
+# Servers that answer otherwise than was captured.
+
+
+ITEMS = """start 1
+level 1
+seq s 10
+svc main rw
+svc report ro
+svc test rw
+table acct
+col id int -1000000 1000000 notnull
+col bal int -1000000 1000000 null
+table item
+col no seq s notnull
+col qty int 0 1000 null
+row 1 0 [i1,i100]
+row 2 0 [i2,i50]
+nextrow 3
+sessions 2
+end
+"""
+DRAWS = (
+    """session 1 0
+0 0 0 0 - connect tmain > connected [] -
+2 0 0 0 - sql tINSERT%20INTO%20item%20VALUES%20%28s.NEXTVAL%2C%205%29 [] > count 1 [d0.10] r3
+4 0 0 0 - sql tSELECT%20qty%20FROM%20item%20WHERE%20no%20%3D%20%3A1 [d0.10] > rows [i5] [] -
+end
+""",
+    """session 1 1
+1 0 0 0 - connect tmain > connected [] -
+3 0 0 0 - sql tINSERT%20INTO%20item%20VALUES%20%28s.NEXTVAL%2C%206%29 [] > count 1 [d0.11] r4
+end
+""",
+)
+TO_CONNECT, FIRST_DRAW, SECOND_DRAW = (("connected",), [], None), (("count", 1), [("draw", 0, 10)], 3), (("count", 1), [("draw", 0, 11)], 4)
+OTHERWISE = {
+    "another row": ((TO_CONNECT, FIRST_DRAW, (("rows", [[6]]), [], None)), (TO_CONNECT, SECOND_DRAW)),
+    "ids given twice": ((TO_CONNECT, FIRST_DRAW, (("rows", [[5]]), [], None)), (TO_CONNECT, FIRST_DRAW)),
+}
+
+
+class Scripted(Breaking):
+    """A server that gives each connection these replies in turn. It keeps each call with its reply."""
+
+    def __init__(self, replies):
+        super().__init__(0, b"")
+        self.replies = replies
+
+    def serve(self, stream, number):
+        with stream, contextlib.suppress(OSError):
+            for reply in self.replies[number]:
+                call = call_of(compact(request(stream)))
+                self.heard[number].append(f"{call_text(call)} > {reply_text(reply)}")
+                stream.sendall(as_answer(reply_json(reply)))
+
+
+def stored(name):
+    """What the program of cases `case_remote` tells of a replay of this name, whose lines answer so in memory; these were worked out by hand."""
+    lines = (Path(__file__).resolve().parent.parent / "crates/case_remote/stdout").read_text().split("\n")
+    first = next(place for place, line in enumerate(lines) if line.startswith(f"{name}: "))
+    ends = [place for place, line in enumerate(lines) if not line and place > first][:2]
+    return lines[first].partition(": ")[2], lines[first + 1 : ends[0]], lines[ends[0] + 1 : ends[1]]
+
+
+def otherwise(program, folder, name, replies):
+    """The same replay over the loopback."""
+    out = folder / name.replace(" ", "-")
+    with Scripted(replies) as server:
+        status, line = ran(program, folder, ["run", "draws", out.name, *PACE, "--target", str(server.port)])
+    ending, files, heard = stored(name)
+    same(f"run, {name}", f"{status} {line}", ending + "\n")
+    names = ("journal.txt", "report.txt", "report.csv", "maps.csv")
+    told = [text for file in names for text in (f"out/{file}", *(out / file).read_text().split("\n")[:-1])]
+    same(f"files, {name}", (told, sorted(files_below(out))), (files, sorted(names)))
+    same(f"calls, {name}", [text for said in server.heard for text in (*said, "given back")], heard)
+
+
+def otherwise_all(program, folder):
+    """A capture of two sessions that draw numbers, replayed against servers that answer otherwise."""
+    (folder / "draws").mkdir()
+    for file, text in zip(("start", "session-000", "session-001"), (ITEMS, *DRAWS)):
+        (folder / "draws" / f"{file}.cap").write_text(text)
+    for name, replies in OTHERWISE.items():
+        otherwise(program, folder, name, replies)
+
+
 @in_folder
 def remote(program, folder):
     """Random captures replayed against a `serve`, and against servers that break off at each place in turn."""
@@ -330,6 +416,7 @@ def remote(program, folder):
     breaks = [(at, BREAKS[at % len(BREAKS)]) for at in range(40)] + [(3, ending) for ending in BREAKS]
     heard = sum(broken(program, part, count, at, ending) for at, ending in breaks)
     given = answers(program, part)
+    otherwise_all(program, part)
     with socket.create_server((HOST, 0)) as nobody:
         port = nobody.getsockname()[1]
     same("a run where nobody listens", ran(program, part, ["run", "cap", "broken", "--target", str(port)]), (10, "link fault\n"))
