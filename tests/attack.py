@@ -4,7 +4,8 @@
 tests/attack.py PROGRAM [PART ..]   (PROGRAM: the built program replay_desk; without parts all of them, in this order)
 
 The end is 0 where nothing came that was not expected. What is made stands below the system's folder for temporary files, and is
-taken away again; no program that was started outlives the script. No test depends on a short delay: what is waited for may take a minute.
+taken away again; no program that was started outlives the script. No test depends on a short delay: what is waited for may take a minute, and what
+is timed has some seconds to spare.
 """
 import os
 import subprocess

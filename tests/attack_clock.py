@@ -87,4 +87,5 @@ def clock(program, folder):
         begun += [pool.submit(served, program, folder / "served"), pool.submit(against_a_server, program, folder / "server")]
         for done in begun:
             done.result()
-    return f"{len(runs)} runs of a pause of {GAP} s take as long as they keep of it; calls that came {GAP} s apart are recorded so, and replayed so, against a server too"
+    return (f"{len(runs)} runs of a pause of {GAP} s take as long as they keep of it; calls that came {GAP} s apart are recorded so, and replayed so, "
+            "against a server too")

@@ -16,9 +16,10 @@ from attack_program import CONNECT, PATIENCE, Client, Service, Wrong, in_folder,
 CALLS, PAUSE = 6, 0.6
 LINE = f"replayed {CALLS} calls, 0 divergent\n"
 SHOWN = re.compile(rf"\r(\d+) of {CALLS} calls started, (\d+) s")
-# Folders of captures, and whether the words name a remap file. What a session's file is called, a folder and another file may be called too.
-CAPTURES = (("cap", False), ("my-session-2", False), ("session-000", True), ("session-000.cap", False), ("session-1/session-001.cap", True))
+# Folders of captures, and options. What a session's file is called, a folder and another file may be called too.
 REMAP = "session-map.csv"
+MAPS = ("--remap", REMAP)
+CAPTURES = (("cap", ()), ("my-session-2", ()), ("session-000", MAPS), ("session-000.cap", ()), ("session-1/session-001.cap", MAPS))
 
 
 class Terminal:
@@ -61,15 +62,11 @@ def capture(folder):
     (folder / "session-000.cap").write_text("session 1 0\n" + "".join(calls) + "end\n")
 
 
-def words_of(name, remaps, out):
-    return ["run", name, out] + (["--remap", REMAP] if remaps else [])
-
-
-def shown_run(program, folder, name, remaps, out):
+def shown_run(program, folder, name, options, out):
     """A run whose standard error is a terminal tells there how many of its calls are started, line over line; its own line is on the standard output."""
     begun = time.monotonic()
     with Terminal() as terminal:
-        done = subprocess.run([program, *words_of(name, remaps, out)], cwd=folder, stdin=subprocess.DEVNULL, stdout=subprocess.PIPE,
+        done = subprocess.run([program, "run", name, out, *options], cwd=folder, stdin=subprocess.DEVNULL, stdout=subprocess.PIPE,
                               stderr=terminal.given, timeout=PATIENCE)
         took, text = time.monotonic() - begun, terminal.text()
     same(f"{name}", (done.returncode, done.stdout.decode()), (0, LINE))
@@ -81,10 +78,18 @@ def shown_run(program, folder, name, remaps, out):
     within(f"{name}: seconds of the last progress", told[-1][1], int((CALLS - 1) * PAUSE), took)
 
 
+def shown_run_elsewhere(program, folder, out):
+    """A run against a server tells as much."""
+    (folder / out).mkdir()
+    with Service(program, folder / out, 1) as service:
+        shown_run(program, folder, "cap", ("--target", str(service.port)), f"{out}-run")
+        service.finish(CALLS + 1)
+
+
 def unshown_run(program, folder, out):
     """A run whose standard output alone is a terminal tells nothing but its line there."""
     with Terminal() as terminal:
-        done = subprocess.run([program, *words_of("cap", False, out)], cwd=folder, stdin=subprocess.DEVNULL, stdout=terminal.given,
+        done = subprocess.run([program, "run", "cap", out], cwd=folder, stdin=subprocess.DEVNULL, stdout=terminal.given,
                               stderr=subprocess.PIPE, timeout=PATIENCE)
         same("a run without a terminal for its errors", (done.returncode, done.stderr.decode(), terminal.text()), (0, "", LINE))
 
@@ -92,7 +97,7 @@ def unshown_run(program, folder, out):
 def file_run(program, folder, out):
     """A run whose standard error is a file tells nothing there."""
     with open(folder / "told", "wb") as told:
-        done = subprocess.run([program, *words_of("my-session-2", False, out)], cwd=folder, stdin=subprocess.DEVNULL, stdout=subprocess.PIPE,
+        done = subprocess.run([program, "run", "my-session-2", out], cwd=folder, stdin=subprocess.DEVNULL, stdout=subprocess.PIPE,
                               stderr=told, timeout=PATIENCE)
     same("a run with a file for its errors", (done.returncode, done.stdout.decode(), (folder / "told").read_text()), (0, LINE, ""))
 
@@ -141,9 +146,9 @@ def terminal(program, folder):
     for name, _ in CAPTURES:
         capture(folder / name)
     (folder / REMAP).write_text("service,one,main\nservice,two,main\nservice,three,main\n")
-    tasks = [(shown_run, *one) for one in CAPTURES] + [(task,) for task in (unshown_run, file_run, short_runs, shown_service, unshown_service)]
+    tasks = [(shown_run, *one) for one in CAPTURES] + [(task,) for task in (shown_run_elsewhere, unshown_run, file_run, short_runs, shown_service, unshown_service)]
     with ThreadPoolExecutor(len(tasks)) as pool:
         begun = [pool.submit(task, program, folder, *rest, f"out-{number}") for number, (task, *rest) in enumerate(tasks)]
         for done in begun:
             done.result()
-    return f"{len(CAPTURES)} runs and a service that tell on a terminal how far they are; nothing elsewhere, and no result among it"
+    return f"{len(CAPTURES) + 1} runs and a service that tell on a terminal how far they are; nothing elsewhere, and no result among it"
