@@ -6,8 +6,8 @@ from concurrent.futures import ThreadPoolExecutor
 from attack_program import CONNECT, PATIENCE, Client, Process, Service, Wrong, in_folder, outcome, same, sql, within
 from conversation_answers import call_text
 
-# So many texts of so many bytes, all of them different or few. What is kept of all of them would take 55 MiB.
-CALLS, BYTES, FEW = 1200, 1000, 4
+# So many texts of so many bytes, all of them different or few. What is kept of all of them would take 36 MiB.
+CALLS, BYTES, FEW = 800, 1000, 4
 # How much more many may take than few, in KiB: the 16 MiB that README tells, and half as much for what lies free between.
 MOST_MORE = 24 * 1024
 START = "start 1\nlevel 1\nsvc main rw\ntable acct\ncol id int 0 9 notnull\ncol bal int 0 9 null\nnextrow 1\nsessions 1\nend\n"
