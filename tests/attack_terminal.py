@@ -146,7 +146,8 @@ def terminal(program, folder):
     for name, _ in CAPTURES:
         capture(folder / name)
     (folder / REMAP).write_text("service,one,main\nservice,two,main\nservice,three,main\n")
-    tasks = [(shown_run, *one) for one in CAPTURES] + [(task,) for task in (shown_run_elsewhere, unshown_run, file_run, short_runs, shown_service, unshown_service)]
+    others = (shown_run_elsewhere, unshown_run, file_run, short_runs, shown_service, unshown_service)
+    tasks = [(shown_run, *one) for one in CAPTURES] + [(task,) for task in others]
     with ThreadPoolExecutor(len(tasks)) as pool:
         begun = [pool.submit(task, program, folder, *rest, f"out-{number}") for number, (task, *rest) in enumerate(tasks)]
         for done in begun:
