@@ -4,7 +4,8 @@
 tests/attack.py PROGRAM [PART ..]   (PROGRAM: the built program replay_desk; without parts all of them, in this order)
 
 The end is 0 where nothing came that was not expected. What is made stands below the system's folder for temporary files, and is
-taken away again; no program that was started outlives the script. No test depends on a short delay: what is waited for may take a minute.
+taken away again; no program that was started outlives the script. No test depends on a short delay: what is waited for may take a minute, and what
+is timed has some seconds to spare.
 """
 import os
 import subprocess
@@ -13,16 +14,22 @@ import threading
 import time
 
 from attack_altered import altered
+from attack_clock import clock
+from attack_closing import register_not_closed
 from attack_crowd import crowd
 from attack_devices import devices, services_on_devices
 from attack_ended import ended_runs, ended_services
+from attack_kept_texts import kept_texts
 from attack_killed import killed
 from attack_limits import limits
 from attack_program import Wrong, same
 from attack_remote import remote
+from attack_side_by_side import side_by_side
 from attack_strangers import strangers
+from attack_terminal import terminal
 
-PARTS = (crowd, strangers, limits, devices, services_on_devices, killed, ended_runs, ended_services, altered, remote)
+PARTS = (crowd, strangers, limits, devices, services_on_devices, killed, ended_runs, ended_services, altered, remote, side_by_side, clock, terminal,
+         register_not_closed, kept_texts)
 
 
 def held():

@@ -28,6 +28,11 @@ def same(what, came, wanted):
         raise Wrong(f"{what}: {came!r}, not {wanted!r}"[:2000])
 
 
+def within(what, came, least, limit):
+    if not least <= came < limit:
+        raise Wrong(f"{what}: {came}, not from {least} to less than {limit}")
+
+
 def until(what, holds):
     """Waits until something holds."""
     ends = time.monotonic() + PATIENCE

@@ -117,7 +117,7 @@ impl<F: Files + Drop> Files for CountingFiles<'_, F> {
     fn read(&mut self, name: &Txt) -> Result<Bytes, FileErr> {
         let bytes = self.files.read(name)?;
         let calls = lines(bytes.as_slice()).saturating_sub(OTHER_LINES);
-        if name.as_str().contains("session-") {
+        if is_of_session(name.as_str()) {
             self.calls.fetch_add(calls as u64, Ordering::SeqCst);
         }
         Ok(bytes)
@@ -126,6 +126,15 @@ impl<F: Files + Drop> Files for CountingFiles<'_, F> {
     fn write(&mut self, name: &Txt, bytes: &[u8]) -> Result<(), WriteErr> {
         self.files.write(name, bytes)
     }
+}
+
+// Whether a path is that of a session's file. Its last part tells: a folder may have any name.
+fn is_of_session(path: &str) -> bool {
+    let name = match path.rsplit_once('/') {
+        Some((_, name)) => name,
+        None => path,
+    };
+    name.starts_with("session-") && name.ends_with(".cap")
 }
 
 fn lines(bytes: &[u8]) -> usize {
