@@ -3,14 +3,16 @@ import contextlib
 import time
 from concurrent.futures import ThreadPoolExecutor
 
-from attack_program import CONNECT, PATIENCE, Client, Process, Service, Wrong, in_folder, outcome, same, sql, within
-from conversation_answers import call_text
+from attack_program import CONNECT, PATIENCE, Client, Process, Service, in_folder, outcome, post, same, sql, within
+from conversation_answers import call_text, compact
 
 # So many texts of so many bytes, all of them different or few. What is kept of all of them would take 36 MiB.
 CALLS, BYTES, FEW = 800, 1000, 4
 # How much more many may take than few, in KiB: the 16 MiB that README tells, and half as much for what lies free between.
 MOST_MORE = 24 * 1024
 START = "start 1\nlevel 1\nsvc main rw\ntable acct\ncol id int 0 9 notnull\ncol bal int 0 9 null\nnextrow 1\nsessions 1\nend\n"
+# How many calls are sent before their answers are read.
+TOGETHER = 50
 # How often the memory of a run is looked at, in seconds. What it had at most is told until it ends.
 LOOK = 0.005
 
@@ -50,8 +52,12 @@ def peak_of_service(program, folder, different):
     with Service(program, folder, 1, into=f"served-{different}") as service:
         with Client(service.port) as client:
             same("a connect", client.ask(CONNECT), outcome("connected"))
-            for text in texts(different):
-                same("a row", client.ask(sql(text)), outcome("rows", []))
+            # (several at once, since each wait for an answer is long on a busy machine)
+            calls = [post(sql(text)) for text in texts(different)]
+            for place in range(0, CALLS, TOGETHER):
+                client.send(b"".join(calls[place : place + TOGETHER]))
+                for _ in calls[place : place + TOGETHER]:
+                    same("no row", client.answer(), (200, compact(outcome("rows", [])), False))
             peak = service.peak()
         service.finish(CALLS + 2)
     return peak
