@@ -9,7 +9,7 @@ from outside.changes import BadRecord, changed_start, read_remap
 from outside.files import Refusal, joined, read_capture
 from outside.legality import facts_of, legal_calls, required
 from outside.server import Server, View
-from outside.values import Reply, given_ids, is_id, write_reply
+from outside.values import is_id, write_reply
 
 # What no server knows: an id that has no image is sent with this added.
 UNKNOWN_ID = 2**40
@@ -118,6 +118,7 @@ class Replay:
         self.started, self.answered, self.waits = set(), set(), {}
         self.next_places = dict.fromkeys(job.of_session, 0)
         self.events, self.replies, self.classes, self.met = [], {}, {}, {}
+        self.learnt_at = []
         self.commits_differ = False
 
     def ready(self, stamp):
@@ -145,7 +146,12 @@ class Replay:
         self.started.add(stamp)
         self.waits.pop(stamp, None)
         self.next_places[self.job.calls[stamp].session] += 1
-        self.events.append(b"s %d %d" % (stamp, self.job.pause(stamp)))
+        self.note(b"s %d %d" % (stamp, self.job.pause(stamp)))
+
+    def note(self, event):
+        """Notes an event, and how many pairs were learnt with it."""
+        self.events.append(event)
+        self.learnt_at.append(len(self.map.learnt))
 
     def sent(self, stamp, learnt=None):
         """The call that is sent, by the first so many pairs of the map."""
@@ -181,7 +187,7 @@ class Replay:
             self.classes[stamp] = kind
             self.commits_differ |= "committed" in (captured.outcome[0], reply.outcome[0])
         self.answered.add(stamp)
-        self.events.append(b"a %d %s" % (stamp, write_reply(reply)))
+        self.note(b"a %d %s" % (stamp, write_reply(reply)))
 
     def run_alone(self, answer=None):
         """The one replay that a single lane makes; `answer` makes a call be answered."""
@@ -238,12 +244,3 @@ def same_images(id_map, was, now):
 
 def image_values(id_map, values, learnt):
     return None if values is None else tuple(id_map.image(value, learnt) for value in values)
-
-
-def good_answer(call, given):
-    """Whether a call binds no id that was never given."""
-    return call[0] != "sql" or all(not is_id(value) or value in given for value in call[2])
-
-
-def note_given(given, reply: Reply):
-    given.update(given_ids(reply))
