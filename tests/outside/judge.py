@@ -15,13 +15,13 @@ class Difference(Exception):
 
 
 def shown(data):
-    text = data.decode("utf-8", "backslashreplace")
+    text = data.decode("utf-8", "backslashreplace").replace("\r", "\\r").replace("\n", "\\n")
     return text if len(text) <= SHOWN else text[:SHOWN] + "..."
 
 
 def need(holds, *message):
     if not holds:
-        raise Difference(" ".join(piece if isinstance(piece, str) else shown(piece) for piece in message))
+        raise Difference("".join(piece if isinstance(piece, str) else shown(piece) for piece in message))
 
 
 def has_one_order(job, lanes):
@@ -33,8 +33,8 @@ def same_file(name, found, wanted):
     """Tells the first line that differs."""
     if found == wanted:
         return
-    need(found is not None, name, "is missing")
-    need(wanted is not None, name, "should not be there")
+    need(found is not None, f"{name} is missing")
+    need(wanted is not None, f"{name} should not be there")
     found_lines, wanted_lines = found.split(b"\n"), wanted.split(b"\n")
     for number, (has, wants) in enumerate(zip(found_lines, wanted_lines), 1):
         need(has == wants, f"{name} line {number}: found `", has, "`, wanted `", wants, "`")
@@ -88,12 +88,12 @@ def follow(replay, data, lanes):
     need(mode == replay.job.mode, f"journal.txt line 1: found the mode {mode}, wanted {replay.job.mode}")
     follower, lines = Follower(replay, lanes), data.split(b"\n")
     for number, (kind, stamp, what) in enumerate(events, 2):
-        where = f"journal.txt line {number}:"
+        where = f"journal.txt line {number}: "
         if kind == "s":
             follower.start(where, stamp)
         else:
             follower.answer(where, stamp, what)
-        need(lines[number - 1] == replay.events[-1], where, "found `", lines[number - 1], "`, wanted `", replay.events[-1], "`")
+        need(lines[number - 1] == replay.events[-1], where + "found `", lines[number - 1], "`, wanted `", replay.events[-1], "`")
     need(len(replay.answered) == len(replay.job.calls), f"journal.txt line {len(events) + 2}: not every call is answered")
 
 
