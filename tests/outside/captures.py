@@ -12,7 +12,8 @@ from outside.sentences import INTEGERS, SPACED, TEXTS, Taste, Writer, fitting_va
 from outside.server import Server
 from outside.values import BIND_LIMIT, GREATEST_INTEGER, LEAST_INTEGER, NULL, TEXT_LIMIT, given_ids, is_id
 
-RANGES = ((0, 5), (1, 4), (-3, 3), (LEAST_INTEGER, GREATEST_INTEGER), (LEAST_INTEGER, GREATEST_INTEGER), (0, 100), (-(10**6), 10**6), (5, 5))
+ALL_INTEGERS = (LEAST_INTEGER, GREATEST_INTEGER)
+RANGES = ((0, 5), (1, 4), (-3, 3), ALL_INTEGERS, ALL_INTEGERS, (0, 100), (-(10**6), 10**6), (5, 5))
 STRANGE_SERVICES = (b"main", b"report", b"test", b"nosuch", b"", b"MAIN", b"x y", b't,"')
 KEPT_TEXTS = 24
 
@@ -64,7 +65,8 @@ def random_services(chance, shape):
 
 def random_columns(chance, shape, start):
     names = chance.sample((b"a", b"b", b"c", b"d", b"e_", b"x1", b"t"), chance.choice((1, 2, 3, 3, 4)))
-    return tuple(Column(name, column_kind(chance, shape, start, place), place == 0 or chance.random() < 0.3) for place, name in enumerate(names))
+    return tuple(
+        Column(name, column_kind(chance, shape, start, place), place == 0 or chance.random() < 0.3) for place, name in enumerate(names))
 
 
 def column_kind(chance, shape, start, place):
@@ -224,7 +226,8 @@ ODD_REMAPS = (
     b'service,a"b,c', b"service," + b"a" * 1001 + b",b", b'"service,a,b',
 )
 ODD_CHANGES = (
-    b"level", b"level,3", b"", b"x", b"service,Main,rw", b"service,select,rw", b"range,a", b"level,\xff", b"level,01", b'"level",2', b'level,"2"',
+    b"level", b"level,3", b"", b"x", b"service,Main,rw", b"service,select,rw", b"range,a", b"level,\xff", b"level,01", b'"level",2',
+    b'level,"2"',
 )
 
 

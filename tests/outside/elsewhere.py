@@ -20,6 +20,7 @@ HEAD_LIMIT = 200
 BAD_REQUEST = "bad request"
 NEVER_GIVEN = refusal(16)
 GREATEST_ID = 2**64 - 1
+SHORT_OUTCOMES = (("rolledback",), ("marked",), ("connected",), ("disconnected",), ("count", GREATEST_ID), ("rows", ()), ("committed", ()))
 ODD_TEXTS = (b"\x00\x01\x1f\x7f", "ä\u2028\U0001f600".encode(), b'\\"/', b"\t\r\n\x08\x0c", b"z" * 1000, b"%41", b"a>b")
 
 
@@ -69,10 +70,11 @@ class Renamed(AsCaptured):
         if not is_id(value):
             return value
         while value not in self.names:
-            number = self.chance.choice((self.chance.randrange(1, 60), self.chance.randrange(2**39, 2**40), self.chance.randrange(GREATEST_ID)))
-            if (*value[:-1], number) not in self.used:
-                self.names[value] = (*value[:-1], number)
-                self.used.add(self.names[value])
+            least, limit = self.chance.choice(((1, 60), (2**39, 2**40), (0, GREATEST_ID + 1)))
+            name = (*value[:-1], self.chance.randrange(least, limit))
+            if name not in self.used:
+                self.names[value] = name
+                self.used.add(name)
         return self.names[value]
 
     def row(self, values):
@@ -128,7 +130,8 @@ def random_id(chance, ids):
 
 def random_value(chance, ids):
     return chance.choice((
-        NULL, ("integer", chance.choice(INTEGERS)), ("text", chance.choice(TEXTS + ODD_TEXTS)), random_id(chance, ids), random_id(chance, ids),
+        NULL, ("integer", chance.choice(INTEGERS)), ("text", chance.choice(TEXTS + ODD_TEXTS)), random_id(chance, ids),
+        random_id(chance, ids),
     ))
 
 
@@ -175,7 +178,7 @@ def other_outcome(chance, outcome, ids):
     if luck < 0.2:
         return ("refused", chance.choice(sorted(FAULTS)))
     if luck < 0.35:
-        return chance.choice((("rolledback",), ("marked",), ("connected",), ("disconnected",), ("count", GREATEST_ID), ("rows", ()), ("committed", ())))
+        return chance.choice(SHORT_OUTCOMES)
     if outcome[0] == "rows":
         return other_rows(chance, outcome[1], ids)
     if outcome[0] == "committed":
@@ -188,7 +191,8 @@ def other_answer(chance, reply, ids):
     if chance.random() < 0.08:
         return BAD_REQUEST
     outcome = other_outcome(chance, reply.outcome, ids) if chance.random() < 0.7 else reply.outcome
-    return collided(chance, Reply(outcome, reply.draws, reply.made), ids) if chance.random() < 0.5 else Reply(outcome, reply.draws, reply.made)
+    reply = reply._replace(outcome=outcome)
+    return collided(chance, reply, ids) if chance.random() < 0.5 else reply
 
 
 def collided(chance, reply, ids):
@@ -230,6 +234,12 @@ def answer_bytes(body, status=b"200 OK", fields=()):
     return b"\r\n".join([b"HTTP/1.1 " + status, *fields, b"Content-Length: %d" % len(body), b"", b""]) + body
 
 
+OTHER_FIELDS = (
+    b"Content-Type: text/plain", b"X-Content-Length: 7", b"Server: x", b"Connection: keep-alive", b"Transfer-Encoding: chunked", b"A:",
+)
+PHRASES = (b" OK", b" ", b"", b" or not, as it may be")
+
+
 def spelled_answer(chance, body, status):
     """An answer with its head in some spelling."""
     name = chance.choice((b"Content-Length", b"content-length", b"CONTENT-LENGTH", b"cOnTeNt-LeNgTh"))
@@ -237,12 +247,11 @@ def spelled_answer(chance, body, status):
     if chance.random() < 0.2:
         digits = digits.rjust(chance.randint(len(digits), 10), b"0")
     fields = [name + chance.choice((b": ", b": ", b":", b":  ", b":\t")) + digits + chance.choice((b"", b"", b" "))]
-    more = (b"Content-Type: text/plain", b"X-Content-Length: 7", b"Server: x", b"Connection: keep-alive", b"Transfer-Encoding: chunked", b"A:")
-    fields += [field for field in more if chance.random() < 0.15]
+    fields += [field for field in OTHER_FIELDS if chance.random() < 0.15]
     if chance.random() < 0.05:
         fields += [b"X-%d: y" % number for number in range(64 - len(fields))]
     chance.shuffle(fields)
-    first = chance.choice((b"HTTP/1.1 ", b"HTTP/1.1 ", b"HTTP/1.0 ")) + status + chance.choice((b" OK", b" ", b"", b" or not, as it may be"))
+    first = chance.choice((b"HTTP/1.1 ", b"HTTP/1.1 ", b"HTTP/1.0 ")) + status + chance.choice(PHRASES)
     return (b"\r\n" if chance.random() < 0.9 else b"\n").join([first, *fields, b"", b""]) + body
 
 
@@ -259,9 +268,11 @@ def bytes_of(chance, answer):
 
 NO_OUTCOMES = (
     '{"count":-1}', '{"count":1.0}', '{"count":18446744073709551616}', '{"count":"1"}', '{"refused":0}', '{"refused":17}', '{"refused":35}',
-    '{"refused":"20"}', '{"connected":false}', '{"connected":1}', "{}", "[]", "null", '{"count":1,"marked":true}', '{"Count":1}', '{"rows":[[]]}',
+    '{"refused":"20"}', '{"connected":false}', '{"connected":1}', "{}", "[]", "null", '{"count":1,"marked":true}', '{"Count":1}',
+    '{"rows":[[]]}',
     '{"rows":[1]}', '{"rows":{}}', '{"rows":[[true]]}', '{"rows":[[1.5]]}', '{"rows":[[9223372036854775808]]}', '{"rows":[[{"row":-1}]]}',
-    '{"rows":[[{"row":1,"x":1}]]}', '{"rows":[[{"draw":1}]]}', '{"rows":[[{"draw":1,"seq":4294967296}]]}', '{"rows":[["' + "a" * 1001 + '"]]}',
+    '{"rows":[[{"row":1,"x":1}]]}', '{"rows":[[{"draw":1}]]}', '{"rows":[[{"draw":1,"seq":4294967296}]]}',
+    '{"rows":[["' + "a" * 1001 + '"]]}',
     '{"rows":[["\\ud800"]]}', '{"committed":[{"now":[],"row":1,"table":0}]}', '{"committed":[{"now":[1],"row":1,"table":32}]}',
     '{"committed":[{"now":[1],"row":1}]}', '{"committed":[{"now":null,"row":2,"table":0},{"now":null,"row":1,"table":0}]}',
     '{"committed":[{"now":null,"row":1,"table":0},{"now":null,"row":1,"table":0}]}', '{"committed":true}',
@@ -272,8 +283,10 @@ NO_STATUSES = (b"100 X", b"199 X", b"201 X", b"204 X", b"206 X", b"301 X", b"401
 def body_that_is_no_reply(chance, good):
     outcome = chance.choice(NO_OUTCOMES).encode()
     return chance.choice((
-        b"", good[:chance.randrange(len(good))], good + b"x", good + good, b"[" + good + b"]", good[:-1] + b',"x":1}', b"null", b'{"connect":"main"}',
-        b'{"made":null,"outcome":{"count":1}}', b'{"draws":[1],"made":null,"outcome":{"count":1}}', b'{"draws":[],"made":1,"outcome":{"count":1}}',
+        b"", good[:chance.randrange(len(good))], good + b"x", good + good, b"[" + good + b"]", good[:-1] + b',"x":1}', b"null",
+        b'{"connect":"main"}',
+        b'{"made":null,"outcome":{"count":1}}', b'{"draws":[1],"made":null,"outcome":{"count":1}}',
+        b'{"draws":[],"made":1,"outcome":{"count":1}}',
         b'{"draws":[{"row":1}],"made":null,"outcome":{"count":1}}', *[b'{"draws":[],"made":null,"outcome":%s}' % outcome] * 12,
     ))
 
@@ -282,8 +295,10 @@ def head_that_is_none(chance, body):
     first, length = b"HTTP/1.1 200 OK\r\n", b"Content-Length: %d\r\n" % len(body)
     return chance.choice((
         first + b"\r\n", first + b"A: b\r\n\r\n", first + length + length + b"\r\n", first + length + length.lower() + b"\r\n",
-        first + b"Content-Length: +%d\r\n\r\n" % len(body), first + b"Content-Length: 99999999999\r\n\r\n", first + b"Content-Length: \r\n\r\n",
-        first + b"Content-Length: 134217729\r\n\r\n", first + b"Content-Length: %011d\r\n\r\n" % len(body), b"HTTP/2 200 OK\r\n" + length + b"\r\n",
+        first + b"Content-Length: +%d\r\n\r\n" % len(body), first + b"Content-Length: 99999999999\r\n\r\n",
+        first + b"Content-Length: \r\n\r\n",
+        first + b"Content-Length: 134217729\r\n\r\n", first + b"Content-Length: %011d\r\n\r\n" % len(body),
+        b"HTTP/2 200 OK\r\n" + length + b"\r\n",
         b"POST /call HTTP/1.1\r\n" + length + b"\r\n", first + length + b"no field\r\n\r\n", first + length + b"X: y\r\n" * 64 + b"\r\n",
         first + length + b"A: " + b"q" * 9000, b"a" * 9000, first + b"Content-Length : %d\r\n\r\n" % len(body),
         first + b"Transfer-Encoding: chunked\r\n\r\n",

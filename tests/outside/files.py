@@ -12,7 +12,8 @@ from outside.schema import (
 )
 from outside.statements import KEYWORDS
 from outside.values import (
-    GREATEST_SEQUENCE, TABLE_LIMIT, Malformed, Reply, read_call, read_integer, read_number, read_reply, read_values, write_call, write_reply,
+    GREATEST_SEQUENCE, TABLE_LIMIT, Malformed, Reply, read_call, read_integer, read_number, read_reply, read_values, write_call,
+    write_reply,
     write_values,
 )
 
@@ -248,7 +249,8 @@ def read_captured(fields, session, place, version):
         raise Malformed
     middle = fields.index(b">", 5)
     return CapturedCall(
-        session, place, read_number(fields[0], 0, STAMP_LIMIT), read_number(fields[1], 0, TIME_LIMIT), read_number(fields[2], 0, TIME_LIMIT),
+        session, place, read_number(fields[0], 0, STAMP_LIMIT), read_number(fields[1], 0, TIME_LIMIT),
+        read_number(fields[2], 0, TIME_LIMIT),
         read_number(fields[3]), None if fields[4] == b"-" else read_number(fields[4], 1), read_call(fields[5:middle]),
         read_reply(fields[middle + 1:], version),
     )

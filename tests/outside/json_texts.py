@@ -96,14 +96,17 @@ def call_of(data):
 
 # Bodies that are no call.
 NO_CALLS = tuple(text.encode() for text in (
-    "", "{}", "[]", "1", '"x"', '{"connect":1}', '{"connect":"main","x":1}', '{"disconnect":false}', '{"disconnect":null}', '{"disconnect":1}',
+    "", "{}", "[]", "1", '"x"', '{"connect":1}', '{"connect":"main","x":1}', '{"disconnect":false}', '{"disconnect":null}',
+    '{"disconnect":1}',
     '{"sql":1}', '{"binds":[1]}', '{"sql":"COMMIT","binds":[1.0]}', '{"sql":"COMMIT","binds":[1e0]}', '{"sql":"COMMIT","binds":[true]}',
     '{"sql":"COMMIT","binds":[[1]]}', '{"sql":"COMMIT","binds":{}}', '{"sql":"COMMIT","binds":null}', '{"sql":"COMMIT","binds":[{}]}',
     '{"sql":"COMMIT","binds":[{"row":-1}]}', '{"sql":"COMMIT","binds":[{"row":1,"draw":1}]}', '{"sql":"COMMIT","binds":[{"draw":1}]}',
     '{"sql":"COMMIT","binds":[9223372036854775808]}', '{"sql":"COMMIT","binds":[-9223372036854775809]}',
     '{"sql":"COMMIT","binds":[{"draw":1,"seq":4294967296}]}', '{"sql":"COMMIT","binds":[' + ",".join(["1"] * 17) + "]}",
-    '{"connect":"' + "a" * 1001 + '"}', '{"sql":"' + "é" * 501 + '"}', '{"connect":"main"} x', '{"connect":"\\ud800"}', "{'connect':'main'}",
-    '{"connect":"main",}', '\ufeff{"disconnect":true}', '{"Connect":"main"}', '{"sql":"COMMIT","binds":[01]}', '{"sql":"COMMIT","binds":[+1]}',
+    '{"connect":"' + "a" * 1001 + '"}', '{"sql":"' + "é" * 501 + '"}', '{"connect":"main"} x', '{"connect":"\\ud800"}',
+    "{'connect':'main'}",
+    '{"connect":"main",}', '\ufeff{"disconnect":true}', '{"Connect":"main"}', '{"sql":"COMMIT","binds":[01]}',
+    '{"sql":"COMMIT","binds":[+1]}',
     '{"connect":"a\nb"}', '{"sql":"COMMIT","binds":[-0]}',
 ))
 # Bodies that are a call at the edge of what is one.

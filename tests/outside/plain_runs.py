@@ -58,7 +58,8 @@ def expect(bench, words, ending, files):
 
 
 def same_ending(found, wanted):
-    need(found == (wanted[0], wanted[1] + b"\n"), f"found status {found[0]} and `", found[1], f"`, wanted status {wanted[0]} and `", wanted[1], "`")
+    status, line = wanted
+    need(found == (status, line + b"\n"), f"found status {found[0]} and `", found[1], f"`, wanted status {status} and `", line, "`")
 
 
 def check_run(bench, options, lanes, words):
@@ -103,7 +104,8 @@ def long(chance, bench):
     """Captures with few that are refused, and with a theme."""
     options, lanes = random_options(chance, 0.15)
     shape = random_shape(
-        chance, chance.choice((30, 40, 60, 100)), chance.choice((2, 3, 4, 5)), calm=True, theme=chance.choice(("holds", "holds", "spaces", "draws", "")),
+        chance, chance.choice((30, 40, 60, 100)), chance.choice((2, 3, 4, 5)), calm=True,
+        theme=chance.choice(("holds", "holds", "spaces", "draws", "")),
         likes_by_key=chance.random() < 0.3, likes_one_moment=chance.random() < 0.15, likes_ids=chance.random() < 0.3)
     replayed(chance, bench, shape, options, lanes)
 

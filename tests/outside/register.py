@@ -91,9 +91,8 @@ class Register:
 
 def random_report(chance, calls):
     kinds = CLASSES if chance.random() < 0.7 else ("images", "shape")
-    lines = [
-        (stamp, chance.choice((0, 1, 2, 4294967295)), chance.choice((0, 1, 5)), chance.choice(kinds)) for stamp in range(calls) if chance.random() < 0.4
-    ]
+    stamps = [stamp for stamp in range(calls) if chance.random() < 0.4]
+    lines = [(stamp, chance.choice((0, 1, 2**32 - 1)), chance.choice((0, 1, 5)), chance.choice(kinds)) for stamp in stamps]
     return Report(calls, lines).write()
 
 

@@ -102,7 +102,8 @@ class IdMap:
 
 
 class Met(NamedTuple):
-    """What a call met: how many pairs were learnt, the view, the call that was sent, and whether its session was clean and no commit differed."""
+    """What a call met: how many pairs were learnt, the view, and the call that was sent. It is plain where its session was clean and no
+    commit had differed."""
 
     learnt: int
     view: View

@@ -27,8 +27,10 @@ ODD = tuple((
     "SELECT é FROM {}", "ROLLBACK TO", "SAVEPOINT", "SELECT COUNT(*), 1 FROM {}", "SELECT a" + "b" * 30 + " FROM {}", "SELECT a1 FROM {}",
     "SELECT 1 < > 2 FROM {}", "SELECT 1\x0bFROM {}", "SELECT COUNT(*) FROM {} FOR UPDATE", "SELECT 1 = 1 = 1 FROM {}",
     "SELECT 1 FROM {} WHERE 1 IS NULL IS NULL", "SELECT NULL IS NULL FROM {}", "SET TRANSACTION READ WRITE", "SELECT 1+1FROM {}",
-    "SELECT 'a'FROM {}", "SELECT rowid FROM {} ORDER BY rowid", "SELECT select FROM {}", "UPDATE {} SET id = 3 - id", "COMMIT;;", "SELECT 1",
-    "SELECT * FROM {} WHERE NULL", "SELECT * FROM {} WHERE NOT NULL", "SELECT SUM(1), COUNT (*) FROM {} WHERE 1 = 2", "COMMIT;", "SELECT :16 FROM {}",
+    "SELECT 'a'FROM {}", "SELECT rowid FROM {} ORDER BY rowid", "SELECT select FROM {}", "UPDATE {} SET id = 3 - id", "COMMIT;;",
+    "SELECT 1",
+    "SELECT * FROM {} WHERE NULL", "SELECT * FROM {} WHERE NOT NULL", "SELECT SUM(1), COUNT (*) FROM {} WHERE 1 = 2", "COMMIT;",
+    "SELECT :16 FROM {}",
 ))
 TEXT_LIMIT = 1000
 
@@ -149,7 +151,8 @@ class Writer:
             return "(" + self.condition(columns, depth - 1) + ")"
         kind = self.some_kind(columns)
         if luck < 0.42:
-            return " ".join((self.expression(kind, columns, depth - 1), self.word("IS"), self.one_of("", self.word("NOT")), self.word("NULL")))
+            words = (self.word("IS"), self.one_of("", self.word("NOT")), self.word("NULL"))
+            return " ".join((self.expression(kind, columns, depth - 1), *words))
         signs = SIGNS if kind[0] in ("integer", "text") or self.lucky(0.03) else ("=", "=", "<>")
         space, sign = self.space(), self.chance.choice(signs)
         return space.join((self.expression(kind, columns, depth - 1), sign, self.expression(kind, columns, depth - 1)))
@@ -312,7 +315,8 @@ class Writer:
         column = self.chance.choice(table.columns)
         if self.lucky(0.4):
             return self.name(column.name)
-        return self.expression(self.one_of(kind_of(column), kind_of(column), ("row",), ("null",)), table.columns, self.chance.choice((0, 1, 2)))
+        kind = self.one_of(kind_of(column), kind_of(column), ("row",), ("null",))
+        return self.expression(kind, table.columns, self.chance.choice((0, 1, 2)))
 
     def order_key(self, table):
         sortable = [column for column in table.columns if column.kind[0] != "draw"]

@@ -26,7 +26,8 @@ PHRASES = {
 }
 # Requests after which the connection stays, each with its answer's status.
 STAYING = (
-    (b"GET /nothing HTTP/1.1\r\n\r\n", 404), (b"POST /call/ HTTP/1.1\r\nContent-Length: 3\r\n\r\nabc", 404), (b"GET /call HTTP/1.1\r\n\r\n", 405),
+    (b"GET /nothing HTTP/1.1\r\n\r\n", 404), (b"POST /call/ HTTP/1.1\r\nContent-Length: 3\r\n\r\nabc", 404),
+    (b"GET /call HTTP/1.1\r\n\r\n", 405),
     (b"POST /session HTTP/1.1\r\nContent-Length: 0\r\n\r\n", 405), (b"PUT /call HTTP/1.1\ncontent-LENGTH: 1\n\nx", 405),
 )
 # Requests that end the connection.
@@ -38,6 +39,7 @@ CLOSING = (
     (b"GET /nothing HTTP/1.0\r\n\r\n", 404), (b"GET /nothing HTTP/1.1\r\nconnection: CLOSE\r\n\r\n", 404),
     (b"GET /call HTTP/1.1\r\n" + b"a: b\r\n" * 65 + b"\r\n", 400),
 )
+ASKS_NUMBER = b"GET /session HTTP/1.1\r\n\r\n"
 DISCONNECTED = Reply(("disconnected",), (), None)
 
 
@@ -125,7 +127,7 @@ class Conversation:
         chance, luck = self.chance, self.chance.random()
         if luck < 0.04:
             body = b'{"calls":%d,"session":%d}' % (len(self.said[session]), session)
-            return self.same_answer(session, b"GET /session HTTP/1.1\r\n\r\n", answer_text(200, body))
+            return self.same_answer(session, ASKS_NUMBER, answer_text(200, body))
         if luck < 0.09:
             return self.same_answer(session, request_of(chance, chance.choice(NO_CALLS)), answer_text(400))
         if luck < 0.12:
@@ -164,8 +166,8 @@ class Conversation:
     def speak(self, port):
         """All requests, then the end of each connection."""
         self.lines = [Line(port) for _ in self.said]
-        for session, line in enumerate(self.lines):
-            need(line.ask(b"GET /session HTTP/1.1\r\n\r\n") == answer_text(200, b'{"calls":0,"session":%d}' % session), f"session {session}: its number")
+        for session in range(len(self.lines)):
+            self.same_answer(session, ASKS_NUMBER, answer_text(200, b'{"calls":0,"session":%d}' % session))
         for _ in range(self.chance.choice((5, 20, 40))):
             self.request(self.chance.randrange(len(self.lines)))
         for session in range(len(self.lines)):
@@ -214,7 +216,8 @@ def served(chance, bench):
     line = b"served %d connections, %d calls\n" % (len(sessions), len(calls))
     need((status, printed) == (0, line), f"found status {status} and `", printed, "`, wanted `", line, "`")
     for session, wanted in enumerate(conversation.wanted_calls()):
-        need([(captured.call, captured.reply) for captured in sessions[session]] == wanted, f"session {session}: other calls were recorded than were made")
+        recorded = [(captured.call, captured.reply) for captured in sessions[session]]
+        need(recorded == wanted, f"session {session}: other calls were recorded than were made")
     spoken = [(captured.session, captured.call, captured.reply) for captured in calls]
     need(spoken[:len(conversation.spoken)] == conversation.spoken, "the calls were recorded in another order")
     same_files(bench.found("cap"), write_capture(start, sessions))

@@ -7,9 +7,11 @@ from outside.values import FAULTS, NULL, Image, Reply
 FIELDS = (
     b"", b"0", b"00", b"1", b"-", b"-0", b"-1", b"2", b"16", b"17", b"33", b"64", b"65", b"1000", b"1001", b"549755813888", b"549755813889",
     b"1000000000000", b"1000000000001", b"4294967295", b"4294967296", b"18446744073709551615", b"18446744073709551616",
-    b"9223372036854775807", b"9223372036854775808", b"-9223372036854775808", b"-9223372036854775809", b"[]", b"[-]", b"[i1]", b"[i1,]", b"[i-0]",
+    b"9223372036854775807", b"9223372036854775808", b"-9223372036854775808", b"-9223372036854775809", b"[]", b"[-]", b"[i1]", b"[i1,]",
+    b"[i-0]",
     b"[i01]", b"[t]", b"[t%41]", b"[t%2c]", b"[t%2C]", b"[t%FF]", b"[t%C3%A9]", b"[d0.0]", b"[d0.1]", b"[d4294967296.1]", b"[r0]",
-    b"[r18446744073709551615]", b"[i1][i2]", b"[i1][]", b"rw", b"ro", b"null", b"notnull", b"int", b"text", b"seq", b"end", b">", b"refused",
+    b"[r18446744073709551615]", b"[i1][i2]", b"[i1][]", b"rw", b"ro", b"null", b"notnull", b"int", b"text", b"seq", b"end", b">",
+    b"refused",
     b"34", b"10", b"35", b"30", b"31", b"rows", b"count", b"committed", b"gone", b"1:0:gone", b"1:32:gone", b"1:31:gone", b"1:0:[]",
     b"1:0:[i1];1:0:[i1]", b"1:0:[i1];2:1:gone", b"2:0:[i1];1:0:gone", b"connect", b"sql", b"disconnect", b"tmain", b"t", b"select",
     b"savepoint", b"to", b"a" * 30, b"a" * 31, b"A", b"_a", b"a_", b"1a", b"id", b"session", b"start", b"level", b"row", b"col", b"table",

@@ -40,7 +40,8 @@ class Heard:
 
     def __init__(self, job, server):
         need(not (strange := [entry[1] for entry in server.log if entry[0] == "strange"]), "; ".join(strange))
-        need(len(server.connections) == len(job.of_session), f"{len(server.connections)} connections for {len(job.of_session)} sessions with a call")
+        connections, sessions = len(server.connections), len(job.of_session)
+        need(connections == sessions, f"{connections} connections for {sessions} sessions with a call")
         self.came, self.requests, self.answered, self.replies, self.fault, self.order = {}, {}, {}, {}, None, []
         sessions = sorted(job.of_session)
         for at, entry in enumerate(server.log):
@@ -145,7 +146,8 @@ def judge_whole(job, heard, lanes, found):
 def random_clients(chance):
     shape = random_shape(
         chance, chance.choice((2, 5, 8, 12, 16, 20, 30)), chance.choice((1, 2, 2, 3, 3, 4, 6, 8)), calm=chance.random() < 0.6,
-        theme=chance.choice(("holds", "draws", "draws", "spaces", "")), again=chance.choice((0.3, 0.6, 0.8)), likes_ids=chance.random() < 0.6)
+        theme=chance.choice(("holds", "draws", "draws", "spaces", "")), again=chance.choice((0.3, 0.6, 0.8)),
+        likes_ids=chance.random() < 0.6)
     return Clients(chance, shape)
 
 
