@@ -206,7 +206,8 @@ def served(chance, bench):
         status, printed = conversation.hang_up()
     finally:
         conversation.stop()
-    bench.files.update({"cap/" + name: data for name, data in bench.found("cap").items()})
+    written = bench.found("cap")
+    bench.files.update({"cap/" + name: data for name, data in written.items()})
     try:
         start, sessions = read_capture(bench.read, "cap")
         calls = legal_calls(start, sessions)
@@ -220,7 +221,7 @@ def served(chance, bench):
         need(recorded == wanted, f"session {session}: other calls were recorded than were made")
     spoken = [(captured.session, captured.call, captured.reply) for captured in calls]
     need(spoken[:len(conversation.spoken)] == conversation.spoken, "the calls were recorded in another order")
-    same_files(bench.found("cap"), write_capture(start, sessions))
+    same_files(written, write_capture(start, sessions))
     replay_unchanged(bench, start, calls, len(sessions))
 
 
