@@ -112,7 +112,7 @@ class Conversation:
     def __init__(self, chance, bench, port):
         self.chance, self.bench = chance, bench
         sessions = chance.choice((1, 2, 3, 5))
-        self.clients = Clients(chance, random_shape(chance, 0, sessions, calm=chance.random() < 0.5, likes_ids=chance.random() < 0.3))
+        self.clients = Clients(chance, random_shape(chance, 0, sessions, calm=chance.random() < 0.5, likes={"ids": chance.random() < 0.3}))
         self.said = [[] for _ in range(sessions)]
         self.spoken, self.lines = [], []
         bench.put({"s.cap": write_start(self.clients.start, chance.choice((0, 1, 64)))})
