@@ -8,7 +8,7 @@ import subprocess
 import tempfile
 from pathlib import Path
 
-from outside.judge import Difference
+from outside.judge import Difference, need
 
 # Where a run takes longer than so many seconds it is taken as hung.
 PATIENCE = 300
@@ -45,9 +45,15 @@ class Bench:
         return self.files.get(name)
 
     def found(self, folder):
-        """The files of a folder, by name."""
+        """What was written into a folder, by name: its files but for those that are as they were put there."""
         path = self.folder / folder
-        return {each.name: each.read_bytes() for each in path.iterdir() if each.is_file()} if path.is_dir() else {}
+        found = {each.name: each.read_bytes() for each in path.iterdir()} if path.is_dir() else {}
+        for name, data in self.files.items():
+            if name.startswith(folder + "/"):
+                need(name.removeprefix(folder + "/") in found, f"{name} was there and is gone")
+                if found[name.removeprefix(folder + "/")] == data:
+                    del found[name.removeprefix(folder + "/")]
+        return found
 
     def open(self, words):
         """Starts the program."""
@@ -59,11 +65,12 @@ class Bench:
         """The status, and what was printed."""
         process = self.open(words)
         try:
-            printed, _ = process.communicate(timeout=PATIENCE)
+            printed, told = process.communicate(timeout=PATIENCE)
         except subprocess.TimeoutExpired:
             process.kill()
             process.communicate()
             raise Difference(f"the program did not end within {PATIENCE} s") from None
+        need(not told, "on the standard error stands `", told, "`")
         return process.returncode, printed
 
     def clear(self):

@@ -31,13 +31,11 @@ class Shape:
     crowded: bool = False
 
 
-def random_shape(chance, calls, sessions, **wanted):
-    """A shape of so many calls and sessions; tastes are named with a leading `likes_`."""
-    theme = wanted.pop("theme", None)
+def random_shape(chance, calls, sessions, theme=None, likes=None, **more):
+    """A shape of so many calls and sessions; what it likes are parts of its taste."""
     theme = chance.choice(("", "", "", "spaces", "draws", "holds", "holds")) if theme is None else theme
-    tastes = {name.removeprefix("likes_"): wanted.pop(name) for name in [*wanted] if name.startswith("likes_")}
-    taste = Taste(texts=SPACED if theme == "spaces" else TEXTS, small_numbers=0.68 if theme == "holds" else 0.55, **tastes)
-    return Shape(calls, sessions, theme, taste=taste, crowded=taste.crowded, **wanted)
+    taste = Taste(texts=SPACED if theme == "spaces" else TEXTS, small_numbers=0.68 if theme == "holds" else 0.55, **(likes or {}))
+    return Shape(calls, sessions, theme, taste=taste, crowded=taste.crowded, **more)
 
 
 # The start.

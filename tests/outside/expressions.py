@@ -13,11 +13,12 @@ DIVIDED_BY_ZERO, TOO_LARGE = 25, 26
 
 
 class Scope(NamedTuple):
-    """Values are those of the row by column name; faults is a set that grows."""
+    """Places tells which of the row's values a column has; faults is a set that grows."""
 
     level: int
     row: int
-    values: dict
+    values: tuple
+    places: dict
     binds: tuple
     faults: set
 
@@ -27,7 +28,7 @@ def evaluate(scope, expression):
     if what in ("integer", "text", "null"):
         return expression
     if what == "column":
-        return scope.values[expression[1]]
+        return scope.values[scope.places[expression[1]]]
     if what == "bind":
         return scope.binds[expression[1] - 1]
     if what == "rowid":

@@ -106,7 +106,7 @@ def long(chance, bench):
     shape = random_shape(
         chance, chance.choice((30, 40, 60, 100)), chance.choice((2, 3, 4, 5)), calm=True,
         theme=chance.choice(("holds", "holds", "spaces", "draws", "")),
-        likes_by_key=chance.random() < 0.3, likes_one_moment=chance.random() < 0.15, likes_ids=chance.random() < 0.3)
+        likes={"by_key": chance.random() < 0.3, "one_moment": chance.random() < 0.15, "ids": chance.random() < 0.3})
     replayed(chance, bench, shape, options, lanes)
 
 
@@ -114,21 +114,21 @@ def many(chance, bench):
     """Captures of many sessions."""
     options, lanes = random_options(chance, 0.1)
     sessions = chance.choice((16, 32, 63, 64))
-    shape = random_shape(chance, sessions * chance.choice((1, 2, 3)), sessions, calm=True, likes_ids=chance.random() < 0.3)
+    shape = random_shape(chance, sessions * chance.choice((1, 2, 3)), sessions, calm=True, likes={"ids": chance.random() < 0.3})
     replayed(chance, bench, shape, options, chance.choice((lanes, 8, 63, None)))
 
 
 def changed(chance, bench):
     """Replays on a server that is another one."""
     options = {"mode": chance.choice(("order", "order", "scn", "fence", "off")), "change": "change.csv"}
-    shape = random_shape(chance, chance.choice((6, 8, 10)), chance.choice((1, 2)), calm=True, likes_quotients=True)
+    shape = random_shape(chance, chance.choice((6, 8, 10)), chance.choice((1, 2)), calm=True, likes={"quotients": True})
     replayed(chance, bench, shape, options, chance.choice((1, None)), good_change)
 
 
 def crowded(chance, bench):
     """Tables of about a thousand rows."""
     options, lanes = random_options(chance, 0.1)
-    shape = random_shape(chance, chance.choice((6, 12)), chance.choice((1, 2)), theme="", likes_crowded=True)
+    shape = random_shape(chance, chance.choice((6, 12)), chance.choice((1, 2)), theme="", likes={"crowded": True})
     replayed(chance, bench, shape, options, lanes)
 
 

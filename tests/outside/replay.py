@@ -112,6 +112,8 @@ class Met(NamedTuple):
 
 
 class Replay:
+    """One history of a job, event by event; the first open call is the lowest that is not answered."""
+
     def __init__(self, job, elsewhere=False):
         self.job = job
         self.server = None if elsewhere else Server(job.target)
@@ -120,13 +122,15 @@ class Replay:
         self.next_places = dict.fromkeys(job.of_session, 0)
         self.events, self.replies, self.classes, self.met = [], {}, {}, {}
         self.learnt_at = []
-        self.commits_differ = False
+        self.commits_differ, self.first_open = False, 0
 
     def ready(self, stamp):
         """Whether the call may start."""
         before = self.job.before[stamp]
         if stamp in self.started or (before is not None and before not in self.answered):
             return False
+        if self.job.mode == "order" or (self.job.mode == "fence" and self.job.facts[stamp].number):
+            return self.first_open >= stamp
         if stamp not in self.waits:
             self.waits[stamp] = required(self.job.facts, self.job.mode, stamp)
         waits = self.waits[stamp]
@@ -188,6 +192,8 @@ class Replay:
             self.classes[stamp] = kind
             self.commits_differ |= "committed" in (captured.outcome[0], reply.outcome[0])
         self.answered.add(stamp)
+        while self.first_open in self.answered:
+            self.first_open += 1
         self.note(b"a %d %s" % (stamp, write_reply(reply)))
 
     def run_alone(self, answer=None):

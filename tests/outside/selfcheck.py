@@ -192,7 +192,7 @@ def random_job(seed):
     """A job with a little of everything, and the calls of its sessions."""
     chance = random.Random(seed)
     theme = chance.choice(("holds", "draws", ""))
-    shape = random_shape(chance, 24, chance.choice((2, 3)), calm=True, theme=theme, likes_quotients=seed % 2 == 0)
+    shape = random_shape(chance, 24, chance.choice((2, 3)), calm=True, theme=theme, likes={"quotients": seed % 2 == 0})
     clients = Clients(chance, shape)
     sessions = clients.record()
     calls = sorted((captured for session in sessions for captured in session), key=lambda captured: captured.stamp)

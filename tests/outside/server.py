@@ -197,8 +197,9 @@ class Server:
     def others(self, session):
         return [other for other in self.sessions.values() if other is not session]
 
-    def row_is_held(self, session, row):
-        return any(row in other.rows for other in self.others(session))
+    def rows_held(self, session, rows):
+        """Which of these rows other sessions hold."""
+        return frozenset().union(*(other.rows & rows for other in self.others(session)))
 
     def key_is_held(self, session, table, value):
         wanted = comparable(self.level, value)
@@ -214,7 +215,7 @@ class Server:
         if table is not None:
             seen = self.visible(session, table)
             visible = frozenset((row, table, values) for row, values in seen.items())
-            others_rows = frozenset(row for row in seen if self.row_is_held(session, row))
+            others_rows = self.rows_held(session, seen.keys())
             others_keys = frozenset(key for other in self.others(session) for where, key in other.keys if where == table)
         points = tuple((point.name, frozen(point.changes), point.rows, point.keys) for point in session.points)
         return View(
@@ -240,6 +241,7 @@ class Work:
         self.number = server.start.table_number(statement.table)
         self.columns = server.start.tables[self.number].columns
         self.names = [column.name for column in self.columns]
+        self.places = {name: place for place, name in enumerate(self.names)}
         self.faults = set()
 
     def refuse_by_rank(self):
@@ -276,7 +278,7 @@ class Work:
         sequences = sorted({server.start.sequence_number(what) for kind, what in statement.inputs if kind == "next"})
         drawn = {sequence: server.draw(sequence) for sequence in sequences}
         draws.extend(drawn.values())
-        scope = Scope(self.level, 0, {}, self.binds, self.faults)
+        scope = Scope(self.level, 0, (), self.places, self.binds, self.faults)
         new = dict.fromkeys(self.names, NULL)
         for name, (kind, what) in zip(self.names if statement.names is None else statement.names, statement.inputs):
             value = drawn[server.start.sequence_number(what)] if kind == "next" else evaluate(scope, what)
@@ -298,7 +300,7 @@ class Work:
 
     def matching(self, seen):
         """The scopes of the rows that match, by row number."""
-        scopes = [Scope(self.level, row, dict(zip(self.names, seen[row])), self.binds, self.faults) for row in sorted(seen)]
+        scopes = [Scope(self.level, row, seen[row], self.places, self.binds, self.faults) for row in sorted(seen)]
         where = self.statement.where
         return scopes if where is None else [scope for scope in scopes if evaluate(scope, where) is True]
 
@@ -312,18 +314,18 @@ class Work:
         if len(scopes) > MATCH_LIMIT:
             self.faults.add(TOO_MANY)
         holds = not isinstance(self.statement, Select) or self.statement.for_update
-        if holds and any(self.server.row_is_held(self.session, scope.row) for scope in scopes):
+        if holds and self.server.rows_held(self.session, {scope.row for scope in scopes}):
             self.faults.add(HELD)
         if isinstance(self.statement, Select):
-            return self.select(seen, scopes)
+            return self.select(scopes)
         self.note_changed({scope.row for scope in scopes})
-        return self.delete(seen, scopes) if isinstance(self.statement, Delete) else self.update(seen, scopes)
+        return self.delete(scopes) if isinstance(self.statement, Delete) else self.update(seen, scopes)
 
-    def select(self, seen, scopes):
+    def select(self, scopes):
         for name, descends in reversed(self.statement.keys):
             scopes = self.ordered(scopes, name, descends)
         if self.statement.items is None:
-            rows = tuple(seen[scope.row] for scope in scopes)
+            rows = tuple(scope.values for scope in scopes)
         else:
             rows = tuple(tuple(evaluate(scope, item) for item in self.statement.items) for scope in scopes)
         self.refuse_by_rank()
@@ -333,27 +335,28 @@ class Work:
 
     def ordered(self, scopes, name, descends):
         """By one key, Null last (first where it descends); equal ones stay in their order."""
-        nulls = [scope for scope in scopes if scope.values[name] == NULL]
-        others = [scope for scope in scopes if scope.values[name] != NULL]
-        others.sort(key=lambda scope: comparable(self.level, scope.values[name])[1], reverse=descends)
+        place = self.places[name]
+        nulls = [scope for scope in scopes if scope.values[place] == NULL]
+        others = [scope for scope in scopes if scope.values[place] != NULL]
+        others.sort(key=lambda scope: comparable(self.level, scope.values[place])[1], reverse=descends)
         return nulls + others if descends else others + nulls
 
-    def delete(self, seen, scopes):
+    def delete(self, scopes):
         self.refuse_by_rank()
         for scope in scopes:
             self.session.changes[scope.row] = (self.number, None)
             self.session.rows.add(scope.row)
-            self.session.keys.add((self.number, seen[scope.row][0]))
+            self.session.keys.add((self.number, scope.values[0]))
         return ("count", len(scopes))
 
     def update(self, seen, scopes):
         new, keys = {}, set()
         for scope in scopes:
-            values = dict(scope.values)
+            values = list(scope.values)
             for name, expression in self.statement.settings:
                 value = evaluate(scope, expression)
-                values[name] = value if value is None else self.stored(value)
-            image, old = tuple(values.values()), seen[scope.row][0]
+                values[self.places[name]] = value if value is None else self.stored(value)
+            image, old = tuple(values), scope.values[0]
             if None in image:
                 continue
             new[scope.row] = image

@@ -2,6 +2,7 @@
 
 Enters: a source of chance and a bench. Leaves: nothing, or a `Difference`: each answer is compared byte by byte, and what was written.
 """
+import random
 import re
 import socket
 import time
@@ -18,7 +19,7 @@ from outside.schema import Column, Row, Start, Table
 from outside.server import Server
 from outside.values import Reply
 
-HOST, WAIT = "127.0.0.1", 60
+HOST, WAIT, PORTS = "127.0.0.1", 60, (10_000, 32_000)
 LENGTH = re.compile(rb"Content-Length: ([0-9]+)\r\n")
 PHRASES = {
     200: b"OK", 400: b"Bad Request", 404: b"Not Found", 405: b"Method Not Allowed", 411: b"Length Required", 413: b"Payload Too Large",
@@ -44,9 +45,15 @@ DISCONNECTED = Reply(("disconnected",), (), None)
 
 
 def free_port():
-    with socket.socket() as probe:
-        probe.bind((HOST, 0))
-        return probe.getsockname()[1]
+    """A port that nobody has, out of the range from which the system takes those of clients."""
+    while True:
+        port = random.SystemRandom().randrange(*PORTS)
+        with socket.socket() as probe:
+            try:
+                probe.bind((HOST, port))
+                return port
+            except OSError:
+                continue
 
 
 def answer_text(status, body=b"", closes=False):
@@ -57,14 +64,14 @@ def answer_text(status, body=b"", closes=False):
 class Line:
     """A connection to the program: each request has one answer."""
 
-    def __init__(self, port):
+    def __init__(self, port, process):
         until = time.monotonic() + WAIT
         while True:
             try:
                 self.stream = socket.create_connection((HOST, port), timeout=WAIT)
                 break
             except ConnectionRefusedError:
-                if time.monotonic() > until:
+                if process.poll() is not None or time.monotonic() > until:
                     raise Difference("the service does not listen") from None
                 time.sleep(0.003)
         self.kept = b""
@@ -112,7 +119,7 @@ class Conversation:
     def __init__(self, chance, bench, port):
         self.chance, self.bench = chance, bench
         sessions = chance.choice((1, 2, 3, 5))
-        self.clients = Clients(chance, random_shape(chance, 0, sessions, calm=chance.random() < 0.5, likes_ids=chance.random() < 0.3))
+        self.clients = Clients(chance, random_shape(chance, 0, sessions, calm=chance.random() < 0.5, likes={"ids": chance.random() < 0.3}))
         self.said = [[] for _ in range(sessions)]
         self.spoken, self.lines = [], []
         bench.put({"s.cap": write_start(self.clients.start, chance.choice((0, 1, 64)))})
@@ -165,7 +172,7 @@ class Conversation:
 
     def speak(self, port):
         """All requests, then the end of each connection."""
-        self.lines = [Line(port) for _ in self.said]
+        self.lines = [Line(port, self.process) for _ in self.said]
         for session in range(len(self.lines)):
             self.same_answer(session, ASKS_NUMBER, answer_text(200, b'{"calls":0,"session":%d}' % session))
         for _ in range(self.chance.choice((5, 20, 40))):
@@ -206,7 +213,8 @@ def served(chance, bench):
         status, printed = conversation.hang_up()
     finally:
         conversation.stop()
-    bench.files.update({"cap/" + name: data for name, data in bench.found("cap").items()})
+    written = bench.found("cap")
+    bench.files.update({"cap/" + name: data for name, data in written.items()})
     try:
         start, sessions = read_capture(bench.read, "cap")
         calls = legal_calls(start, sessions)
@@ -220,7 +228,7 @@ def served(chance, bench):
         need(recorded == wanted, f"session {session}: other calls were recorded than were made")
     spoken = [(captured.session, captured.call, captured.reply) for captured in calls]
     need(spoken[:len(conversation.spoken)] == conversation.spoken, "the calls were recorded in another order")
-    same_files(bench.found("cap"), write_capture(start, sessions))
+    same_files(written, write_capture(start, sessions))
     replay_unchanged(bench, start, calls, len(sessions))
 
 

@@ -147,7 +147,7 @@ def random_clients(chance):
     shape = random_shape(
         chance, chance.choice((2, 5, 8, 12, 16, 20, 30)), chance.choice((1, 2, 2, 3, 3, 4, 6, 8)), calm=chance.random() < 0.6,
         theme=chance.choice(("holds", "draws", "draws", "spaces", "")), again=chance.choice((0.3, 0.6, 0.8)),
-        likes_ids=chance.random() < 0.6)
+        likes={"ids": chance.random() < 0.6})
     return Clients(chance, shape)
 
 
