@@ -25,11 +25,12 @@ from attack_limits import limits
 from attack_program import Wrong, same
 from attack_remote import remote
 from attack_side_by_side import side_by_side
+from attack_stopped import stopped
 from attack_strangers import strangers
 from attack_terminal import terminal
 
 PARTS = (crowd, strangers, limits, devices, services_on_devices, killed, ended_runs, ended_services, altered, remote, side_by_side, clock, terminal,
-         register_not_closed, kept_texts)
+         stopped, register_not_closed, kept_texts)
 
 
 def held():

@@ -1,0 +1,83 @@
+"""Ctrl-C while the script `replay` runs a service: a first one ends the capture and keeps what came, a second one ends the service at once."""
+import os
+import signal
+from pathlib import Path
+
+from attack_program import CONNECT, Client, Service, files_below, in_folder, same, until
+
+SCRIPT = Path(__file__).resolve().parent.parent / "replay"
+COMMIT = {"sql": "COMMIT"}
+MARKED = "replay: no more connections are taken, {} of them are still open; the capture is written once they have ended\n"
+AGAIN = "replay: Ctrl-C again ends the service at once, without a capture\n"
+
+
+class Stopped(Service):
+    """A service that the script runs, in a group of processes of its own: a terminal's Ctrl-C goes to all of them."""
+
+    def __init__(self, folder, connections):
+        self.told = open(Path(folder) / "told", "w+")
+        super().__init__(str(SCRIPT), folder, connections, stderr=self.told, start_new_session=True)
+
+    def __exit__(self, *how):
+        if self.is_alive():
+            os.killpg(self.process.pid, signal.SIGKILL)
+        super().__exit__(*how)
+        self.told.close()
+
+    def stop(self):
+        os.killpg(self.process.pid, signal.SIGINT)
+
+    def says(self, text):
+        until(f"the script says {text!r}", lambda: Path(self.told.name).read_text() == text)
+
+
+def kept(program, folder, out):
+    """Of five connections one has ended, and one is still open: its call that comes behind the Ctrl-C is captured, three sessions are empty."""
+    (folder / out).mkdir()
+    with Stopped(folder / out, 5) as service:
+        with Client(service.port) as gone:
+            same("a connect", gone.ask(CONNECT), {"draws": [], "made": None, "outcome": {"connected": True}})
+        with Client(service.port) as still:
+            same("a connect", still.ask(CONNECT), {"draws": [], "made": None, "outcome": {"connected": True}})
+            until("the first connection is gone", lambda: open_at(service.port) == 1)
+            service.stop()
+            service.says(MARKED.format(1) + AGAIN)
+            same("a call behind Ctrl-C", still.ask(COMMIT), {"draws": [], "made": None, "outcome": {"committed": []}})
+        service.finish(5)
+        same("sessions", [len(service.said(session)) for session in range(5)], [2, 3, 0, 0, 0])
+        service.replays(program, 5)
+
+
+def nobody(program, folder, out):
+    """Nobody came: the capture has empty sessions alone."""
+    (folder / out).mkdir()
+    with Stopped(folder / out, 64) as service:
+        service.stop()
+        service.says(MARKED.format(0))
+        service.finish(0)
+        service.replays(program, 0)
+
+
+def at_once(program, folder, out):
+    """A second Ctrl-C ends the service at once, with the status that a shell gives for it, and there is no capture."""
+    (folder / out).mkdir()
+    with Stopped(folder / out, 2) as service, Client(service.port) as client:
+        client.ask(CONNECT)
+        service.stop()
+        service.says(MARKED.format(1) + AGAIN)
+        service.stop()
+        same("its end", service.ended(), (130, ""))
+        same("its files", [name for name in files_below(folder / out) if name.startswith("cap/")], [])
+
+
+def open_at(port):
+    """How many connections to the port are open."""
+    wanted = f"0100007F:{port:04X}"
+    return sum(line.split()[1] == wanted and line.split()[3] == "01" for line in Path("/proc/net/tcp").read_text().splitlines()[1:])
+
+
+@in_folder
+def stopped(program, folder):
+    for number, shown in enumerate((kept, nobody, at_once)):
+        shown(program, folder, f"stopped-{number}")
+    return "a first Ctrl-C kept what came, of one connection that was open and of none; a second one ended the service at once"
