@@ -119,11 +119,14 @@ class Clients:
 
     def __init__(self, chance, shape):
         self.chance, self.shape = chance, shape
-        self.start = random_start(chance, shape)
+        self.start = self.make_start()
         self.server = Server(self.start)
         self.given = self.start.ids()
         self.ids = sorted(self.given)
         self.texts = []
+
+    def make_start(self):
+        return random_start(self.chance, self.shape)
 
     def call(self, session):
         """A random call of a session; it may bind an id that nobody gave."""
@@ -208,6 +211,62 @@ class Clients:
                 session, len(sessions[session]), stamp, began, ended[session], commits, commits + 1 if wrote else None, call, reply))
             commits += wrote
         return sessions
+
+
+class Markers(Clients):
+    """Sessions of which the first changes up to all rows of a table within one transaction, and sets many savepoints between."""
+
+    def __init__(self, chance, shape, rows):
+        self.rows, self.names = rows, chance.choice((3, 40, 1000))
+        self.level, self.has_texts = chance.choice((1, 2)), chance.random() < 0.6
+        super().__init__(chance, shape)
+        self.has_begun = False
+
+    def key(self, number):
+        """The key of a row: texts that differ by a space at the end are two at level 1, and one at level 2."""
+        if not self.has_texts:
+            return ("integer", number)
+        return ("text", b"k%d" % (number // 2) + b" " * (number % 2) if self.level == 1 else b"k%d" % number)
+
+    def make_start(self):
+        kind = ("text", 9) if self.has_texts else ("integer", -(10**6), 10**6)
+        columns = (Column(b"id", kind, True), Column(b"n", ("integer", *ALL_INTEGERS), False))
+        start = Start(2, self.level, services=[(b"main", "rw")], tables=[Table(b"t", columns)])
+        start.rows = [Row(key + 1, 0, (self.key(key), ("integer", key % 7))) for key in range(self.rows)]
+        start.next_row = self.rows + 1
+        return start
+
+    def call(self, session):
+        if self.server.session(session).rights is None:
+            return ("connect", b"main")
+        if session == 0 and not self.has_begun:
+            self.has_begun = True
+            return ("sql", b"UPDATE t SET n = n + 1", ())
+        return self.marking() if session == 0 else self.beside()
+
+    def key_there(self):
+        word, key = self.key(self.chance.randrange(self.rows + 3))
+        return (word, key + b" " * self.chance.randrange(2) if self.has_texts and self.level == 2 else key)
+
+    def marking(self):
+        """A savepoint, a step back to one, or a change."""
+        luck, name = self.chance.random(), b"p%d" % self.chance.randrange(self.names)
+        texts = ((0.45, b"SAVEPOINT " + name), (0.55, b"ROLLBACK TO " + name), (0.56, b"COMMIT"), (0.565, b"ROLLBACK"))
+        for share, text in texts:
+            if luck < share:
+                return ("sql", text, ())
+        changes = (
+            (b"UPDATE t SET n = n + 1 WHERE id = :1", 1), (b"UPDATE t SET id = :2 WHERE id = :1", 2), (b"DELETE FROM t WHERE id = :1", 1),
+            (b"INSERT INTO t VALUES (:1, 5)", 1), (b"SELECT n FROM t WHERE id = :1", 1), (b"SELECT n FROM t WHERE id = :1 FOR UPDATE", 1),
+            (b"SELECT COUNT(*), SUM(n) FROM t", 0),
+        )
+        text, binds = self.chance.choice(changes)
+        return ("sql", text, tuple(self.key_there() for _ in range(binds)))
+
+    def beside(self):
+        """What meets the rows and keys that are held."""
+        text = self.chance.choice((b"UPDATE t SET n = 0 WHERE id = :1", b"INSERT INTO t VALUES (:1, 6)", b"SELECT n FROM t WHERE id = :1", b"COMMIT"))
+        return ("sql", text, (self.key_there(),) if b":1" in text else ())
 
 
 # Remap and change files.

@@ -2,7 +2,7 @@
 
 Enters: a source of chance and a bench (a folder with a program). Leaves: nothing, or a `Difference`.
 """
-from outside.captures import Clients, good_change, random_change, random_remap, random_shape
+from outside.captures import Clients, Markers, good_change, random_change, random_remap, random_shape
 from outside.files import MODES, Refusal, read_capture, write_capture, write_start
 from outside.judge import has_one_order, judged, need, same_files
 from outside.legality import facts_of, legal_calls, write_requires
@@ -130,6 +130,15 @@ def crowded(chance, bench):
     options, lanes = random_options(chance, 0.1)
     shape = random_shape(chance, chance.choice((6, 12)), chance.choice((1, 2)), theme="", likes={"crowded": True})
     replayed(chance, bench, shape, options, lanes)
+
+
+def marked(chance, bench):
+    """Transactions that change up to 999 rows, with up to a thousand savepoints, of which some are gone back to."""
+    options, lanes = random_options(chance, 0)
+    sessions = chance.choice((1, 2))
+    clients = Markers(chance, random_shape(chance, chance.choice((100, 100, 100, 300, 300, 2200)) * sessions, sessions), chance.choice((30, 200, 999)))
+    put_capture(bench, clients, clients.record())
+    check_run(bench, options, lanes, words_of(chance, options, lanes))
 
 
 def spoiled_calls(chance, bench):
