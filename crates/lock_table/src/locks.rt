@@ -60,7 +60,7 @@ impl Locks {
         holder_among(self.level, &self.keys, table, key)
     }
 
-    /// Makes room for so many rows and keys more. Want of memory leaves the holds as they are.
+    /// Makes room for so many rows and keys more. Want of memory leaves the holds as they are, and no less room than there was.
     pub fn reserve(&mut self, rows: u32, keys: u32) -> Result<(), Memory>
         ensures level { self.new.level ≡ self.old.level }
         ensures rows { self.new.rows ≡ self.old.rows }
@@ -76,7 +76,7 @@ impl Locks {
     }
 
     /// The session holds a row from now on. `Held` with the holder where another session holds it; where the session does
-    /// already, nothing is added. An `Err` changes no hold. Where there is room for a row, memory is not wanting.
+    /// already, nothing is added. An `Err` changes no hold and spends no room. Where there is room for a row, memory is not wanting.
     pub fn hold_row(&mut self, session: u32, row: u64) -> Result<(), LockErr>
         ensures held { named result ≡ another session (holder_of_row self.old.rows row) }
         ensures ok { OnOk result (self.new.rows ≡ with_hold (holder_of_row self.old.rows row) self.old.rows (row, session)) }
@@ -85,6 +85,7 @@ impl Locks {
         ensures keys { self.new.keys ≡ self.old.keys }
         ensures key_room { self.new.key_room ≡ self.old.key_room }
         ensures row_room { self.old.row_room ≤ self.new.row_room + 1 }
+        ensures refused { OnErr result (self.old.row_room ≤ self.new.row_room) }
         ensures succeeds { 0 < self.old.row_room → another session (holder_of_row self.old.rows row) ≡ None → IsOk result }
     {
         match self.holder_of_row(row) {
@@ -97,8 +98,8 @@ impl Locks {
     }
 
     /// The session holds a key of a table from now on. `Held` with the holder where another session holds it; where the session
-    /// does already, nothing is added. An `Err` changes no hold. Where there is room for a key, memory is not wanting but for the
-    /// copy of a text.
+    /// does already, nothing is added. An `Err` changes no hold and spends no room. Where there is room for a key, memory is not
+    /// wanting but for the copy of a text.
     pub fn hold_key(&mut self, session: u32, table: u32, key: &Value) -> Result<(), LockErr>
         ensures held { named result ≡ another session (holder_of_key self.old.level self.old.keys table key.now) }
         ensures ok { OnOk result (self.new.keys ≡ with_hold (holder_of_key self.old.level self.old.keys table key.now) self.old.keys (record { session = session; table = table; key = key.now })) }
@@ -107,6 +108,7 @@ impl Locks {
         ensures rows { self.new.rows ≡ self.old.rows }
         ensures row_room { self.new.row_room ≡ self.old.row_room }
         ensures key_room { self.old.key_room ≤ self.new.key_room + 1 }
+        ensures refused { OnErr result (self.old.key_room ≤ self.new.key_room) }
         ensures succeeds { 0 < self.old.key_room → is_text key.now ≡ false → another session (holder_of_key self.old.level self.old.keys table key.now) ≡ None → IsOk result }
     {
         match self.holder_of_key(table, key) {
@@ -173,23 +175,36 @@ fn beside(session: u32, holder: u32) -> Result<(), LockErr>
     }
 }
 
-// Adds a row that nobody holds. An `Err` changes nothing, and does not come where there is room.
+// Adds a row that nobody holds. An `Err` changes nothing and spends no room, and does not come where there is room.
 fn add(holds: &mut IndexMap<u64, u32>, row: u64, session: u32) -> Result<(), Memory>
     requires { holder_of_row holds.old.entries row ≡ None }
     ensures ok { OnOk result (holds.new.entries ≡ holds.old.entries ++ (row, session) ∷ []) }
     ensures err { OnErr result (holds.new.entries ≡ holds.old.entries) }
     ensures room { spare holds.old ≤ spare holds.new + 1 }
+    ensures refused { OnErr result (spare holds.old ≤ spare holds.new) }
     ensures succeeds { 0 < spare holds.old → IsOk result }
 {
-    holds.insert(row, session)?;
+    holds.reserve(1)?;
+    add_within(holds, row, session);
     Ok(())
 }
 
-// Adds a hold. An `Err` changes nothing, and does not come where there is room.
+// Adds a row that nobody holds, where there is room for it.
+fn add_within(holds: &mut IndexMap<u64, u32>, row: u64, session: u32)
+    requires free { holder_of_row holds.old.entries row ≡ None }
+    requires room { 0 < spare holds.old }
+    ensures entries { holds.new.entries ≡ holds.old.entries ++ (row, session) ∷ [] }
+    ensures room { spare holds.old ≤ spare holds.new + 1 }
+{
+    holds.insert(row, session).unwrap();
+}
+
+// Adds a hold. An `Err` changes nothing and spends no room, and does not come where there is room.
 fn push(holds: &mut Vec<KeyHold>, hold: KeyHold) -> Result<(), Memory>
     ensures ok { OnOk result (holds.new.items ≡ holds.old.items ++ hold ∷ []) }
     ensures err { OnErr result (holds.new.items ≡ holds.old.items) }
     ensures room { vec_capacity holds.old - vec_len holds.old ≤ vec_capacity holds.new - vec_len holds.new + 1 }
+    ensures refused { OnErr result (vec_capacity holds.old - vec_len holds.old ≤ vec_capacity holds.new - vec_len holds.new) }
     ensures succeeds { vec_len holds.old < vec_capacity holds.old → IsOk result }
 {
     holds.push(hold)?;

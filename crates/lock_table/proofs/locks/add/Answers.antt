@@ -1,6 +1,9 @@
-use Rattle.std.proofs.Common.{◌∙◌, nat_eq}
-use Rattle.indexmap.proofs.CallerLemmas.{insert_entry-new}
+use Rattle.std.proofs.Common.{◌∙◌, arith, List, ℕ, ap}
+use Rattle.lock_table.specs.Holds.{holder_of_row}
 use Rattle.lock_table.proofs.locks.add.Goals as goal
 
-pub returns-clause-ok : goal.returns-clause-ok
-returns-clause-ok c = c.in_ok-insert.ensures.entries ∙ insert_entry-new nat_eq c.args.holds.now c.args.row c.args.session c.requires
+pub add_within-requires-clause-free : goal.add_within-requires-clause-free
+add_within-requires-clause-free c = ap (λ (rows : List (ℕ × ℕ)). holder_of_row rows c.args.row) c.reserve.ensures.entries ∙ c.requires
+
+pub returns-clause-room : goal.returns-clause-room
+returns-clause-room c = omega (arith, c.add_within.ensures.room, c.reserve.ensures.room.0)
