@@ -1,9 +1,10 @@
 """Ctrl-C while the script `replay` runs a service: a first one ends the capture and keeps what came, a second one ends the service at once."""
+import contextlib
 import os
 import signal
 from pathlib import Path
 
-from attack_program import CONNECT, Client, Service, files_below, in_folder, same, until
+from attack_program import CONNECT, Client, Process, Service, files_below, free_port, in_folder, is_listening, same, until
 
 SCRIPT = Path(__file__).resolve().parent.parent / "replay"
 COMMIT = {"sql": "COMMIT"}
@@ -70,6 +71,37 @@ def at_once(program, folder, out):
         same("its files", [name for name in files_below(folder / out) if name.startswith("cap/")], [])
 
 
+def too_early(program, folder, out):
+    """Before the service listens, here since its start file does not come, there is nothing to keep: a first Ctrl-C ends it at once."""
+    (folder / out).mkdir()
+    os.mkfifo(folder / out / "start")
+    writer = []
+
+    def is_read():
+        with contextlib.suppress(OSError):
+            writer.append(os.open(folder / out / "start", os.O_WRONLY | os.O_NONBLOCK))
+        return bool(writer)
+
+    with Process(str(SCRIPT), folder / out, ["serve", "cap", "start", "2", "--port", str(free_port())], start_new_session=True) as service:
+        until("the service reads its start", is_read)
+        os.killpg(service.process.pid, signal.SIGINT)
+        same("its end", service.ended(), (130, ""))
+    os.close(writer[0])
+    same("its files", os.listdir(folder / out), ["start"])
+
+
+def ended_otherwise(program, folder, out):
+    """Another signal of the keyboard, and one to the script alone, end the service too."""
+    for number, (send, status) in enumerate(((lambda pid: os.killpg(pid, signal.SIGQUIT), 131), (lambda pid: os.kill(pid, signal.SIGTERM), 143))):
+        place = folder / f"{out}-{number}"
+        place.mkdir()
+        with Stopped(place, 2) as service:
+            send(service.process.pid)
+            same("its end", service.ended(), (status, ""))
+            until("nobody listens", lambda port=service.port: not is_listening(port))
+        same("its files", sorted(files_below(place)), ["start", "told"])
+
+
 def open_at(port):
     """How many connections to the port are open."""
     wanted = f"0100007F:{port:04X}"
@@ -78,6 +110,6 @@ def open_at(port):
 
 @in_folder
 def stopped(program, folder):
-    for number, shown in enumerate((kept, nobody, at_once)):
+    for number, shown in enumerate((kept, nobody, at_once, too_early, ended_otherwise)):
         shown(program, folder, f"stopped-{number}")
-    return "a first Ctrl-C kept what came, of one connection that was open and of none; a second one ended the service at once"
+    return "a first Ctrl-C kept what came, of one connection that was open and of none; a second one, one before it listened and other signals ended the service at once"
