@@ -21,6 +21,7 @@ from attack_devices import devices, services_on_devices
 from attack_ended import ended_runs, ended_services
 from attack_kept_texts import kept_texts
 from attack_killed import killed
+from attack_lanes import lanes
 from attack_limits import limits
 from attack_program import Wrong, same
 from attack_remote import remote
@@ -29,7 +30,7 @@ from attack_stopped import stopped
 from attack_strangers import strangers
 from attack_terminal import terminal
 
-PARTS = (crowd, strangers, limits, devices, services_on_devices, killed, ended_runs, ended_services, altered, remote, side_by_side, clock, terminal,
+PARTS = (crowd, strangers, limits, devices, services_on_devices, killed, ended_runs, ended_services, altered, remote, side_by_side, lanes, clock, terminal,
          stopped, register_not_closed, kept_texts)
 
 

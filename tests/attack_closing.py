@@ -1,4 +1,4 @@
-"""A register that cannot be closed: what the command did stands and its line is told, but it ends as where a device failed."""
+"""A register that cannot be closed: what the command did stands, but it ends as where a device failed."""
 import resource
 import shutil
 import sqlite3
@@ -12,7 +12,7 @@ from attack_program import PATIENCE, Wrong, in_folder, same
 # full device: the log takes what is registered, and cannot be copied into the file when that is closed.
 CALLS, FEWER = 20_000, 600
 CLASSES = ("new-error", "gone-error", "mutated-error", "rows-modified", "rows-fetched", "row-contents", "images", "shape")
-FAULT, NO_RUN = 5, 11
+FAULT = 5
 
 
 def report(lines):
@@ -21,20 +21,16 @@ def report(lines):
     return "\n".join([*head, *(f"{stamp} 0 {stamp} {CLASSES[0]}" for stamp in range(lines)), "end", ""])
 
 
-def only(word):
-    """What a comparison of the two tells where the lines of one run alone are told by this word."""
-    return "".join(f"{word} {stamp} 0 {stamp} {CLASSES[0]}\n" for stamp in range(FEWER, CALLS)) + "end\n"
-
-
 LISTED = f"runs 2\nbig {CALLS} {CALLS}\nother {CALLS} {FEWER}\n"
-# Each command while the file may not grow, with its status and its line. The first is the one that makes it grow; the log stays behind it.
+# Each command while the file may not grow. The first is the one that makes it grow; the log stays behind it. The next to last has a cause why it is not
+# done, which that of the device goes before.
 COMMANDS = (
-    (["register", "other", "other"], FAULT, f"registered other: {CALLS} calls, {FEWER} divergent\n"),
-    (["runs"], FAULT, LISTED),
-    (["compare", "big", "other"], FAULT, "compare big other\n" + only("gone")),
-    (["compare", "other", "big"], FAULT, "compare other big\n" + only("new")),
-    (["accept", "none", "3", "images"], NO_RUN, "no such run: none\n"),
-    (["accept", "other", "3", "images"], FAULT, "accepted other 3 images\n"),
+    ["register", "other", "other"],
+    ["runs"],
+    ["compare", "big", "other"],
+    ["compare", "other", "big"],
+    ["accept", "none", "3", "images"],
+    ["accept", "other", "3", "images"],
 )
 
 
@@ -60,11 +56,11 @@ def register_not_closed(program, folder):
         (folder / name / "report.txt").write_text(text)
     same("register", asked(program, folder, ["register", "big", "big"]), (0, f"registered big: {CALLS} calls, {CALLS} divergent\n", ""))
     size = (folder / "register.db").stat().st_size
-    for words, status, line in COMMANDS:
+    for words in COMMANDS:
         came = asked(program, folder, words, preexec_fn=limited(resource.RLIMIT_FSIZE, size))
-        same(f"{words} where the file cannot grow", came, (status, line, ""))
+        same(f"{words} where the file cannot grow", came, (FAULT, "device fault\n", ""))
         if (folder / "register.db-wal").stat().st_size < len(reports["other"]):
             raise Wrong(f"{words}: nothing is left in the log, so closing did not fail")
     same("runs behind it", asked(program, folder, ["runs"]), (0, LISTED, ""))
     same("what the file holds then", kept(folder), (reports, [("other", 3, 7)]))
-    return f"{len(COMMANDS)} commands whose register cannot be closed end as where a device failed, but for a refusal; what they did is there"
+    return f"{len(COMMANDS)} commands whose register cannot be closed end as where a device failed; what they did is there"

@@ -1,6 +1,7 @@
 pub mod CallsRead
 pub mod Depths
-pub mod Floats
 pub mod Keys
 pub mod RepliesRead
+pub mod SpelledTexts
 pub mod ValuesRead
+pub mod Written

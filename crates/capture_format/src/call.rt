@@ -7,7 +7,8 @@ ghost use Rattle.desk_values.specs.Text.{call_text};
 ghost use Rattle.desk_values.specs.Reading.{Reads};
 ghost use Rattle.capture_format.specs.CallReading.{sql_of, call_of};
 
-use desk_values::fields::{append_text, cut, read_text};
+use crate::known_texts::KnownTexts;
+use desk_values::fields::{append_text, cut, cut_near};
 use desk_values::{
     BIND_LIMIT, Binds, Bytes, Call, List, Memory, ReadErr, read_values, write_values,
 };
@@ -21,21 +22,22 @@ pub fn read_call(alloc: Global, bytes: &[u8]) -> Result<Call, ReadErr>
     ensures only { (call : Call) → IsCall call → bytes.now ≡ call_text call → Reads result (Some call) }
     ensures value { Reads result (call_of bytes.now) }
 {
-    call(alloc, bytes)
+    call(alloc, &mut KnownTexts::new(alloc, 0), bytes)
 }
 
+/// The same, with the texts that were read before.
 #[tactic(auto, unfolding(crate::specs::CallReading::call_of))]
-fn call(alloc: Global, bytes: &[u8]) -> Result<Call, ReadErr>
+pub(crate) fn call(alloc: Global, texts: &mut KnownTexts, bytes: &[u8]) -> Result<Call, ReadErr>
     ensures { Reads result (call_of bytes.now) }
 {
     if bytes == b"disconnect".as_slice() {
         return Ok(Call::Disconnect);
     }
-    let (word, rest) = cut(bytes, b' ').ok_or(ReadErr::Bad)?;
+    let (word, rest) = cut_near(bytes, b' ').ok_or(ReadErr::Bad)?;
     if word == b"connect".as_slice() {
-        Ok(Call::Connect(read_text(alloc, rest)?))
+        Ok(Call::Connect(texts.read(rest)?))
     } else if word == b"sql".as_slice() {
-        sql(alloc, rest)
+        sql(alloc, texts, rest)
     } else {
         Err(ReadErr::Bad)
     }
@@ -43,11 +45,11 @@ fn call(alloc: Global, bytes: &[u8]) -> Result<Call, ReadErr>
 
 // A statement's text and the values of its binds.
 #[tactic(auto, unfolding(crate::specs::CallReading::sql_of))]
-fn sql(alloc: Global, bytes: &[u8]) -> Result<Call, ReadErr>
+fn sql(alloc: Global, texts: &mut KnownTexts, bytes: &[u8]) -> Result<Call, ReadErr>
     ensures { Reads result (sql_of bytes.now) }
 {
     let (text, binds) = cut(bytes, b' ').ok_or(ReadErr::Bad)?;
-    let text = read_text(alloc, text)?;
+    let text = texts.read(text)?;
     let binds = read_values(alloc, binds)?;
     if binds.len() > BIND_LIMIT {
         return Err(ReadErr::Bad);

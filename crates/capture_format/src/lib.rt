@@ -9,6 +9,7 @@
 #![tactic(auto)]
 
 mod call;
+mod known_texts;
 pub mod laws;
 mod name;
 mod reply;

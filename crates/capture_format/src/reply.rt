@@ -11,7 +11,7 @@ ghost use Rattle.capture_format.specs.ReplyReading.{fault_of, filled_of, open_ro
 ghost use Rattle.capture_format.specs.Inside.Answers.{ReadsAs};
 
 use crate::separated::{Piece, read_pieces};
-use desk_values::fields::{append_u64, cut, read_u32, read_u64};
+use desk_values::fields::{append_u64, cut, cut_near, read_u32, read_u64};
 use desk_values::{
     Bytes, Fault, Image, Images, List, Memory, Outcome, ReadErr, Reply, RowList, TABLE_LIMIT,
     Values, all_draws, read_values, rows_ascend, write_values,
@@ -36,7 +36,7 @@ fn reply(alloc: Global, bytes: &[u8]) -> Result<Reply, ReadErr>
     ensures { Reads result (reply_of bytes.now) }
 {
     let (outcome, rest) = outcome(alloc, bytes)?;
-    let (draws, made) = cut(rest, b' ').ok_or(ReadErr::Bad)?;
+    let (draws, made) = cut_near(rest, b' ').ok_or(ReadErr::Bad)?;
     let draws = draws_in(alloc, draws)?;
     let made = made_in(made).ok_or(ReadErr::Bad)?;
     Ok(Reply {
@@ -51,7 +51,7 @@ fn reply(alloc: Global, bytes: &[u8]) -> Result<Reply, ReadErr>
 fn outcome(alloc: Global, bytes: &[u8]) -> Result<(Outcome, &[u8]), ReadErr>
     ensures { ReadsAs (λ front. (front.0, front.1.now)) result (outcome_of bytes.now) }
 {
-    let (word, rest) = cut(bytes, b' ').ok_or(ReadErr::Bad)?;
+    let (word, rest) = cut_near(bytes, b' ').ok_or(ReadErr::Bad)?;
     if let Some(outcome) = word_outcome(word) {
         return Ok((outcome, rest));
     }
@@ -163,9 +163,9 @@ fn images(alloc: Global, bytes: &[u8]) -> Result<Images, ReadErr>
 fn image(alloc: Global, bytes: &[u8]) -> Result<Image, ReadErr>
     ensures { Reads result (image_of bytes.now) }
 {
-    let (row, rest) = cut(bytes, b':').ok_or(ReadErr::Bad)?;
+    let (row, rest) = cut_near(bytes, b':').ok_or(ReadErr::Bad)?;
     let row = read_u64(row).ok_or(ReadErr::Bad)?;
-    let (table, left) = cut(rest, b':').ok_or(ReadErr::Bad)?;
+    let (table, left) = cut_near(rest, b':').ok_or(ReadErr::Bad)?;
     let table = table_in(table).ok_or(ReadErr::Bad)?;
     let left = left_in(alloc, left)?;
     Ok(Image { row, table, left })

@@ -2,11 +2,14 @@
 
 ghost use Rattle.std.specs.Prelude.{◌≡◌, IsTrue, ◌↔◌};
 ghost use Rattle.desk_values.specs.Good.{MayTell};
+ghost use Rattle.desk_values.specs.Reading.{Reads};
 ghost use Rattle.desk_schema.specs.Schema.{IsVersion};
 ghost use Rattle.file_lines.specs.File.{ReadsFile};
 ghost use Rattle.file_lines.specs.Inside.{AddsLine};
+ghost use Rattle.capture_format.specs.Inside.SessionReading.{session_line_of};
 ghost use Rattle.capture_format.specs.SessionFile.{session_form, is_ended, new_view, captured_of, IsBadSession, IsSessionFile};
 
+use crate::known_texts::{KEPT_TEXTS, KnownTexts};
 use crate::session_line::{CallLine, SessionLine, read_session_line};
 use desk_values::{CallList, Captured, ReadErr, Reply, Reserved};
 use file_lines::{FormErr, LineFile, read_lines};
@@ -58,6 +61,7 @@ struct SessionDraft {
     // the least stamp of the next call
     least: u64,
     calls: CallList,
+    texts: KnownTexts,
 }
 
 impl Model for SessionDraft {
@@ -91,7 +95,7 @@ impl LineFile for SessionDraft {
     ghost done = { is_ended };
 
     fn add(mut self, line: &[u8]) -> Result<SessionDraft, ReadErr> {
-        let line = read_session_line(self.alloc, line)?;
+        let line = self.read(line)?;
         self.add_line(line)?;
         Ok(self)
     }
@@ -112,7 +116,16 @@ impl SessionDraft {
             stage: Stage::Empty,
             least: 0,
             calls: Reserved::new(alloc),
+            texts: KnownTexts::new(alloc, KEPT_TEXTS),
         }
+    }
+
+    // The line that the bytes spell. It may keep a text.
+    fn read(&mut self, line: &[u8]) -> Result<SessionLine, ReadErr>
+        ensures line { Reads result (session_line_of line.now) }
+        ensures same { self.new ≡ self.old }
+    {
+        read_session_line(self.alloc, &mut self.texts, line)
     }
 
     fn add_line(&mut self, line: SessionLine) -> Result<(), ReadErr>

@@ -4,9 +4,10 @@ ghost use Rattle.desk_values.specs.Reading.{Reads, number_below};
 ghost use Rattle.capture_format.specs.Inside.Fields.{two_of};
 ghost use Rattle.capture_format.specs.Inside.SessionReading.{number_at, commit_number_of, commit_number_at, before_space, behind_space, exchange_of, call_line_of, head_of, session_line_of};
 
-use crate::call::read_call;
+use crate::call::call;
+use crate::known_texts::KnownTexts;
 use crate::reply::read_reply;
-use desk_values::fields::{cut, read_u32, read_u64};
+use desk_values::fields::{cut, cut_near, read_u32, read_u64};
 use desk_values::{Call, LAST_MOMENT, ReadErr, Reply};
 use std::alloc::Global;
 
@@ -53,7 +54,7 @@ fn read_number(bytes: &[u8], most: u64) -> Option<(u64, &[u8])>
     ensures value { option_map (λ x. (x.0, x.1.now)) result ≡ number_at most bytes.now }
     ensures most { IfSome result (λ x. x.0 ≤ most) }
 {
-    let (field, rest) = cut(bytes, b' ')?;
+    let (field, rest) = cut_near(bytes, b' ')?;
     let number = read_u64(field)?;
     if number <= most {
         Some((number, rest))
@@ -78,7 +79,7 @@ fn commit_number(field: &[u8]) -> Option<u64>
 fn read_commit_number(bytes: &[u8]) -> Option<(u64, &[u8])>
     ensures { option_map (λ x. (x.0, x.1.now)) result ≡ commit_number_at bytes.now }
 {
-    let (field, rest) = cut(bytes, b' ')?;
+    let (field, rest) = cut_near(bytes, b' ')?;
     Some((commit_number(field)?, rest))
 }
 
@@ -100,20 +101,20 @@ fn back_of(bytes: &[u8]) -> Option<&[u8]>
 
 // What was asked and what was answered, with ` > ` between.
 #[tactic(auto, unfolding(crate::specs::Inside::SessionReading::exchange_of))]
-fn read_exchange(alloc: Global, bytes: &[u8]) -> Result<Exchange, ReadErr>
+fn read_exchange(alloc: Global, texts: &mut KnownTexts, bytes: &[u8]) -> Result<Exchange, ReadErr>
     ensures { Reads result (exchange_of bytes.now) }
 {
     let (before, behind) = cut(bytes, b'>').ok_or(ReadErr::Bad)?;
     let asked = front_of(before).ok_or(ReadErr::Bad)?;
     let answered = back_of(behind).ok_or(ReadErr::Bad)?;
-    let call = read_call(alloc, asked)?;
+    let call = call(alloc, texts, asked)?;
     let reply = read_reply(alloc, answered)?;
     Ok(Exchange { call, reply })
 }
 
 // The line of a call.
 #[tactic(auto, unfolding(crate::specs::Inside::SessionReading::call_line_of))]
-fn read_call_line(alloc: Global, bytes: &[u8]) -> Result<CallLine, ReadErr>
+fn read_call_line(alloc: Global, texts: &mut KnownTexts, bytes: &[u8]) -> Result<CallLine, ReadErr>
     ensures { Reads result (call_line_of bytes.now) }
 {
     let (stamp, rest) = read_number(bytes, u32::MAX as u64).ok_or(ReadErr::Bad)?;
@@ -121,7 +122,7 @@ fn read_call_line(alloc: Global, bytes: &[u8]) -> Result<CallLine, ReadErr>
     let (ended, rest) = read_number(rest, LAST_MOMENT).ok_or(ReadErr::Bad)?;
     let (seen, rest) = read_number(rest, u64::MAX).ok_or(ReadErr::Bad)?;
     let (number, rest) = read_commit_number(rest).ok_or(ReadErr::Bad)?;
-    let exchange = read_exchange(alloc, rest)?;
+    let exchange = read_exchange(alloc, texts, rest)?;
     Ok(CallLine {
         stamp: stamp as u32,
         began,
@@ -146,13 +147,17 @@ fn read_head(bytes: &[u8]) -> Option<(u32, u32)>
 fn read_two(bytes: &[u8]) -> Option<(u32, u32)>
     ensures { result ≡ two_of 32 (number_below (2 ^ 32)) (number_below (2 ^ 32)) bytes.now }
 {
-    let (first, second) = cut(bytes, b' ')?;
+    let (first, second) = cut_near(bytes, b' ')?;
     Some((read_u32(first)?, read_u32(second)?))
 }
 
-/// The line that the bytes spell, without its line feed. `Bad` where they spell none.
+/// The line that the bytes spell, without its line feed, with the texts that were read before. `Bad` where they spell none.
 #[tactic(auto, unfolding(crate::specs::Inside::SessionReading::session_line_of))]
-pub(crate) fn read_session_line(alloc: Global, bytes: &[u8]) -> Result<SessionLine, ReadErr>
+pub(crate) fn read_session_line(
+    alloc: Global,
+    texts: &mut KnownTexts,
+    bytes: &[u8],
+) -> Result<SessionLine, ReadErr>
     ensures { Reads result (session_line_of bytes.now) }
 {
     if bytes == b"end".as_slice() {
@@ -161,5 +166,5 @@ pub(crate) fn read_session_line(alloc: Global, bytes: &[u8]) -> Result<SessionLi
     if let Some((version, session)) = read_head(bytes) {
         return Ok(SessionLine::Head(version, session));
     }
-    Ok(SessionLine::Call(read_call_line(alloc, bytes)?))
+    Ok(SessionLine::Call(read_call_line(alloc, texts, bytes)?))
 }

@@ -9,7 +9,7 @@ ghost use Rattle.capture_format.specs.Inside.StartReading.{rights_of, nulls_of, 
 
 use crate::name::read_name;
 use desk_schema::{ColumnKind, StartLine};
-use desk_values::fields::{cut, read_i64, read_u32, read_u64};
+use desk_values::fields::{cut, cut_near, read_i64, read_u32, read_u64};
 use desk_values::{ReadErr, find_word, read_values};
 use std::alloc::Global;
 
@@ -28,7 +28,7 @@ pub(crate) fn read_start_line(alloc: Global, bytes: &[u8]) -> Result<StartLine, 
 fn read_worded(alloc: Global, bytes: &[u8]) -> Result<StartLine, ReadErr>
     ensures { Reads result (worded_of bytes.now) }
 {
-    let (word, rest) = cut(bytes, b' ').ok_or(ReadErr::Bad)?;
+    let (word, rest) = cut_near(bytes, b' ').ok_or(ReadErr::Bad)?;
     read_behind(alloc, word, rest)
 }
 
@@ -160,8 +160,8 @@ fn read_row(alloc: Global, bytes: &[u8]) -> Result<StartLine, ReadErr>
     ensures { Reads result
         (option_map (λ p. StartLine.Row p.0 p.1.0 p.1.1) (two_of 32 number_of (two_of 32 (number_below (2 ^ 32)) values_of) bytes.now)) }
 {
-    let (row, rest) = cut(bytes, b' ').ok_or(ReadErr::Bad)?;
-    let (table, values) = cut(rest, b' ').ok_or(ReadErr::Bad)?;
+    let (row, rest) = cut_near(bytes, b' ').ok_or(ReadErr::Bad)?;
+    let (table, values) = cut_near(rest, b' ').ok_or(ReadErr::Bad)?;
     let row = read_u64(row).ok_or(ReadErr::Bad)?;
     let table = read_u32(table).ok_or(ReadErr::Bad)?;
     Ok(StartLine::Row(row, table, read_values(alloc, values)?))

@@ -2,7 +2,7 @@
 use Rattle.std.specs.Prelude.{◌≡◌, ◌⊎◌, ℕ, ◌+◌, ◌<◌, ◌≤◌, true, List, [], ◌∷◌, ◌++◌, length, map, take, Option, None, Some, IsSomeAnd, IfSome}
 use Rattle.capture_http.specs.declared.conn_end.ConnEnd.{ConnEnd}
 use Rattle.capture_http.specs.declared.conn_end.ConnEnd.TheVariants as ends
-use Rattle.desk_files.specs.Outside.{Told as Where, Appends, HasRisen}
+use Rattle.desk_files.specs.Outside.{Account, Told as Where, Appends, HasRisen}
 use Rattle.capture_recorder.specs.Doors.{IsClosing}
 use Rattle.capture_recorder.specs.declared.door.Said.{Said}
 use Rattle.capture_recorder.specs.declared.door.Turned.{Turned}
@@ -24,6 +24,10 @@ pub record Ends : Type 0 where
 
 abbrev pub ends_of : Option (List ℕ) → ℕ → Option (List ℕ) → ℕ → List Said → List Turned → Ends
 ends_of input input_faults output output_faults said turned = record { input = input; input_faults = input_faults; output = output; output_faults = output_faults; said = said; turned = turned }
+
+-- the same by what the two objects give account of
+abbrev pub ends_told : Account (List ℕ) → Account (List ℕ) → List Said → List Turned → Ends
+ends_told input output said turned = ends_of input.content input.faults output.content output.faults said turned
 
 -- ---- what was read and noted
 

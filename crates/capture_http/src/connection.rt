@@ -2,7 +2,7 @@
 
 ghost use Rattle.std.specs.Prelude.{◌≡◌, ◌≢◌, ◌≤◌, ◌+◌, ◌^◌, ◌<◌, true, [], length, if◌then◌else◌};
 ghost use Rattle.capture_http.specs.declared.conn_end.ConnEnd.TheVariants.{Memory};
-ghost use Rattle.capture_http.specs.Ends.{Finishes, Serves, ends_of};
+ghost use Rattle.capture_http.specs.Ends.{Finishes, Serves, ends_told};
 ghost use Rattle.capture_http.specs.Inside.{Halts, Refuses, TurnEnds, request_bytes};
 
 use crate::answering::react;
@@ -27,10 +27,11 @@ pub fn serve_connection<R: Clock + Wait, B: CallDoor, I: Source, O: Sink>(
     output: &mut O,
 ) -> ConnEnd
     ensures serves { Serves result (B.seat calls.old)
-        (ends_of (I.content input.old) (I.faults input.old) (O.content output.old) (O.faults output.old) (B.said calls.old) (B.turned calls.old))
-        (ends_of (I.content input.new) (I.faults input.new) (O.content output.new) (O.faults output.new) (B.said calls.new) (B.turned calls.new)) }
+        (ends_told (I.account input.old) (O.account output.old) (B.said calls.old) (B.turned calls.old))
+        (ends_told (I.account input.new) (O.account output.new) (B.said calls.new) (B.turned calls.new)) }
     ensures seat { B.seat calls.new ≡ B.seat calls.old }
     ensures closed { result ≢ Memory → B.closed calls.new ≡ true }
+    ensures asked { B.asked calls.new ≡ true }
 {
     let end = converse(rt, alloc, calls, input, output);
     match calls.close(rt) {
@@ -48,8 +49,8 @@ fn converse<R: Clock + Wait, B: CallDoor, I: Source, O: Sink>(
     output: &mut O,
 ) -> ConnEnd
     ensures ends { Finishes result (B.seat calls.old)
-        (ends_of (I.content input.old) (I.faults input.old) (O.content output.old) (O.faults output.old) (B.said calls.old) (B.turned calls.old))
-        (ends_of (I.content input.new) (I.faults input.new) (O.content output.new) (O.faults output.new) (B.said calls.new) (B.turned calls.new)) }
+        (ends_told (I.account input.old) (O.account output.old) (B.said calls.old) (B.turned calls.old))
+        (ends_told (I.account input.new) (O.account output.new) (B.said calls.new) (B.turned calls.new)) }
     ensures seat { B.seat calls.new ≡ B.seat calls.old }
 {
     match answer_requests(rt, alloc, calls, input, output) {
@@ -64,7 +65,7 @@ fn converse<R: Clock + Wait, B: CallDoor, I: Source, O: Sink>(
 // Writes the answer where memory is short. The connection ends in any case, so that a fault changes nothing.
 #[tactic(auto, using(crate::proofs::Halting::refuses))]
 fn refuse<O: Sink>(output: &mut O)
-    ensures { Refuses (O.content output.old) (O.content output.new) (O.faults output.old) (O.faults output.new) }
+    ensures { Refuses (O.account output.old).content (O.account output.new).content (O.account output.old).faults (O.account output.new).faults }
 {
     let _written = output.write(shortage());
 }
@@ -78,8 +79,8 @@ fn answer_requests<R: Clock + Wait, B: CallDoor, I: Source, O: Sink>(
     output: &mut O,
 ) -> ConnEnd
     ensures ends { Halts result (B.seat calls.old)
-        (ends_of (I.content input.old) (I.faults input.old) (O.content output.old) (O.faults output.old) (B.said calls.old) (B.turned calls.old))
-        (ends_of (I.content input.new) (I.faults input.new) (O.content output.new) (O.faults output.new) (B.said calls.new) (B.turned calls.new)) }
+        (ends_told (I.account input.old) (O.account output.old) (B.said calls.old) (B.turned calls.old))
+        (ends_told (I.account input.new) (O.account output.new) (B.said calls.new) (B.turned calls.new)) }
     ensures seat { B.seat calls.new ≡ B.seat calls.old }
 {
     match Reader::new(alloc) {
@@ -99,8 +100,8 @@ fn answer_each<R: Clock + Wait, B: CallDoor, I: Source, O: Sink>(
 ) -> ConnEnd
     requires { reader.old ≡ [] }
     ensures ends { Halts result (B.seat calls.old)
-        (ends_of (I.content input.old) (I.faults input.old) (O.content output.old) (O.faults output.old) (B.said calls.old) (B.turned calls.old))
-        (ends_of (I.content input.new) (I.faults input.new) (O.content output.new) (O.faults output.new) (B.said calls.new) (B.turned calls.new)) }
+        (ends_told (I.account input.old) (O.account output.old) (B.said calls.old) (B.turned calls.old))
+        (ends_told (I.account input.new) (O.account output.new) (B.said calls.new) (B.turned calls.new)) }
     ensures seat { B.seat calls.new ≡ B.seat calls.old }
 {
     let mut count = 0;
@@ -130,8 +131,8 @@ fn answer_next<R: Clock + Wait, B: CallDoor, I: Source, O: Sink>(
     requires room { count.old + 1 < 2 ^ 32 }
     requires few { length reader.old ≤ request_bytes }
     ensures turn { TurnEnds result (B.seat calls.old) count.old count.new reader.old reader.new
-        (ends_of (I.content input.old) (I.faults input.old) (O.content output.old) (O.faults output.old) (B.said calls.old) (B.turned calls.old))
-        (ends_of (I.content input.new) (I.faults input.new) (O.content output.new) (O.faults output.new) (B.said calls.new) (B.turned calls.new)) }
+        (ends_told (I.account input.old) (O.account output.old) (B.said calls.old) (B.turned calls.old))
+        (ends_told (I.account input.new) (O.account output.new) (B.said calls.new) (B.turned calls.new)) }
     ensures seat { B.seat calls.new ≡ B.seat calls.old }
 {
     let request = match reader.next_request(input) {

@@ -64,10 +64,10 @@ impl Reader {
     #[tactic(auto, using(crate::proofs::Keeping::loses_trans, crate::proofs::Keeping::stops_later))]
     pub(crate) fn next_request<I: Source>(&mut self, input: &mut I) -> Result<Request, ConnEnd>
         requires few { length self.old ≤ request_bytes }
-        ensures kept { LosesNothing self.old (I.content input.old) self.new (I.content input.new) }
+        ensures kept { LosesNothing self.old (I.account input.old).content self.new (I.account input.new).content }
         ensures few { length self.new ≤ request_bytes }
         ensures came { RequestCame result self.new
-            (I.content input.old) (I.content input.new) (I.faults input.old) (I.faults input.new) }
+            (I.account input.old).content (I.account input.new).content (I.account input.old).faults (I.account input.new).faults }
     {
         let request = match self.read_head(input) {
             Ok(request) => request,
@@ -83,10 +83,10 @@ impl Reader {
     #[tactic(auto, using(crate::proofs::Keeping::loses_refl, crate::proofs::Keeping::loses_trans, crate::proofs::Keeping::searched_later, crate::proofs::Keeping::stops_later))]
     fn read_head<I: Source>(&mut self, input: &mut I) -> Result<Request, ConnEnd>
         requires few { length self.old ≤ request_bytes }
-        ensures kept { LosesNothing self.old (I.content input.old) self.new (I.content input.new) }
+        ensures kept { LosesNothing self.old (I.account input.old).content self.new (I.account input.new).content }
         ensures few { length self.new ≤ request_bytes }
         ensures came { HeadCame result self.new
-            (I.content input.old) (I.content input.new) (I.faults input.old) (I.faults input.new) }
+            (I.account input.old).content (I.account input.new).content (I.account input.old).faults (I.account input.new).faults }
     {
         let mut searched = 0;
         loop {
@@ -106,10 +106,10 @@ impl Reader {
     fn read_body<I: Source>(&mut self, input: &mut I, request: &Request) -> Result<(), ConnEnd>
         requires begins { Begins self.old request.now }
         requires few { length self.old ≤ request_bytes }
-        ensures kept { LosesNothing self.old (I.content input.old) self.new (I.content input.new) }
+        ensures kept { LosesNothing self.old (I.account input.old).content self.new (I.account input.new).content }
         ensures few { length self.new ≤ request_bytes }
         ensures came { BodyCame result request.now self.new
-            (I.content input.old) (I.content input.new) (I.faults input.old) (I.faults input.new) }
+            (I.account input.old).content (I.account input.new).content (I.account input.old).faults (I.account input.new).faults }
     {
         while !request.is_whole(self.bytes()) {
             match self.read_more(input) {
@@ -124,10 +124,10 @@ impl Reader {
     fn read_more<I: Source>(&mut self, input: &mut I) -> Result<(), ConnEnd>
         requires unfinished { IsUnfinished self.old }
         requires room { length self.old < request_bytes }
-        ensures kept { LosesNothing self.old (I.content input.old) self.new (I.content input.new) }
+        ensures kept { LosesNothing self.old (I.account input.old).content self.new (I.account input.new).content }
         ensures few { length self.new ≤ request_bytes }
         ensures came { MoreCame result self.old self.new
-            (I.content input.old) (I.content input.new) (I.faults input.old) (I.faults input.new) }
+            (I.account input.old).content (I.account input.new).content (I.account input.old).faults (I.account input.new).faults }
     {
         drop(self.held.drain(..self.taken));
         self.taken = 0;
@@ -145,10 +145,10 @@ fn read_behind<I: Source>(
 ) -> Result<(), ConnEnd>
     requires unfinished { IsUnfinished held.old.items }
     requires room { 0 < length buffer.old }
-    ensures kept { LosesNothing held.old.items (I.content input.old) held.new.items (I.content input.new) }
+    ensures kept { LosesNothing held.old.items (I.account input.old).content held.new.items (I.account input.new).content }
     ensures few { length held.new.items ≤ length held.old.items + length buffer.old }
     ensures came { MoreCame result held.old.items held.new.items
-        (I.content input.old) (I.content input.new) (I.faults input.old) (I.faults input.new) }
+        (I.account input.old).content (I.account input.new).content (I.account input.old).faults (I.account input.new).faults }
 {
     if held.reserve(buffer.len()).is_err() {
         return Err(ConnEnd::Memory);

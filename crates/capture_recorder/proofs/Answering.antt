@@ -10,7 +10,7 @@ use Rattle.desk_values.specs.declared.value.Value.TheVariants.{Null, Int, Text, 
 use Rattle.desk_values.specs.declared.call.Call.{Call}
 use Rattle.desk_values.specs.declared.call.Reply.{Reply}
 use Rattle.replay_history.specs.Capture.{binds_of}
-use Rattle.machine_model.specs.State.{State, is_given}
+use Rattle.server_words.specs.State.{State, is_given}
 use Rattle.capture_recorder.specs.Doors.{IsClosing}
 use Rattle.capture_recorder.specs.Inside.Answered.{IsAnswer, closing}
 use Rattle.capture_recorder.specs.Limits.{accepted_limit}

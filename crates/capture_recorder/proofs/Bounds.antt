@@ -8,8 +8,8 @@ use Rattle.replay_history.specs.Capture.{IsRun}
 use Rattle.law_ids.specs.Counters.{AreAtMost}
 use Rattle.law_ids.proofs.Runs.{run_bound}
 use Rattle.law_ids.proofs.Starts.{opening_bound}
-use Rattle.machine_model.specs.State.{State, opening}
-use Rattle.machine_model.specs.Step.{Gives}
+use Rattle.server_words.specs.State.{State, opening}
+use Rattle.server_words.specs.Step.{Gives}
 
 pub low : (start : StartView) (calls : List Captured) (last : State) → IsStart start → IsRun Gives (opening start) calls last → AreAtMost (2 ^ 39 + length calls) last
 low start calls last is run = run_bound (opening start) last calls (2 ^ 39) run (opening_bound start (sound_start start is))

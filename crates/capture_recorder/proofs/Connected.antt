@@ -15,12 +15,12 @@ use Rattle.desk_schema.specs.Schema.{SchemaView}
 use Rattle.desk_schema.specs.Start.{StartView}
 use Rattle.replay_history.specs.Capture.{IsRun}
 use Rattle.captured_calls.specs.Sessions.{calls_of, is_of}
-use Rattle.machine_model.specs.declared.session.Session.{Session}
-use Rattle.machine_model.specs.State.{State, disconnected, is_connected, opening, session_at}
-use Rattle.machine_model.specs.View.{View, view_of}
-use Rattle.machine_model.specs.Request.{disconnect}
-use Rattle.machine_model.specs.Answer.{answer, ended, unless}
-use Rattle.machine_model.specs.Step.{Gives, answer_in, committed_in, session_after, step, with_commit}
+use Rattle.server_words.specs.declared.session.Session.{Session}
+use Rattle.server_words.specs.State.{State, disconnected, is_connected, opening, session_at}
+use Rattle.server_words.specs.View.{View, view_of}
+use Rattle.server_words.specs.Request.{disconnect}
+use Rattle.server_words.specs.Answer.{answer, ended, unless}
+use Rattle.server_words.specs.Step.{Gives, answer_in, committed_in, session_after, step, with_commit}
 use Rattle.capture_recorder.specs.Recording.{connected_count}
 
 -- there are 64 sessions

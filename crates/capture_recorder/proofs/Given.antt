@@ -11,7 +11,7 @@ use Rattle.desk_values.specs.declared.value.Value.{Value}
 use Rattle.desk_values.specs.declared.value.Value.TheVariants.{Null, Int, Text, Row, Draw}
 use Rattle.desk_values.specs.declared.value.Image.{Image}
 use Rattle.desk_schema.specs.Start.{StartView}
-use Rattle.machine_model.specs.State.{State, is_between, is_given, stands_in}
+use Rattle.server_words.specs.State.{State, is_between, is_given, stands_in}
 use Rattle.captured_calls.specs.Same.{same_value}
 use Rattle.known_ids.specs.Knowing.{KnowsCalls, knows}
 use Rattle.known_ids.specs.declared.known.KnownIds.{KnownIds}

@@ -19,10 +19,10 @@ use Rattle.captured_calls.proofs.Counts.{count_more}
 use Rattle.captured_calls.proofs.Following.{ended_more, ended_most, follows}
 use Rattle.captured_calls.proofs.Growing.{legal_longer, run_more}
 use Rattle.law_ids.proofs.Known.{known_after}
-use Rattle.machine_model.specs.Machine.{Running}
-use Rattle.machine_model.specs.declared.session.Session.{Session}
-use Rattle.machine_model.specs.State.{State, disconnected, is_given, opening}
-use Rattle.machine_model.specs.Step.{Gives, reply_in, step}
+use Rattle.server_words.specs.Machine.{Running}
+use Rattle.server_words.specs.declared.session.Session.{Session}
+use Rattle.server_words.specs.State.{State, disconnected, is_given, opening}
+use Rattle.server_words.specs.Step.{Gives, reply_in, step}
 use Rattle.known_ids.specs.Knowing.{KnowsCalls}
 use Rattle.known_ids.specs.declared.known.KnownIds.{KnownIds}
 use Rattle.capture_recorder.specs.declared.counters.Counters.{Counters}

@@ -25,6 +25,8 @@ pub record DoorView : Type 0 where
   pub turned : List Turned
   -- no call went through it since the session was closed
   pub closed : Bool
+  -- none did since it was asked to close the session, whatever came of that
+  pub asked : Bool
 
 -- one entry was added, for this call
 pub record Turns (call : Call) (full : Bool) (said : ℕ) (before after : List Turned) : Type 0 where

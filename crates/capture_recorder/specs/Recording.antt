@@ -10,9 +10,9 @@ use Rattle.desk_values.specs.Limits.{last_moment}
 use Rattle.replay_history.specs.Capture.{IsLegalCapture, IsRun, binds_of, commits_before, number_behind, session_calls_before}
 use Rattle.captured_calls.specs.Moments.{ended_in}
 use Rattle.captured_calls.specs.Stamped.{HasText}
-use Rattle.machine_model.specs.declared.session.Session.{Session}
-use Rattle.machine_model.specs.State.{State, is_connected, is_given, opening}
-use Rattle.machine_model.specs.Step.{Gives, reply_in, step}
+use Rattle.server_words.specs.declared.session.Session.{Session}
+use Rattle.server_words.specs.State.{State, is_connected, is_given, opening}
+use Rattle.server_words.specs.Step.{Gives, reply_in, step}
 use Rattle.capture_recorder.specs.declared.refusal.CallErr.{CallErr}
 use Rattle.capture_recorder.specs.declared.refusal.CallErr.TheVariants.{Stranger, Full, Memory}
 use Rattle.capture_recorder.specs.Limits.{accepted_limit}

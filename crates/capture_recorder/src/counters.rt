@@ -2,14 +2,14 @@
 
 ghost use Rattle.std.specs.Prelude.{◌≡◌, ◌<◌, ◌-◌, ◌^◌, ◌&&◌, All, IfOk, nat_le, nat_lt, slice_get};
 ghost use Rattle.std.specs.Option.{option_copied};
-ghost use Rattle.machine_model.specs.Draws.{moved};
-ghost use Rattle.machine_model.specs.State.{is_between};
-ghost use Rattle.machine_model.specs.Step.{after_made};
+ghost use Rattle.server_words.specs.Draws.{moved};
+ghost use Rattle.server_words.specs.State.{is_between};
+ghost use Rattle.server_words.specs.Step.{after_made};
 ghost use Rattle.capture_recorder.specs.Inside.Given.{is_later};
 
 use desk_schema::Start;
 use desk_values::{Memory, Reply, Value};
-use machine_model::move_sequences;
+use statement_acts::move_sequences;
 use std::alloc::Global;
 
 /// The number of the next row, and the next value of each sequence.

@@ -78,6 +78,9 @@ pub trait CallDoor {
     /// Whether no call went through it since the session was closed.
     ghost closed: { Self → Bool };
 
+    /// Whether none did since it was asked to close the session, whatever came of that.
+    ghost asked: { Self → Bool };
+
     /// The session's number.
     fn session(&self) -> u32
         ensures { result ≡ seat self.now };
@@ -96,11 +99,13 @@ pub trait CallDoor {
     fn call<R: Clock + Wait>(&mut self, rt: &R, call: &Call) -> Result<Reply, CallErr>
         ensures notes { Notes call.now result (said self.old) (said self.new) (turned self.old) (turned self.new) }
         ensures opens { closed self.new ≡ false }
+        ensures reopens { asked self.new ≡ false }
         ensures seat { seat self.new ≡ seat self.old };
 
     /// Disconnects the session where it is connected, and notes the call with its reply then. Want of memory notes nothing.
     fn close<R: Clock + Wait>(&mut self, rt: &R) -> Result<(), Memory>
         ensures notes { Closes result (said self.old) (said self.new) (turned self.old) (turned self.new) }
         ensures closes { OnOk result (closed self.new ≡ true) }
+        ensures asks { asked self.new ≡ true }
         ensures seat { seat self.new ≡ seat self.old };
 }

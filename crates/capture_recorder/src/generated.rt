@@ -8,7 +8,7 @@ ghost use Rattle.desk_schema.specs.declared.schema.Rights.TheVariants.{ReadWrite
 ghost use Rattle.desk_schema.specs.Draft.{finished};
 ghost use Rattle.desk_schema.specs.Line.{with_name};
 ghost use Rattle.desk_schema.specs.State.{added, nothing};
-ghost use Rattle.machine_model.specs.State.{State};
+ghost use Rattle.server_words.specs.State.{State};
 ghost use Rattle.capture_recorder.specs.Recording.{is_stranger};
 ghost use Rattle.capture_recorder.specs.Generated.{about, account, call_in_round, call_in_turn, generated, generated_start};
 ghost use Rattle.capture_recorder.specs.Inside.Declaring.{declared};

@@ -1,10 +1,11 @@
 //! A door to the recorder behind its one lock.
 
-ghost use Rattle.std.specs.Prelude.{◌≡◌, ◌<◌, ◌++◌, ◌∷◌, [], length, OnOk, OnErr};
+ghost use Rattle.std.specs.Prelude.{◌≡◌, ◌<◌, ◌++◌, ◌∷◌, [], false, length, IfOk, IfSome, OnOk, OnErr};
 ghost use Rattle.desk_values.specs.Good.{IsGoodReply};
+ghost use Rattle.server_words.specs.State.{is_connected};
 ghost use Rattle.capture_recorder.specs.Doors.{AreGood};
 ghost use Rattle.capture_recorder.specs.Inside.Answered.{IsAnswer, closing};
-ghost use Rattle.capture_recorder.specs.Recording.{recorded};
+ghost use Rattle.capture_recorder.specs.Recording.{closed as with_disconnect, closing_reply, recorded};
 ghost use Rattle.capture_recorder.specs.declared.door.Said.{Said as SaidCall};
 
 use crate::door::{CallDoor, Said, SaidList, Turned, TurnedList};
@@ -18,7 +19,7 @@ use std::sync::{Mutex, Wait};
 use std::time::Clock;
 
 /// One session's door to a recorder that others share by its lock. It holds the lock once for each call. Contracts see the
-/// session's number, the two lists, and whether the session was closed.
+/// session's number, the two lists, whether the session was closed, and whether it was asked to close it.
 #[derive(Drop)]
 pub struct LockedDoor<'a, D: Door> {
     session: u32,
@@ -26,8 +27,9 @@ pub struct LockedDoor<'a, D: Door> {
     door: &'a D,
     said: SaidList,
     turned: TurnedList,
-    // For contracts alone.
+    // These are for contracts alone.
     closed: bool,
+    asked: bool,
 }
 
 impl<'a, D: Door> Model for LockedDoor<'a, D> {
@@ -36,7 +38,7 @@ impl<'a, D: Door> Model for LockedDoor<'a, D> {
 
     ghost Value = { DoorView };
 
-    ghost view = { λ a. record { session = a.session; said = a.said.items; turned = a.turned.items; closed = a.closed } };
+    ghost view = { λ a. record { session = a.session; said = a.said.items; turned = a.turned.items; closed = a.closed; asked = a.asked } };
 
     ghost invariant = { λ a. (a.session < 64) × AreGood a.said.items };
 }
@@ -61,6 +63,7 @@ impl<'a, D: Door> LockedDoor<'a, D> {
             said: Reserved::new(alloc),
             turned: Reserved::new(alloc),
             closed: false,
+            asked: false,
         }
     }
 
@@ -83,6 +86,8 @@ impl<'a, D: Door> CallDoor for LockedDoor<'a, D> {
 
     ghost closed = { λ d. d.closed };
 
+    ghost asked = { λ d. d.asked };
+
     fn session(&self) -> u32 {
         self.session
     }
@@ -97,6 +102,7 @@ impl<'a, D: Door> CallDoor for LockedDoor<'a, D> {
 
     fn call<R: Clock + Wait>(&mut self, rt: &R, call: &Call) -> Result<Reply, CallErr> {
         self.closed = false;
+        self.asked = false;
         let place = u32::try_from(self.said.len()).map_err(|_| CallErr::Memory)?;
         self.said.reserve(1)?;
         self.turned.reserve(1)?;
@@ -126,9 +132,10 @@ impl<'a, D: Door> CallDoor for LockedDoor<'a, D> {
     }
 
     fn close<R: Clock + Wait>(&mut self, rt: &R) -> Result<(), Memory> {
+        self.asked = true;
         self.said.reserve(1)?;
         let at = self.door.now(rt);
-        let reply = self.recorder.lock(rt).close(self.session, at)?;
+        let reply = disconnected(&mut self.recorder.lock(rt), self.session, at)?;
         say_closing(&mut self.said, reply);
         self.closed = true;
         Ok(())
@@ -151,6 +158,18 @@ fn answered(
 {
     let held = recorder.calls().len() as u32;
     (held, recorder.accept(session, call, began, ended))
+}
+
+// What closing a session asks of the recorder under one hold of its lock: the reply to its disconnect, where it was connected.
+fn disconnected(recorder: &mut Recorder, session: u32, at: u64) -> Result<Option<Reply>, Memory>
+    requires { session < 64 }
+    ensures ok { OnOk result (recorder.new ≡ with_disconnect recorder.old session at) }
+    ensures off { OnOk result (is_connected recorder.new.state session ≡ false) }
+    ensures reply { IfOk result (λ reply. reply ≡ closing_reply recorder.old session) }
+    ensures good { IfOk result (λ reply. IfSome reply (λ r. IsGoodReply r)) }
+    ensures err { OnErr result (recorder.new ≡ recorder.old) }
+{
+    recorder.close(session, at)
 }
 
 // Notes a call that was answered. There is room for it.

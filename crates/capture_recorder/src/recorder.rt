@@ -3,8 +3,8 @@
 ghost use Rattle.std.specs.Prelude.{◌≡◌, ◌≢◌, ℕ, ◌+◌, ◌<◌, ◌≤◌, false, if◌then◌else◌, length, IfOk, IfSome, OnOk, OnErr, IsSomeAnd, Some};
 ghost use Rattle.desk_values.specs.Good.{IsGoodReply};
 ghost use Rattle.capture_format.specs.SessionFile.{AreCallsOf, MayTellAll};
-ghost use Rattle.machine_model.specs.State.{is_connected, is_given, session_at};
-ghost use Rattle.machine_model.specs.Step.{reply_in, step};
+ghost use Rattle.server_words.specs.State.{is_connected, is_given, session_at};
+ghost use Rattle.server_words.specs.Step.{reply_in, step};
 ghost use Rattle.capture_recorder.specs.Limits.{accepted_limit};
 ghost use Rattle.capture_recorder.specs.Recording.{IsRecording, Turns, captured, closed, closing_reply, connected_count, cut, is_stranger, kept_ended, opened, recorded, turned_away};
 ghost use Rattle.captured_calls.specs.Sessions.{calls_of};

@@ -13,7 +13,7 @@ use Rattle.capture_recorder.specs.Gathering.{lists_of, said_in, said_of}
 use Rattle.capture_recorder.specs.Listed.{AreBelow}
 use Rattle.capture_recorder.specs.Recording.{Recording}
 use Rattle.desk_schema.specs.Start.{StartView}
-use Rattle.machine_model.specs.State.{State, is_connected}
+use Rattle.server_words.specs.State.{State, is_connected}
 use Rattle.capture_serve.specs.Inside.Passing.{AreClosed, IsClosedBy}
 
 abbrev SaidList : Type 0

@@ -2,13 +2,15 @@
 use Rattle.std.proofs.Common.{◌≡◌, ◌∙◌, ℕ, ◌+◌, ◌≤◌, List, [], ◌∷◌, ◌++◌, length, map, min, Option, Some, None, IsSomeAnd, Result, Ok, Err, refl, sym, ap, subst, arith, append_assoc}
 use Rattle.std.proofs.Math.Nat.{min-eq_left, min-eq_right}
 use Rattle.std.proofs.lemmas.List.{append-nil, length-append, map-append}
-use Rattle.desk_files.specs.Outside.{Told}
-use Rattle.desk_files.specs.Hosts.{Accepts, Connections, Takes}
+use Rattle.desk_files.specs.Outside.{Account, Told, raised}
+use Rattle.desk_files.specs.Hosts.{Accepts, Connections, Handed, Takes, after_accept}
+use Rattle.desk_files.proofs.DeviceLaws.{risen_more}
 use Rattle.desk_files.specs.declared.fault.Failed.{Failed}
 use Rattle.capture_http.specs.Ends.{ends_of}
 use Rattle.capture_serve.specs.Connections.{comes}
 use Rattle.capture_serve.specs.declared.halt.Halt.{Halt}
 use Rattle.capture_serve.specs.Inside.Passing.{Came, Moment, Took, arrivals_from}
+use Rattle.capture_serve.specs.Inside.Handing.{HasTaken}
 
 -- ---- what came so far
 
@@ -88,12 +90,26 @@ halted halt arrivals n most None after so = tt
 halted halt arrivals n most (Some c) None so = absurd so
 halted halt arrivals n most (Some c) (Some c') so = (so.sent, so.took, tt)
 
+-- there was no memory for any
+pub none_at_all : (halt : Halt) (most : ℕ) (before : Option Connections) → Came (Err halt) most [] before before
+none_at_all halt most before = halted halt [] 0 most before before (none_came before)
+
+-- ---- how many were taken
+
+module _ {T : Type 0} (result : Result (Option T) Failed) (n : ℕ) (old now new : Handed) (moves : new ≡ after_accept result now) (taken : HasTaken n old now) where
+  pub one_taken : (pair : T) → result ≡ Ok (Some pair) → HasTaken (n + 1) old new
+  one_taken pair is =
+      subst (λ (r : Result (Option T) Failed). new ≡ after_accept r now) is moves ∙ ap (λ (h : Handed). record h { taken = raised h.taken }) taken ∙ ap (λ (k : ℕ). record old { taken = k }) (sym (risen_more n old.taken))
+
+  pub none_taken : result ≡ Ok None → HasTaken n old new
+  none_taken is = subst (λ (r : Result (Option T) Failed). new ≡ after_accept r now) is moves ∙ taken
+
 -- ---- answers of `accept`
 
-module _ {In Out : Type 0} (before now after : Option Connections) (input : In → Option (List ℕ)) (output : Out → Option (List ℕ)) (result : Result (Option (In × Out)) Failed) (takes : Accepts input output result now after) where
+module _ {In Out : Type 0} (before now after : Option Connections) (input : In → Account (List ℕ)) (output : Out → Account (List ℕ)) (result : Result (Option (In × Out)) Failed) (takes : Accepts input output result now after) where
   pub one_more_came : {S : Type 0} (arrival_of : S → Moment) (done : List S) (seat : S) (n : ℕ) (pair : In × Out) → result ≡ Ok (Some pair) → SoFar (map arrival_of done) n before now
-      → ((first : List ℕ) → input pair.0 ≡ Some first → output pair.1 ≡ Some [] → arrival_of seat ≡ record { session = n; ends = comes first }) → SoFar (map arrival_of (done ++ seat ∷ [])) (n + 1) before after
-  one_more_came arrival_of done seat n pair is so arrive = came_more arrival_of done seat n before now after (input pair.0) (output pair.1) so (subst (λ (r : Result (Option (In × Out)) Failed). Accepts input output r now after) is takes) arrive
+      → ((first : List ℕ) → (input pair.0).content ≡ Some first → (output pair.1).content ≡ Some [] → arrival_of seat ≡ record { session = n; ends = comes first }) → SoFar (map arrival_of (done ++ seat ∷ [])) (n + 1) before after
+  one_more_came arrival_of done seat n pair is so arrive = came_more arrival_of done seat n before now after (input pair.0).content (output pair.1).content so (subst (λ (r : Result (Option (In × Out)) Failed). Accepts input output r now after) is takes) arrive
 
   pub no_more_came : (arrivals : List Moment) (n most : ℕ) → result ≡ Ok None → n ≤ most → SoFar arrivals n before now → Came (Ok tt) most arrivals before after
   no_more_came arrivals n most is few so =

@@ -1,13 +1,15 @@
 -- The whole service, put together.
-use Rattle.std.proofs.Common.{◌≡◌, ◌∙◌, ℕ, suc, ◌+◌, ◌≤◌, List, [], ◌∷◌, ◌++◌, length, map, min, Option, Some, None, IsSomeAnd, Result, Ok, Err, IfOk, refl, sym, ap, subst, arith, slice_get, if◌then◌else◌}
-use Rattle.std.specs.Prelude.{count_by, false, is_err, IfErr, OnOk}
+use Rattle.std.proofs.Common.{◌≡◌, ◌∙◌, ℕ, suc, ◌+◌, ◌≤◌, inl, inr, Bool, true, List, [], ◌∷◌, ◌++◌, length, map, min, Option, Some, None, IsSomeAnd, Result, Ok, Err, IfOk, refl, sym, ap, subst, arith, slice_get, if◌then◌else◌}
+use Rattle.std.specs.Prelude.{count_by, false, is_err, not, IfErr}
 use Rattle.std.specs.List.{AllByRecursion}
 use mathlib.Core.Bool.{true≢false}
-use Rattle.std.proofs.lemmas.List.{append-nil, length-map}
-use Rattle.std.proofs.lemmas.Result.{IfOk-at_ok}
+use Rattle.std.proofs.lemmas.List.{append-nil, length-append, length-map}
+use Rattle.std.proofs.lemmas.Result.{IfErr-weaker, IfOk-at_ok, IfOk-weaker}
 use Rattle.std.proofs.lemmas.List.Folds.{fold-map}
-use Rattle.desk_files.specs.Outside.{Counts, Told}
-use Rattle.desk_files.specs.Hosts.{Connections, Returned}
+use Rattle.desk_files.specs.Answers.{print_ending}
+use Rattle.desk_files.specs.declared.fault.Failed.{Failed}
+use Rattle.desk_files.specs.Outside.{Counts, Ending, Told, risen_by}
+use Rattle.desk_files.specs.Hosts.{Connections, Handed, Returned, after_listen}
 use Rattle.desk_values.specs.declared.memory.Memory.{Memory}
 use Rattle.desk_schema.specs.Start.{StartView}
 use Rattle.capture_recorder.specs.declared.door.Said.{Said}
@@ -19,14 +21,15 @@ use Rattle.capture_recorder.specs.Gathering.{Gathers, kept_in, said_in}
 use Rattle.capture_recorder.specs.Recording.{IsRecording, Recording}
 use Rattle.capture_http.specs.declared.conn_end.ConnEnd.{ConnEnd}
 use Rattle.capture_serve.specs.Connections.{EachFrom, IsConnection, IsGivenBack, comes}
-use Rattle.capture_serve.specs.Service.{AreAllGivenBack, AreGivenBack, AreServed, CaptureView, HasGivenBack, HasGivenBackAll, IsService, is_short}
+use Rattle.capture_serve.specs.Service.{AreAllGivenBack, AreGivenBack, AreServed, CaptureView, HasGivenBack, HasGivenBackAll, HasLost, IsHandedBack, IsService, is_short}
 use Rattle.capture_serve.specs.Failing.{Fails, GivesBack, err_of, serve_ending}
 use Rattle.capture_serve.specs.declared.failing.ServeErr.{ServeErr}
 use Rattle.capture_serve.specs.declared.halt.Halt.{Halt}
 use Rattle.capture_serve.specs.declared.failing.ServeErr.TheVariants as serve
 use Rattle.capture_serve.specs.declared.returning.Notes.{Notes}
-use Rattle.capture_serve.specs.Inside.Passing.{AreBack, AreClosed, Came, Connected, Gave, HasNoted, IsCapturedOf, IsFaultless, IsPassed, Moment, Passed, PassedThrough, Took, arrivals_from, moment_of}
-use Rattle.capture_serve.proofs.Going.{GaveSo}
+use Rattle.capture_serve.specs.Inside.Passing.{AreBack, AreClosed, Came, Connected, Gave, HasNoted, IsCapturedOf, IsFaultless, IsOutcome, IsPassed, IsPlain, Moment, Passed, PassedThrough, Took, arrivals_from, halt_ending, moment_of}
+use Rattle.capture_serve.specs.Inside.Handing.{HasReturned, HasTaken}
+use Rattle.capture_serve.proofs.Going.{GaveSo, LostSo}
 
 abbrev said_after : Passed → List Said
 said_after p = p.after.said
@@ -149,19 +152,27 @@ through_both most passes before mid (Some after) came gave = record {
   are_back = gave.are_back;
 }
 
-pub connected : (most : ℕ) (notes : Notes) (given : Result Notes Memory) (before mid after : Option Connections) (passes : List Passed) → given ≡ Ok notes → Came (Ok tt) most (map moment_of passes) before mid
-    → OnOk given (GaveSo passes mid after) → IfOk given (λ n. HasNoted n passes) → AllByRecursion IsPassed passes → length passes ≤ most → Connected most notes before after
-connected most notes given before mid after passes is came gave noted each few = record {
+connected : (most : ℕ) (notes : Notes) (before mid after : Option Connections) (passes : List Passed) → Came (Ok tt) most (map moment_of passes) before mid
+    → GaveSo passes mid after → HasNoted notes passes → AllByRecursion IsPassed passes → length passes ≤ most → Connected most notes before after
+connected most notes before mid after passes came gave noted each few = record {
   passes = passes;
-  noted = IfOk-at_ok (λ n. HasNoted n passes) is noted;
+  noted = noted;
   each = each;
   few = few;
-  through = all_through before mid came (subst (λ (r : Result Notes Memory). OnOk r (GaveSo passes mid after)) is gave);
+  through = all_through before mid came gave;
 } where
   all_through : (before mid : Option Connections) → Came (Ok tt) most (map moment_of passes) before mid → GaveSo passes mid after → Told before (λ c. IsSomeAnd after (PassedThrough most passes c))
   all_through None mid came gave = tt
   all_through (Some b) None came gave = absurd came
   all_through (Some b) (Some m) came gave = through_both most passes b m after came gave
+
+told_of : (told : Bool) → not told ≡ false → told ≡ true
+told_of true is = refl
+told_of false is = absurd (true≢false is)
+
+lost_of : (told : Bool) → not told ≡ true → told ≡ false
+lost_of true is = absurd (true≢false (sym is))
+lost_of false is = refl
 
 sents_length : (n : ℕ) (sents : List (List ℕ)) → length (arrivals_from n sents) ≡ length sents
 sents_length n [] = refl
@@ -179,13 +190,37 @@ given_from most passes sent before mid after each few took gave = record {
 }
 
 -- also where the host failed or memory was short while they came
-pub given_halted : (halted : Result (Unit {0}) Halt) (most : ℕ) (given : Result Notes Memory) (before mid after : Option Connections) (passes : List Passed) → is_err given ≡ false → Came halted most (map moment_of passes) before mid
-    → OnOk given (GaveSo passes mid after) → AllByRecursion IsPassed passes → length passes ≤ most → HasGivenBack most before after
-given_halted halted most (Err short) before mid after passes well came gave each few = absurd (true≢false well)
-given_halted halted most (Ok notes) None mid after passes well came gave each few = tt
-given_halted halted most (Ok notes) (Some b) None after passes well came gave each few = absurd came
-given_halted halted most (Ok notes) (Some b) (Some m) None passes well came gave each few = absurd gave
-given_halted halted most (Ok notes) (Some b) (Some m) (Some a) passes well came gave each few = given_from most passes came.0 b m a each few came.1 gave
+given_halted : (halted : Result (Unit {0}) Halt) (most : ℕ) (before mid after : Option Connections) (passes : List Passed) → Came halted most (map moment_of passes) before mid → GaveSo passes mid after
+    → AllByRecursion IsPassed passes → length passes ≤ most → HasGivenBack most before after
+given_halted halted most None mid after passes came gave each few = tt
+given_halted halted most (Some b) None after passes came gave each few = absurd came
+given_halted halted most (Some b) (Some m) None passes came gave each few = absurd gave
+given_halted halted most (Some b) (Some m) (Some a) passes came gave each few = given_from most passes came.0 b m a each few came.1 gave
+
+-- where not each is told as given back, some are lost
+lost_halted : (halted : Result (Unit {0}) Halt) (most : ℕ) (before mid after : Option Connections) (passes : List Passed) → Came halted most (map moment_of passes) before mid → LostSo (length passes) mid after → HasLost before after
+lost_halted halted most None mid after passes came lost = tt
+lost_halted halted most (Some b) None after passes came lost = absurd came
+lost_halted halted most (Some b) (Some m) None passes came lost = absurd lost
+lost_halted halted most (Some b) (Some m) (Some a) passes came lost =
+    let took = came.1 in
+    let many : length came.0 ≡ length passes = sym (sents_length 0 came.0) ∙ ap (λ (l : List Moment). length l) (sym took.arrive) ∙ length-map passes moment_of in
+    let taken = ap (λ (l : List (List ℕ)). length l) took.taken ∙ length-append came.0 m.waiting in
+    omega (arith, lost.fewer, ap (λ (l : List (List ℕ)). length l) lost.waiting, ap (λ (l : List Returned). length l) took.returned, taken, many)
+
+module _ (most : ℕ) (halted : Result (Unit {0}) Halt) (told : Bool) (noted : Result Notes Memory) (result : Result Notes ServeErr) (before mid after : Option Connections) (passes : List Passed) (came : Came halted most (map moment_of passes) before mid)
+    (gave : told ≡ true → GaveSo passes mid after) (each : AllByRecursion IsPassed passes) (few : length passes ≤ most) where
+  pub connected_by : IfOk noted (λ n. HasNoted n passes) → IfOk result (λ n. (halted ≡ Ok tt) × (told ≡ true) × (noted ≡ Ok n)) → IfOk result (λ notes. Connected most notes before after)
+  connected_by has ok = IfOk-weaker result _ _ (λ notes both. connected most notes before mid after passes (subst (λ (r : Result (Unit {0}) Halt). Came r most (map moment_of passes) before mid) both.0 came) (gave both.1) (IfOk-at_ok (λ n. HasNoted n passes) both.2 has) each few) ok
+
+  halted_so : (error : ServeErr) → (told ≡ false → LostSo (length passes) mid after) → IsOutcome halted told error → GivesBack most before after error
+  halted_so (serve.Failed short) lost outcome =
+      (λ well. given_halted halted most before mid after passes came (gave (told_of told (sym outcome.1 ∙ well))) each few, λ is. lost_halted halted most before mid after passes came (lost (lost_of told (sym outcome.1 ∙ is))))
+  halted_so (serve.Differs finding) lost outcome = absurd outcome
+  halted_so serve.Memory lost outcome = tt
+
+  pub halted_by : (told ≡ false → LostSo (length passes) mid after) → IfErr result (IsOutcome halted told) → IfErr result (GivesBack most before after)
+  halted_by lost fails = IfErr-weaker result _ _ (λ error outcome. halted_so error lost outcome) fails
 
 -- none came
 pub none_back : (most : ℕ) (before : Option Connections) → HasGivenBack most before before
@@ -207,11 +242,6 @@ given_back most notes before after connected = all before after connected.throug
   all (Some b) None through = absurd through
   all (Some b) (Some a) through = all_given most connected.passes b a connected.each connected.few through
 
-some_given : (most : ℕ) (before after : Option Connections) → HasGivenBackAll most before after → HasGivenBack most before after
-some_given most None after all = tt
-some_given most (Some b) None all = absurd all
-some_given most (Some b) (Some a) all = all.given
-
 -- a recorder and doors that differ are a finding, and no fault
 pub found_fails : (start : StartView) (recording : Recording) (said : List (List Said)) (turned : List (List Turned)) (error : GatherErr) (result : ServeErr) → IsRecording recording → Gathers start recording said turned (Err error) → result ≡ err_of error
     → Fails start result × IsFaultless result
@@ -222,6 +252,49 @@ found_fails start recording said turned error result is gathers told = subst (λ
   each (gather.Refusal session n entry) gathers = (record { recording = recording; said = said; turned = turned; error = gather.Refusal session n entry; is_recording = is; gathers = gathers; told = refl }, tt)
   each gather.Memory gathers = (tt, tt)
 
+-- a failure of which no more is known is a fault or want of memory
+pub plain_by : {X : Type 0} (halted : Result (Unit {0}) Halt) (told : Bool) (result : Result X ServeErr) → IfErr result (IsOutcome halted told) → IfErr result IsPlain
+plain_by halted told (Ok value) fails = tt
+plain_by halted told (Err (serve.Failed short)) fails = tt
+plain_by halted told (Err (serve.Differs finding)) fails = absurd fails
+plain_by halted told (Err serve.Memory) fails = tt
+
+-- ---- what was handed out
+
+-- nothing was asked
+pub none_handed : (most port : ℕ) (handed : Handed) → IsHandedBack most port handed handed
+none_handed most port handed = record { count = 0; few = omega arith; taken = refl; backs = refl; listens = inr (refl, refl) }
+
+-- the host does not listen
+pub none_listening : (listened : Result (Unit {0}) Failed) (most port : ℕ) (old new : Handed) → is_err listened ≡ true → new ≡ after_listen listened port old → IsHandedBack most port old new
+none_listening (Ok done) most port old new is moves = absurd (true≢false (sym is))
+none_listening (Err failed) most port old new is moves = record {
+  count = 0;
+  few = omega arith;
+  taken = ap (λ (h : Handed). h.taken) moves;
+  backs = ap (λ (h : Handed). h.backs) moves;
+  listens = inr (ap (λ (h : Handed). h.port) moves, refl);
+}
+
+pub all_handed : (listened : Result (Unit {0}) Failed) (most port n : ℕ) (old now mid new : Handed) → is_err listened ≡ false → now ≡ after_listen listened port old → HasTaken n now mid → HasReturned n mid new → n ≤ most → IsHandedBack most port old new
+all_handed (Err failed) most port n old now mid new is listens took gave few = absurd (true≢false is)
+all_handed (Ok done) most port n old now mid new is listens took gave few = record {
+  count = n;
+  few = few;
+  taken = ap (λ (h : Handed). h.taken) gave ∙ ap (λ (h : Handed). h.taken) took ∙ ap (λ (h : Handed). risen_by n h.taken) listens;
+  backs = ap (λ (h : Handed). h.backs) gave ∙ ap (λ (h : Handed). risen_by n h.backs) took ∙ ap (λ (h : Handed). risen_by n h.backs) listens;
+  listens = inl (ap (λ (h : Handed). h.port) gave ∙ ap (λ (h : Handed). h.port) took ∙ ap (λ (h : Handed). h.port) listens);
+}
+
+-- ---- counts of faults
+
+-- the host listens, and what comes of it ends as the taking of connections did
+pub counts_on : (listened : Result (Unit {0}) Failed) (halted : Result (Unit {0}) Halt) (result : Result Notes ServeErr) (f0 f1 f2 f3 : ℕ) → is_err listened ≡ false → Counts (print_ending listened) f0 f1 → Counts (halt_ending halted) f1 f2 → f3 ≡ f2
+    → serve_ending result ≡ halt_ending halted → Counts (serve_ending result) f0 f3
+counts_on (Err failed) halted result f0 f1 f2 f3 is same counts still ending = absurd (true≢false is)
+counts_on (Ok done) halted result f0 f1 f2 f3 is same counts still ending =
+    subst (λ (e : Ending). Counts e f0 f3) (sym ending) (subst (λ (n : ℕ). Counts (halt_ending halted) f0 n) (sym still) (subst (λ (n : ℕ). Counts (halt_ending halted) n f2) same counts))
+
 -- where no device failed, the count of faults is as it was
 pub counts_of : {X : Type 0} (result : Result X ServeErr) (before after : ℕ) → after ≡ before → IfErr result (λ error. IsFaultless error) → Counts (serve_ending result) before after
 counts_of (Ok done) before after same none = same
@@ -229,8 +302,8 @@ counts_of (Err (serve.Failed short)) before after same none = absurd none
 counts_of (Err (serve.Differs finding)) before after same none = same
 counts_of (Err serve.Memory) before after same none = same
 
-pub gives_back : {X : Type 0} (most : ℕ) (before after : Option Connections) (result : Result X ServeErr) → HasGivenBackAll most before after → IfErr result (GivesBack most before after)
-gives_back most before after (Ok done) all = tt
-gives_back most before after (Err (serve.Failed short)) all = λ well. some_given most before after all
-gives_back most before after (Err (serve.Differs finding)) all = all
-gives_back most before after (Err serve.Memory) all = tt
+pub gives_back : {X : Type 0} (most : ℕ) (before after : Option Connections) (result : Result X ServeErr) → HasGivenBackAll most before after → IfErr result (λ error. IsFaultless error) → IfErr result (GivesBack most before after)
+gives_back most before after (Ok done) all none = tt
+gives_back most before after (Err (serve.Failed short)) all none = absurd none
+gives_back most before after (Err (serve.Differs finding)) all none = all
+gives_back most before after (Err serve.Memory) all none = tt

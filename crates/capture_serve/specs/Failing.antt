@@ -1,5 +1,5 @@
 -- What may be found to differ of what was served.
-use Rattle.std.specs.Prelude.{◌≡◌, ℕ, false, List, Option, Result, Ok, Err, ⊤}
+use Rattle.std.specs.Prelude.{◌≡◌, ℕ, true, false, List, Option, Result, Ok, Err, ⊤}
 use Rattle.desk_files.specs.Outside.{Ending, Answered, DeviceFailed}
 use Rattle.desk_files.specs.Hosts.{Connections}
 use Rattle.desk_schema.specs.Start.{StartView}
@@ -9,7 +9,7 @@ use Rattle.capture_recorder.specs.declared.gathering.GatherErr.{GatherErr}
 use Rattle.capture_recorder.specs.declared.gathering.GatherErr.TheVariants as gather
 use Rattle.capture_recorder.specs.Gathering.{Gathers}
 use Rattle.capture_recorder.specs.Recording.{IsRecording, Recording}
-use Rattle.capture_serve.specs.Service.{HasGivenBack, HasGivenBackAll}
+use Rattle.capture_serve.specs.Service.{HasGivenBack, HasGivenBackAll, HasLost}
 use Rattle.capture_serve.specs.declared.failing.ServeErr.{ServeErr}
 use Rattle.capture_serve.specs.declared.failing.ServeErr.TheVariants as serve
 use Rattle.capture_serve.specs.declared.failing.Finding.{Finding}
@@ -39,9 +39,9 @@ Fails start (serve.Differs finding) = IsFinding start finding
 Fails start serve.Memory = ⊤
 
 -- what was given back at a failure: all that were to be served or that there were, where something differs; where the host failed, those that
--- were taken, unless memory was short as well
+-- were taken, unless memory was short as well, and then just not all of them are told
 abbrev pub GivesBack : ℕ → Option Connections → Option Connections → ServeErr → Type 0
-GivesBack most before after (serve.Failed short) = short ≡ false → HasGivenBack most before after
+GivesBack most before after (serve.Failed short) = (short ≡ false → HasGivenBack most before after) × (short ≡ true → HasLost before after)
 GivesBack most before after (serve.Differs finding) = HasGivenBackAll most before after
 GivesBack most before after serve.Memory = ⊤
 

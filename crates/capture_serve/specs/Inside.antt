@@ -1,3 +1,4 @@
 -- Words of private clauses and of what holds of fields. They need not be believed.
 pub mod Passing
 pub mod Knowing
+pub mod Handing

@@ -1,11 +1,11 @@
 -- What stands of all connections that were served, and of the capture.
-use Rattle.std.specs.Prelude.{◌≡◌, ℕ, ◌+◌, ◌<◌, ◌≤◌, Bool, true, false, List, [], ◌∷◌, ◌++◌, length, min, count_by, Option, IsSomeAnd}
+use Rattle.std.specs.Prelude.{◌≡◌, ℕ, ◌+◌, ◌<◌, ◌≤◌, ◌⊎◌, Bool, true, false, List, [], ◌∷◌, ◌++◌, length, min, count_by, Option, Some, IsSomeAnd}
 use Rattle.desk_values.specs.declared.capture.Captured.{Captured}
 use Rattle.desk_values.specs.Limits.{session_limit}
 use Rattle.desk_schema.specs.Start.{StartView}
-use Rattle.desk_files.specs.Outside.{Told}
-use Rattle.desk_files.specs.Hosts.{Connections, Returned}
-use Rattle.machine_model.specs.State.{is_connected}
+use Rattle.desk_files.specs.Outside.{Told, risen_by}
+use Rattle.desk_files.specs.Hosts.{Connections, Handed, Returned}
+use Rattle.server_words.specs.State.{is_connected}
 use Rattle.capture_format.specs.SessionFile.{IsSessionFile, session_text}
 use Rattle.captured_calls.specs.Sessions.{session_lists}
 use Rattle.capture_recorder.specs.Listed.{AreBelow}
@@ -54,6 +54,19 @@ HasGivenBack most before after = Told before (λ connections. IsSomeAnd after (A
 -- and just so many, or all that there were
 abbrev pub HasGivenBackAll : ℕ → Option Connections → Option Connections → Type 0
 HasGivenBackAll most before after = Told before (λ connections. IsSomeAnd after (AreAllGivenBack most connections))
+
+-- where the host tells its connections, some that were taken are not told as given back
+abbrev pub HasLost : Option Connections → Option Connections → Type 0
+HasLost before after = Told before (λ c. IsSomeAnd after (λ c'. length c'.returned + length c'.waiting < length c.returned + length c.waiting))
+
+-- However serving ends, told or not: so many connections were taken, as many were given back, and the host listens at this port, unless none
+-- was taken.
+pub record IsHandedBack (most port : ℕ) (before after : Handed) : Type 0 where
+  pub count : ℕ
+  pub few : count ≤ most
+  pub taken : after.taken ≡ risen_by count before.taken
+  pub backs : after.backs ≡ risen_by count before.backs
+  pub listens : (after.port ≡ Some port) ⊎ ((after.port ≡ before.port) × (count ≡ 0))
 
 -- how many connections there were, how many of them were short of memory, how many calls were captured, and those of each session
 pub record CaptureView : Type 0 where

@@ -1,7 +1,7 @@
 //! Sessions that are still connected are closed.
 
 ghost use Rattle.std.specs.Prelude.{◌≡◌, ◌≤◌, ◌<◌, ℕ, false, length, IfOk, OnOk};
-ghost use Rattle.machine_model.specs.State.{is_connected};
+ghost use Rattle.server_words.specs.State.{is_connected};
 ghost use Rattle.capture_recorder.specs.Gathering.{lists_of};
 ghost use Rattle.capture_serve.specs.Connections.{is_closed, is_disconnect};
 ghost use Rattle.capture_serve.specs.Inside.Passing.{AreClosed, IsClosedBy};
@@ -49,15 +49,16 @@ fn close<R: Clock + Wait, D: Door>(
     ensures others { (other : ℕ) → is_connected recorder.old.state other ≡ false → OnOk result (is_connected recorder.new.state other ≡ false) }
 {
     let at = clock.now(rt);
-    if let Some(reply) = recorder.close(session, at)? {
-        // Behind a disconnect no session is connected; one would be told as want of memory.
-        if is_closed(&said) {
-            return Err(Memory);
-        }
-        let call = Call::Disconnect;
-        said.reserve(1)?;
-        said.push(Said { call, reply })?;
+    let Some(reply) = recorder.close(session, at)? else {
+        return Ok(said);
+    };
+    // Behind a disconnect no session is connected. Where one is, it differs from what was said, as the recorder now shows.
+    if is_closed(&said) {
+        return Ok(said);
     }
+    let call = Call::Disconnect;
+    said.reserve(1)?;
+    said.push(Said { call, reply })?;
     Ok(said)
 }
 

@@ -3,6 +3,7 @@
 ghost use Rattle.std.specs.Prelude.{◌≡◌};
 ghost use Rattle.capture_serve.specs.Inside.Passing.{IsPassed, passed_of};
 
+use crate::stream::Closed;
 use capture_http::ConnEnd;
 use capture_recorder::{SaidList, TurnedList};
 use desk_files::{Sink, Source};
@@ -20,13 +21,13 @@ pub(crate) struct Coming<I, O> {
     pub(crate) output: O,
 }
 
-/// A connection that was served.
+/// A connection that was served, and then closed.
 #[derive(Drop)]
 pub(crate) struct Served<I: Source, O: Sink> {
     /// Where its requests came from.
-    pub(crate) input: I,
+    pub(crate) input: Closed<I>,
     /// Where its answers went.
-    pub(crate) output: O,
+    pub(crate) output: Closed<O>,
     /// The calls that were answered.
     pub(crate) said: SaidList,
     /// The calls that were turned away.

@@ -35,9 +35,9 @@ pub enum Finding {
 /// Why no capture came of a service.
 #[derive(Drop)]
 pub enum ServeErr {
-    /// The host failed. Where memory was short as well, some of its connections may not have been given back.
+    /// The host failed.
     Failed {
-        /// Whether it was.
+        /// Whether memory was short as well, so that the host does not tell all connections that were given back.
         short: bool,
     },
     /// Something differs.

@@ -3,6 +3,6 @@
 pub(crate) enum Halt {
     /// The host failed.
     Failed,
-    /// Want of memory.
+    /// Want of memory for any.
     Memory,
 }

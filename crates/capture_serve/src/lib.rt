@@ -18,6 +18,7 @@ pub mod laws;
 mod returning;
 mod seating;
 mod serving;
+mod stream;
 
 pub use failing::{Finding, ServeErr};
 pub use serving::{Capture, serve};

@@ -1,10 +1,13 @@
 //! Connections that have ended are given back.
 
-ghost use Rattle.std.specs.Prelude.{◌≡◌, ◌+◌, ◌≤◌, ◌&&◌, [], map, length, is_ok, IfOk, IsSomeAnd, OnOk};
+ghost use Rattle.std.specs.Prelude.{◌≡◌, ◌+◌, ◌≤◌, ◌&&◌, [], map, length, is_ok, true, false, IfOk, IsSomeAnd, OnOk};
 ghost use Rattle.desk_files.specs.Outside.{Told};
-ghost use Rattle.capture_serve.specs.Inside.Passing.{AddsOne, Gave, HasNoted, passed_of};
+ghost use Rattle.desk_files.specs.Hosts.{after_back};
+ghost use Rattle.capture_serve.specs.Inside.Passing.{AddsOne, Gave, GivesOne, HasNoted, Lost, passed_of};
+ghost use Rattle.capture_serve.specs.Inside.Handing.{HasReturned};
 
 use crate::connection::Served;
+use crate::stream::Closed;
 use capture_http::ConnEnd;
 use capture_recorder::{SaidList, SaidLists, TurnedList, TurnedLists};
 use desk_files::Host;
@@ -48,20 +51,25 @@ impl Notes {
     }
 }
 
-/// Gives the connections back one after the other, each also where memory was short for one before it.
+/// Gives the connections back one after the other, each also where memory was short for one before it. It says whether each is told as
+/// given back, and gives the notes of all, where there was memory for these.
 pub(crate) fn give_back<H: Host>(
     alloc: Global,
     host: &mut H,
     served: Vec<Served<H::In, H::Out>>,
-) -> Result<Notes, Memory>
+) -> (bool, Result<Notes, Memory>)
     requires few { length served.items ≤ 64 }
-    ensures gave { OnOk result (Told (H.content host.old) (λ before. IsSomeAnd (H.content host.new)
-        (Gave (map (passed_of H.In.Source H.Out.Sink) served.items) before))) }
-    ensures notes { IfOk result (λ notes. HasNoted notes (map (passed_of H.In.Source H.Out.Sink) served.items)) }
-    ensures faults { H.faults host.new ≡ H.faults host.old }
+    ensures gave { result.0 ≡ true → Told (H.account host.old).content (λ before. IsSomeAnd (H.account host.new).content
+        (Gave (map (passed_of H.In.Source H.Out.Sink) served.items) before)) }
+    ensures lost { result.0 ≡ false → Told (H.account host.old).content (λ before. IsSomeAnd (H.account host.new).content
+        (Lost (length served.items) before)) }
+    ensures notes { IfOk result.1 (λ notes. HasNoted notes (map (passed_of H.In.Source H.Out.Sink) served.items)) }
+    ensures faults { (H.account host.new).faults ≡ (H.account host.old).faults }
+    ensures handed { HasReturned (length served.items) (H.account host.old).handed (H.account host.new).handed }
 {
     let mut notes = Notes::new(alloc);
-    let mut whole = true;
+    let mut told = true;
+    let mut kept = true;
     for one in served {
         let Served {
             input,
@@ -71,15 +79,33 @@ pub(crate) fn give_back<H: Host>(
             end,
             ..
         } = one;
-        let given = host.back(input, output);
+        let given = give_one(host, input, output);
         let noted = notes.add(said, turned, end);
-        whole = are_well(whole, given, noted);
+        told = is_well(told, given);
+        kept = is_well(kept, noted);
     }
-    if whole { Ok(notes) } else { Err(Memory) }
+    if kept {
+        (told, Ok(notes))
+    } else {
+        (told, Err(Memory))
+    }
 }
 
-fn are_well(whole: bool, given: Result<(), Memory>, noted: Result<(), Memory>) -> bool
-    ensures { result ≡ (whole && (is_ok given && is_ok noted)) }
+// Gives one back, whose streams were closed.
+fn give_one<H: Host>(
+    host: &mut H,
+    input: Closed<H::In>,
+    output: Closed<H::Out>,
+) -> Result<(), Memory>
+    ensures gives_back { GivesOne H.In.Source H.Out.Sink input output result (H.account host.old).content (H.account host.new).content }
+    ensures faults { (H.account host.new).faults ≡ (H.account host.old).faults }
+    ensures handed { (H.account host.new).handed ≡ after_back (H.account host.old).handed }
 {
-    whole && given.is_ok() && noted.is_ok()
+    host.back(input.into_stream(), output.into_stream())
+}
+
+fn is_well(well: bool, done: Result<(), Memory>) -> bool
+    ensures { result ≡ (well && is_ok done) }
+{
+    well && done.is_ok()
 }

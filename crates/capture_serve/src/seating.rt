@@ -1,22 +1,23 @@
 //! A thread for each connection.
 
-ghost use Rattle.std.specs.Prelude.{◌≡◌, ◌<◌, map, IfOk};
+ghost use Rattle.std.specs.Prelude.{◌≡◌, ◌<◌, ◌≤◌, [], length, map};
 ghost use Rattle.std.specs.List.{AllByRecursion};
 ghost use Rattle.std.specs.Thread.{IsSync};
+ghost use Rattle.std.specs.Vec.{vec_capacity};
 ghost use Rattle.capture_serve.specs.Inside.Passing.{IsKept, IsPassed, coming_of, passed_of};
 
 use crate::connection::{Coming, Seat, Served, ServedOf};
+use crate::stream::{close_sink, close_source};
 use capture_http::serve_connection;
 use capture_recorder::{LockedDoor, Recorder};
 use desk_files::{Door, Sink, Source};
-use desk_values::Memory;
 use std::alloc::Global;
 use std::snapshot::Snapshot;
 use std::sync::{Mutex, Wait};
 use std::thread::{Scope, Threads};
 use std::time::Clock;
 
-// Serves a connection until it ends, and closes it at once.
+// Serves a connection until it ends, and closes it at once: first its sending side, so that the other side has all of the last answer.
 fn serve_one<'a, R: Clock + Wait, I: Source, O: Sink, D: Door>(
     rt: &R,
     alloc: Global,
@@ -36,8 +37,8 @@ fn serve_one<'a, R: Clock + Wait, I: Source, O: Sink, D: Door>(
     } = coming;
     let mut door = LockedDoor::new(alloc, session, recorder, clock);
     let end = serve_connection(rt, alloc, &mut door, &mut input, &mut output);
-    input.close();
-    output.close();
+    let output = close_sink(output);
+    let input = close_source(input);
     let (said, turned) = door.into_lists();
     Served {
         input,
@@ -87,18 +88,18 @@ pub(crate) fn start<
 /// Waits until the connections have ended, one after the other.
 pub(crate) fn join_all<R: Threads, I: Source + Drop, O: Sink + Drop>(
     rt: &R,
-    alloc: Global,
     seats: Vec<Seat<I, O>>,
-) -> Result<Vec<Served<I, O>>, Memory>
+    all: &mut Vec<Served<I, O>>,
+)
     requires kept { AllByRecursion (IsKept I.Source O.Sink) seats.items }
-    ensures came { IfOk result (λ all. map (λ served. served.was.value) all.items ≡ map coming_of seats.items) }
-    ensures passed { IfOk result (λ all. AllByRecursion IsPassed (map (passed_of I.Source O.Sink) all.items)) }
+    requires none { all.old.items ≡ [] }
+    requires room { length seats.items ≤ vec_capacity all.old }
+    ensures came { map (λ served. served.was.value) all.new.items ≡ map coming_of seats.items }
+    ensures passed { AllByRecursion IsPassed (map (passed_of I.Source O.Sink) all.new.items) }
 {
-    let mut all = Vec::new(alloc);
     for seat in seats {
-        all.push(join(rt, seat))?;
+        all.push_reserved(join(rt, seat));
     }
-    Ok(all)
 }
 
 fn join<R: Threads, I: Source + Drop, O: Sink + Drop>(rt: &R, seat: Seat<I, O>) -> Served<I, O>

@@ -1,12 +1,12 @@
 //! The whole service, from its start to the capture.
 
-ghost use Rattle.std.specs.Prelude.{◌≡◌, ◌≤◌, length, IfErr, IfOk};
+ghost use Rattle.std.specs.Prelude.{◌≡◌, ◌≤◌, length, true, IfErr, IfOk, Ok};
 ghost use Rattle.desk_files.specs.Outside.{Counts};
 ghost use Rattle.captured_calls.specs.Sessions.{AreSessionsFrom};
 ghost use Rattle.capture_serve.specs.Failing.{Fails, GivesBack, serve_ending};
 ghost use Rattle.capture_serve.specs.Seen.{capture_of};
-ghost use Rattle.capture_serve.specs.Service.{AreReadFrom, IsService};
-ghost use Rattle.capture_serve.specs.Inside.Passing.{Connected, IsCapturedOf, IsFaultless, IsPlain};
+ghost use Rattle.capture_serve.specs.Service.{AreReadFrom, IsHandedBack, IsService};
+ghost use Rattle.capture_serve.specs.Inside.Passing.{Connected, IsCapturedOf, IsFaultless, IsOutcome, IsPlain, halt_ending};
 
 use crate::accepting::serve_all;
 use crate::closing::close_all;
@@ -37,7 +37,8 @@ pub struct Capture {
 }
 
 /// Serves so many connections at a port, or all that the host has, each as a session of a server with this start, and gives what
-/// they said. Each connection is given back, also where the host failed, unless memory is short. `Failed` where the host failed;
+/// they said. Each connection that was taken is given back, whatever comes; where memory is short for that, the host may not tell it.
+/// `Failed` where the host failed;
 /// `Differs` where what was recorded is not what the connections were answered, which only a fault of this program can bring about.
 pub fn serve<R: Clock + Wait + Threads + Sync, H: Host, D: Door>(
     rt: &R,
@@ -49,12 +50,13 @@ pub fn serve<R: Clock + Wait + Threads + Sync, H: Host, D: Door>(
     most: u32,
 ) -> Result<Capture, ServeErr>
     requires { most ≤ 64 }
-    ensures service { IfOk result (λ capture. IsService start.now most (capture_of capture) (H.content host.old) (H.content host.new)) }
+    ensures service { IfOk result (λ capture. IsService start.now most (capture_of capture) (H.account host.old).content (H.account host.new).content) }
     ensures files { IfOk result (λ capture. AreSessionsFrom 0 (capture_of capture).sessions) }
     ensures read { IfOk result (λ capture. AreReadFrom start.now.schema.version 0 (capture_of capture).sessions) }
     ensures fails { IfErr result (Fails start.now) }
-    ensures back { IfErr result (GivesBack most (H.content host.old) (H.content host.new)) }
-    ensures counts { Counts (serve_ending result) (H.faults host.old) (H.faults host.new) }
+    ensures back { IfErr result (GivesBack most (H.account host.old).content (H.account host.new).content) }
+    ensures counts { Counts (serve_ending result) (H.account host.old).faults (H.account host.new).faults }
+    ensures handed { IsHandedBack most port (H.account host.old).handed (H.account host.new).handed }
 {
     let shared = Mutex::new(Recorder::load(alloc, start)?);
     let notes = connect(rt, alloc, host, &shared, clock, port, most)?;
@@ -72,23 +74,38 @@ fn connect<R: Clock + Wait + Threads + Sync, H: Host, D: Door>(
     most: u32,
 ) -> Result<Notes, ServeErr>
     requires { most ≤ 64 }
-    ensures connected { IfOk result (λ notes. Connected most notes (H.content host.old) (H.content host.new)) }
+    ensures connected { IfOk result (λ notes. Connected most notes (H.account host.old).content (H.account host.new).content) }
     ensures plain { IfErr result IsPlain }
-    ensures back { IfErr result (GivesBack most (H.content host.old) (H.content host.new)) }
-    ensures counts { Counts (serve_ending result) (H.faults host.old) (H.faults host.new) }
+    ensures back { IfErr result (GivesBack most (H.account host.old).content (H.account host.new).content) }
+    ensures counts { Counts (serve_ending result) (H.account host.old).faults (H.account host.new).faults }
+    ensures handed { IsHandedBack most port (H.account host.old).handed (H.account host.new).handed }
 {
     if host.listen(port).is_err() {
         return Err(ServeErr::Failed { short: false });
     }
     let (served, halted) = serve_all(rt, alloc, host, shared, clock, most);
-    let given = match served {
-        Ok(served) => give_back(alloc, host, served),
-        Err(Memory) => Err(Memory),
-    };
-    let short = given.is_err();
+    let (told, notes) = give_back(alloc, host, served);
+    outcome(halted, told, notes)
+}
+
+// What comes of connections that came so, were given back so, and left these notes.
+fn outcome(
+    halted: Result<(), Halt>,
+    told: bool,
+    notes: Result<Notes, Memory>,
+) -> Result<Notes, ServeErr>
+    ensures ok { IfOk result (λ noted. (halted ≡ Ok tt) × (told ≡ true) × (notes ≡ Ok noted)) }
+    ensures fails { IfErr result (IsOutcome halted told) }
+    ensures ending { serve_ending result ≡ halt_ending halted }
+{
     match halted {
-        Ok(()) => Ok(given?),
-        Err(Halt::Failed) => Err(ServeErr::Failed { short }),
+        Ok(()) => {
+            if !told {
+                return Err(ServeErr::Memory);
+            }
+            Ok(notes?)
+        }
+        Err(Halt::Failed) => Err(ServeErr::Failed { short: !told }),
         Err(Halt::Memory) => Err(ServeErr::Memory),
     }
 }

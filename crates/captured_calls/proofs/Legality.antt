@@ -30,8 +30,8 @@ use Rattle.desk_values.specs.declared.value.Value.{Value}
 use Rattle.desk_values.specs.declared.value.Image.{Image}
 use Rattle.desk_values.specs.Good.{IsGoodReply}
 use Rattle.desk_values.specs.declared.call.Call.{Call}
-use Rattle.machine_model.specs.State.{State, opening}
-use Rattle.machine_model.specs.Step.{Gives, reply_in, run, step}
+use Rattle.server_words.specs.State.{State, opening}
+use Rattle.server_words.specs.Step.{Gives, reply_in, run, step}
 use Rattle.replay_history.specs.Capture.{FitsIn, IsKnown, IsRun, binds_of}
 use Rattle.replay_history.specs.Gap.{IsCallAt}
 use Rattle.captured_calls.specs.Known.{ids_known, is_stranger}

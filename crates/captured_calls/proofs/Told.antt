@@ -7,9 +7,9 @@ use Rattle.desk_values.specs.Good.{MayTell}
 use Rattle.desk_schema.specs.Start.{StartView}
 use Rattle.capture_format.specs.SessionFile.{MayTellAll}
 use Rattle.replay_history.specs.Capture.{IsRun}
-use Rattle.machine_model.specs.State.{State, opening}
-use Rattle.machine_model.specs.Step.{Gives}
-use Rattle.machine_model.proofs.Versions.{old_servers}
+use Rattle.server_words.specs.State.{State, opening}
+use Rattle.server_words.specs.Step.{Gives}
+use Rattle.server_words.proofs.Versions.{old_servers}
 use Rattle.captured_calls.specs.Sessions.{calls_of, is_of, session_lists}
 use Rattle.captured_calls.specs.Verdict.{IsLegal}
 

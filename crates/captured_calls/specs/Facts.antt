@@ -8,8 +8,8 @@ use Rattle.desk_values.specs.declared.capture.Captured.{Captured}
 use Rattle.desk_schema.specs.Schema.{SchemaView}
 use Rattle.sql_reader.specs.Reading.{statement_of}
 use Rattle.sql_tree.specs.Plain.{Name, Plan, set_read_only}
-use Rattle.machine_model.specs.Request.{table_named}
-use Rattle.machine_model.specs.Step.{committed_in}
+use Rattle.server_words.specs.Request.{table_named}
+use Rattle.server_words.specs.Step.{committed_in}
 use Rattle.replay_history.specs.Capture.{commits}
 use Rattle.object_depends.specs.declared.fact.Fact.{Fact}
 use Rattle.desk_values.specs.Limits.{table_limit}

@@ -6,8 +6,8 @@ use Rattle.desk_values.specs.declared.call.Call.{Call}
 use Rattle.desk_values.specs.declared.call.Reply.{Reply}
 use Rattle.desk_values.specs.declared.capture.Captured.{Captured}
 use Rattle.desk_schema.specs.Start.{StartView}
-use Rattle.machine_model.specs.State.{opening}
-use Rattle.machine_model.specs.Step.{reply_in, run}
+use Rattle.server_words.specs.State.{opening}
+use Rattle.server_words.specs.Step.{reply_in, run}
 use Rattle.replay_history.specs.Capture.{binds_of, commits_in, number_behind}
 use Rattle.captured_calls.specs.declared.refusal.Refusal.{Refusal}
 use Rattle.replay_history.specs.Limits.{call_limit}

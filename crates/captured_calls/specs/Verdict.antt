@@ -4,8 +4,8 @@ use Rattle.std.specs.Option.{option_or}
 use Rattle.std.specs.List.Sorted.{IsPermutation}
 use Rattle.desk_values.specs.declared.capture.Captured.{Captured}
 use Rattle.desk_schema.specs.Start.{StartView}
-use Rattle.machine_model.specs.State.{opening}
-use Rattle.machine_model.specs.Step.{Gives}
+use Rattle.server_words.specs.State.{opening}
+use Rattle.server_words.specs.Step.{Gives}
 use Rattle.replay_history.specs.Capture.{IsLegalCapture}
 use Rattle.object_depends.specs.declared.fact.Fact.{Fact}
 use Rattle.captured_calls.specs.declared.refusal.Refusal.{Refusal}

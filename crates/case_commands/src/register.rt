@@ -2,7 +2,7 @@
 
 ghost use Rattle.std.specs.Prelude.{◌≡◌, None};
 ghost use Rattle.desk_files.specs.Outside.{counted};
-ghost use Rattle.run_register.specs.Register.{keeper_ending};
+ghost use Rattle.run_register.specs.Register.{keeper_ending, with_call, with_close};
 
 use crate::kept::lines_of;
 use case_text::{first_word, stamps_of, txt};
@@ -11,7 +11,7 @@ use run_register::{AcceptList, KeepErr, Keeper, KeptList, MemKeeper};
 use std::alloc::Global;
 use std::marker::Model;
 
-/// A register in memory, of whose calls in the next run some fail. Contracts see the count of faults.
+/// A register in memory, of whose calls in the next run some fail. Contracts see its counts.
 #[derive(Drop)]
 pub struct Register {
     alloc: Global,
@@ -19,14 +19,15 @@ pub struct Register {
     fails: Stamps,
     made: u32,
     faults: u64,
+    closes: u64,
 }
 
 impl Model for Register {
-    ghost use Rattle.std.specs.Prelude.{ℕ};
+    ghost use Rattle.run_register.specs.Register.{KeeperCounts};
 
-    ghost Value = { ℕ };
+    ghost Value = { KeeperCounts };
 
-    ghost view = { λ a. a.faults };
+    ghost view = { λ a. record { faults = a.faults; closes = a.closes } };
 }
 
 impl Register {
@@ -38,6 +39,7 @@ impl Register {
             fails: Stamps::new(alloc),
             made: 0,
             faults: 0,
+            closes: 0,
         }
     }
 
@@ -63,14 +65,10 @@ impl Register {
 }
 
 impl Keeper for Register {
-    ghost runs = { λ _. None };
-
-    ghost divergences = { λ _. None };
-
-    ghost faults = { λ count. count };
+    ghost account = { λ s. record { runs = None; divergences = None; faults = s.faults; closes = s.closes } };
 
     fn get(&mut self, name: &Txt) -> Result<Option<Bytes>, KeepErr>
-        ensures { self.new ≡ counted (keeper_ending result) self.old }
+        ensures { self.new ≡ with_call (keeper_ending result) self.old }
     {
         if is_to_fail(&mut self.made, &self.fails) {
             return counting(&mut self.faults, Err(KeepErr::Failed));
@@ -80,7 +78,7 @@ impl Keeper for Register {
     }
 
     fn add(&mut self, name: &Txt, report: &[u8]) -> Result<Option<Bytes>, KeepErr>
-        ensures { self.new ≡ counted (keeper_ending result) self.old }
+        ensures { self.new ≡ with_call (keeper_ending result) self.old }
     {
         if is_to_fail(&mut self.made, &self.fails) {
             return counting(&mut self.faults, Err(KeepErr::Failed));
@@ -90,7 +88,7 @@ impl Keeper for Register {
     }
 
     fn all(&mut self) -> Result<KeptList, KeepErr>
-        ensures { self.new ≡ counted (keeper_ending result) self.old }
+        ensures { self.new ≡ with_call (keeper_ending result) self.old }
     {
         if is_to_fail(&mut self.made, &self.fails) {
             return counting(&mut self.faults, Err(KeepErr::Failed));
@@ -100,7 +98,7 @@ impl Keeper for Register {
     }
 
     fn accept(&mut self, name: &Txt, stamp: u32, class: u32) -> Result<(), KeepErr>
-        ensures { self.new ≡ counted (keeper_ending result) self.old }
+        ensures { self.new ≡ with_call (keeper_ending result) self.old }
     {
         if is_to_fail(&mut self.made, &self.fails) {
             return counting(&mut self.faults, Err(KeepErr::Failed));
@@ -110,13 +108,24 @@ impl Keeper for Register {
     }
 
     fn accepted(&mut self, name: &Txt) -> Result<AcceptList, KeepErr>
-        ensures { self.new ≡ counted (keeper_ending result) self.old }
+        ensures { self.new ≡ with_call (keeper_ending result) self.old }
     {
         if is_to_fail(&mut self.made, &self.fails) {
             return counting(&mut self.faults, Err(KeepErr::Failed));
         }
         let accepted = self.keeper.accepted(name);
         counting(&mut self.faults, accepted)
+    }
+
+    fn close(&mut self) -> Result<(), KeepErr>
+        ensures { self.new ≡ with_close (keeper_ending result) self.old }
+    {
+        self.closes = self.closes.saturating_add(1);
+        if is_to_fail(&mut self.made, &self.fails) {
+            return counting(&mut self.faults, Err(KeepErr::Failed));
+        }
+        let closed = self.keeper.close();
+        counting(&mut self.faults, closed)
     }
 }
 

@@ -1,8 +1,7 @@
 //! Files whose written names are noted, and a host whose port is.
 
-ghost use Rattle.std.specs.Prelude.{ℕ, Option};
-ghost use Rattle.desk_files.specs.Hosts.{Connections};
-ghost use Rattle.desk_files.specs.Outside.{FileMap};
+ghost use Rattle.desk_files.specs.Hosts.{HostAccount};
+ghost use Rattle.desk_files.specs.Outside.{Account, FileMap};
 
 use desk_files::{Failed, FileErr, Files, Host, WriteErr};
 use desk_values::{Bytes, Copied, List, Memory, Txt};
@@ -28,9 +27,7 @@ impl<F: Drop> Watched<F> {
 }
 
 impl<F: Files + Drop> Files for Watched<F> {
-    ghost content = { λ s. F.content s.files };
-
-    ghost faults = { λ s. F.faults s.files };
+    ghost account = { λ s. F.account s.files };
 
     fn read(&mut self, name: &Txt) -> Result<Bytes, FileErr> {
         self.files.read(name)
@@ -56,9 +53,7 @@ impl<H: Host + Drop> Host for Asked<H> {
 
     type Out = H::Out;
 
-    ghost content = { λ s. H.content s.host };
-
-    ghost faults = { λ s. H.faults s.host };
+    ghost account = { λ s. H.account s.host };
 
     fn listen(&mut self, port: u16) -> Result<(), Failed> {
         self.port = Some(port);

@@ -3,6 +3,7 @@
 use std::alloc::Allocator;
 use std::fs::{Metadata, OpenFile, OpenOptions};
 use std::io::{ErrorKind, Read, Seek, SeekFrom, Write};
+use std::net::OpenStream;
 use std::{io, rt};
 
 /// The step of a write at which the system fails.
@@ -182,3 +183,5 @@ impl Write for Uneven {
         Ok(())
     }
 }
+
+impl OpenStream for Uneven {}

@@ -2,6 +2,7 @@
 
 use crate::calls::{append_call, append_calls, append_done};
 use case_text::first_word;
+use run_register::Keeper;
 use sqlite::Connection;
 use sqlite_keeper::{RegisterFile, SqliteKeeper};
 use std::alloc::Global;
@@ -16,8 +17,8 @@ pub fn in_memory(alloc: Global, calls: &str) -> Result<String, anyhow::Error> {
     Ok(answer)
 }
 
-/// Calls of a keeper over a file. `close` closes it, `copy NAME` copies the file alone, `folder NAME` makes a folder,
-/// and `clear NAME` takes one away with what is in it.
+/// Calls of a keeper over a file. `close` closes it, `there` tells whether there is a file, `copy NAME` copies the file alone,
+/// `folder NAME` makes a folder, and `clear NAME` takes one away with what is in it.
 pub fn in_file(system: &HostRuntime, alloc: Global, text: &str) -> Result<String, anyhow::Error> {
     let (path, calls) = first_word(text);
     let mut keeper = RegisterFile::new(system, alloc, path);
@@ -41,6 +42,7 @@ fn append_file_call(
             append_done(keeper.close(), to)?;
             to.push_str("; ")?;
         }
+        ("there", _) => to.push_str(file_word(fs::exists(system, path)?))?,
         ("copy", name) => {
             fs::copy(system, path, name)?;
         }
@@ -49,6 +51,10 @@ fn append_file_call(
         _ => append_call(alloc, keeper, call, to)?,
     }
     Ok(())
+}
+
+fn file_word(is_there: bool) -> &'static str {
+    if is_there { "a file; " } else { "no file; " }
 }
 
 /// Calls of two keepers over one file.

@@ -1,11 +1,11 @@
 -- What the clauses of the devices give of those of their traits.
-use Rattle.std.proofs.Common.{◌≡◌, ℕ, ◌≤◌, ◌++◌, List, length, refl, sym, ap, Option, Some, Result, Ok, Err, OnOk, OnErr, rules}
+use Rattle.std.proofs.Common.{◌≡◌, ℕ, ◌+◌, ◌≤◌, add-one, ◌++◌, List, length, refl, sym, ap, Option, Some, Result, Ok, Err, OnOk, OnErr, rules}
 use Rattle.std.specs.Bool.{⊤}
 use Rattle.std.proofs.Math.Seq.{take-length}
 use Rattle.std.specs.FinMap.{insert}
 use Rattle.desk_files.specs.declared.fault.WriteErr.{WriteErr}
 use Rattle.desk_files.specs.declared.fault.Failed.{Failed}
-use Rattle.desk_files.specs.Outside.{FileMap, HasRisen, KeepsOthers, AppendsPart, Ending, Answered, DeviceFailed, MemoryShort, Counts, Stands, Leaves, counted, raised}
+use Rattle.desk_files.specs.Outside.{FileMap, HasRisen, KeepsOthers, AppendsPart, Ending, Answered, DeviceFailed, MemoryShort, Counts, Stands, Leaves, counted, raised, risen_by}
 use Rattle.desk_files.specs.Answers.{print_ending, write_ending}
 use Rattle.desk_files.proofs.FileLaws.{KeepsOthers-insert}
 
@@ -15,6 +15,9 @@ HasRisen-raised n = search rules
 
 le-raised : (n : ℕ) → n ≤ raised n
 le-raised n = search rules
+
+pub risen_more : (k n : ℕ) → risen_by (k + 1) n ≡ raised (risen_by k n)
+risen_more k n = rw add-one refl
 
 -- a device that counts each of its calls that failed
 pub Counts-counted : (ending : Ending) (n : ℕ) → Counts ending n (counted ending n)

@@ -1,5 +1,5 @@
 -- What the clauses of the hosts give of those of their trait.
-use Rattle.std.proofs.Common.{◌≡◌, Bool, ◌<◌, List, [], ◌∷◌, ◌++◌, length, map, refl, sym, ap, Option, None, Some, Result, Ok, Err, OnOk, OnErr, rules, subst, arith}
+use Rattle.std.proofs.Common.{◌≡◌, ℕ, Bool, ◌<◌, List, [], ◌∷◌, ◌++◌, length, map, refl, sym, ap, Option, None, Some, Result, Ok, Err, OnOk, OnErr, rules, subst, arith}
 use Rattle.std.specs.Prelude.{All, IfOk, IfSome, IsSome, option_to_list}
 use Rattle.std.proofs.lemmas.List.{map-append}
 use Rattle.std.proofs.lemmas.List.Elements.{All-map}
@@ -7,7 +7,7 @@ use Rattle.desk_values.specs.declared.memory.Memory.{Memory}
 use Rattle.desk_files.specs.declared.fault.Failed.{Failed}
 use Rattle.desk_files.specs.declared.mem_host.MemConn.{MemConn}
 use Rattle.desk_files.specs.Memory.{MemorySource, MemorySink}
-use Rattle.desk_files.specs.Hosts.{Accepts, GivesBack, either_failed}
+use Rattle.desk_files.specs.Hosts.{Accepts, GivesBack, after_back, either_failed}
 use Rattle.desk_files.specs.MemoryHosts.{Pair, MemoryHost, TakesFirst, stated, IsFresh, connections_of}
 
 -- ---- one in memory
@@ -31,7 +31,7 @@ fresh_taken (Err failed) before after takes = tt
 pub All-stated : (conns : List MemConn) → All IsFresh (map stated conns)
 All-stated conns = All-map IsFresh stated conns (λ k d within. (refl, refl, refl))
 
-pub Accepts-first : (r : Result (Option Pair) Failed) (before after : MemoryHost) → TakesFirst r before.waiting after.waiting → after.returned ≡ before.returned → Accepts (λ (s : MemorySource). Some s.rest) (λ (s : MemorySink). Some s.held) r (Some (connections_of before)) (Some (connections_of after))
+pub Accepts-first : (r : Result (Option Pair) Failed) (before after : MemoryHost) → TakesFirst r before.waiting after.waiting → after.returned ≡ before.returned → Accepts (λ (s : MemorySource). record { content = Some s.rest; faults = s.calls.faults }) (λ (s : MemorySink). record { content = Some s.held; faults = s.calls.faults }) r (Some (connections_of before)) (Some (connections_of after))
 Accepts-first (Ok (Some pair)) before after takes same = record {
   first = pair.0.rest;
   others = map (λ (p : Pair). p.0.rest) after.waiting;
@@ -43,20 +43,24 @@ Accepts-first (Ok (Some pair)) before after takes same = record {
 Accepts-first (Ok None) before after takes same = (rw (takes.1, same) refl, rw takes.0 refl)
 Accepts-first (Err failed) before after takes same = rw (takes, same) refl
 
-pub GivesBack-last : (r : Result (Unit {0}) Memory) (before after : MemoryHost) (pair : Pair) → OnOk r (after ≡ record before { returned = before.returned ++ pair ∷ [] }) → OnErr r (after ≡ before) → GivesBack (Some pair.0.rest) (Some pair.1.held) (either_failed pair.0.calls.faults pair.1.calls.faults) r (Some (connections_of before)) (Some (connections_of after))
+pub GivesBack-last : (r : Result (Unit {0}) Memory) (before after : MemoryHost) (pair : Pair) → OnOk r (after ≡ record before { returned = before.returned ++ pair ∷ []; handed = after_back before.handed }) → OnErr r (after ≡ record before { handed = after_back before.handed }) → GivesBack (Some pair.0.rest) (Some pair.1.held) (either_failed pair.0.calls.faults pair.1.calls.faults) r (Some (connections_of before)) (Some (connections_of after))
 GivesBack-last (Ok done) before after pair ok err = rw (ok, map-append) refl
 GivesBack-last (Err memory) before after pair ok err = ap (λ host. Some (connections_of host)) err
 
-pub back_faults : (r : Result (Unit {0}) Memory) (before after : MemoryHost) (pair : Pair) → OnOk r (after ≡ record before { returned = before.returned ++ pair ∷ [] }) → OnErr r (after ≡ before) → after.calls.faults ≡ before.calls.faults
+pub back_faults : (r : Result (Unit {0}) Memory) (before after : MemoryHost) (pair : Pair) → OnOk r (after ≡ record before { returned = before.returned ++ pair ∷ []; handed = after_back before.handed }) → OnErr r (after ≡ record before { handed = after_back before.handed }) → after.calls.faults ≡ before.calls.faults
 back_faults (Ok done) before after pair ok err = ap (λ (host : MemoryHost). host.calls.faults) ok
 back_faults (Err memory) before after pair ok err = ap (λ (host : MemoryHost). host.calls.faults) err
 
+pub back_handed : (r : Result (Unit {0}) Memory) (before after : MemoryHost) (pair : Pair) → OnOk r (after ≡ record before { returned = before.returned ++ pair ∷ []; handed = after_back before.handed }) → OnErr r (after ≡ record before { handed = after_back before.handed }) → after.handed ≡ after_back before.handed
+back_handed (Ok done) before after pair ok err = ap (λ (host : MemoryHost). host.handed) ok
+back_handed (Err memory) before after pair ok err = ap (λ (host : MemoryHost). host.handed) err
+
 -- ---- one that does not tell
 
-pub Accepts-untold : {In Out : Type 0} (r : Result (Option (In × Out)) Failed) → Accepts (λ _. None) (λ _. None) r None None
-Accepts-untold (Ok (Some pair)) = tt
-Accepts-untold (Ok None) = (refl, tt)
-Accepts-untold (Err failed) = refl
+pub Accepts-untold : {In Out : Type 0} (f : In → ℕ) (g : Out → ℕ) (r : Result (Option (In × Out)) Failed) → Accepts (λ input. record { content = None; faults = f input }) (λ output. record { content = None; faults = g output }) r None None
+Accepts-untold f g (Ok (Some pair)) = tt
+Accepts-untold f g (Ok None) = (refl, tt)
+Accepts-untold f g (Err failed) = refl
 
 pub GivesBack-untold : (failed : Bool) (r : Result (Unit {0}) Memory) → GivesBack None None failed r None None
 GivesBack-untold failed (Ok done) = tt

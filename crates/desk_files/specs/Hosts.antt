@@ -1,7 +1,7 @@
 -- The connections of a host, and what each call does to them.
 use Rattle.std.specs.Prelude.{◌≡◌, ℕ, Bool, ◌||◌, nat_lt, List, [], ◌∷◌, ◌++◌, Option, None, Some, IsSomeAnd, Result, Ok, Err}
 use Rattle.desk_values.specs.declared.memory.Memory.{Memory}
-use Rattle.desk_files.specs.Outside.{Told, Ending, Answered, DeviceFailed}
+use Rattle.desk_files.specs.Outside.{Account, Told, Ending, Answered, DeviceFailed, raised}
 use Rattle.desk_files.specs.declared.fault.Failed.{Failed}
 
 -- a connection that was given back: the bytes left in its input, those in its output, and whether either of them failed
@@ -15,6 +15,37 @@ pub record Connections : Type 0 where
   pub waiting : List (List ℕ)
   pub returned : List Returned
 
+-- ---- what is handed out
+
+-- the port at which a host listens, how many connections were taken, and how many given back, whatever came of it. Each count
+-- stands still at the last value of its counter.
+pub record Handed : Type 0 where
+  pub port : Option ℕ
+  pub taken : ℕ
+  pub backs : ℕ
+
+-- before any call
+abbrev pub none_handed : Handed
+none_handed = record { port = None; taken = 0; backs = 0 }
+
+abbrev pub after_listen : Result (Unit {0}) Failed → ℕ → Handed → Handed
+after_listen (Ok done) port handed = record handed { port = Some port }
+after_listen (Err failed) port handed = handed
+
+abbrev pub after_accept : {T : Type 0} → Result (Option T) Failed → Handed → Handed
+after_accept (Ok (Some pair)) handed = record handed { taken = raised handed.taken }
+after_accept (Ok None) handed = handed
+after_accept (Err failed) handed = handed
+
+abbrev pub after_back : Handed → Handed
+after_back handed = record handed { backs = raised handed.backs }
+
+-- what a host gives account of: its connections, where it tells them, how many of its calls failed, and what it handed out
+pub record HostAccount : Type 0 where
+  pub content : Option Connections
+  pub faults : ℕ
+  pub handed : Handed
+
 -- ---- accept
 
 -- the first of those waiting was taken: the input tells its bytes, and the output that it has none yet
@@ -26,9 +57,9 @@ pub record Takes (input output : Option (List ℕ)) (before : Connections) (afte
   pub output_is : output ≡ Some []
   pub left : after ≡ Some (record before { waiting = others })
 
--- what an answer of `accept` says; `input` and `output` are what a pair's two ends tell
-abbrev pub Accepts : {In Out : Type 0} → (In → Option (List ℕ)) → (Out → Option (List ℕ)) → Result (Option (In × Out)) Failed → Option Connections → Option Connections → Type 0
-Accepts input output (Ok (Some pair)) before after = Told before (λ connections. Takes (input pair.0) (output pair.1) connections after)
+-- what an answer of `accept` says; `input` and `output` are what a pair's two ends give account of
+abbrev pub Accepts : {In Out : Type 0} → (In → Account (List ℕ)) → (Out → Account (List ℕ)) → Result (Option (In × Out)) Failed → Option Connections → Option Connections → Type 0
+Accepts input output (Ok (Some pair)) before after = Told before (λ connections. Takes (input pair.0).content (output pair.1).content connections after)
 Accepts input output (Ok None) before after = (after ≡ before) × Told before (λ connections. connections.waiting ≡ [])
 Accepts input output (Err failed) before after = after ≡ before
 

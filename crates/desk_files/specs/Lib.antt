@@ -1,4 +1,5 @@
 pub mod Limits
+pub mod Inside
 pub mod Outside
 pub mod Answers
 pub mod Writes

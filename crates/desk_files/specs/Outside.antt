@@ -1,5 +1,5 @@
 -- What an object of the outside tells of itself, and what stands after a call of it.
-use Rattle.std.specs.Prelude.{◌≡◌, ◌≢◌, ℕ, ◌+◌, ◌<◌, ◌≤◌, ◌==◌, if◌then◌else◌, Bool, true, false, List, ◌++◌, take, Option, Some, IfSome, IsSomeAnd, ⊤}
+use Rattle.std.specs.Prelude.{◌≡◌, ◌≢◌, ℕ, zero, suc, ◌+◌, ◌<◌, ◌≤◌, ◌==◌, if◌then◌else◌, Bool, true, false, List, ◌++◌, take, Option, Some, IfSome, IsSomeAnd, ⊤}
 use Rattle.std.specs.Ordering.{nat_cmp}
 use Rattle.std.specs.Cmp.Lexicographic.{slice_cmp}
 use Rattle.std.specs.FinMap.{FinMap, get}
@@ -7,6 +7,12 @@ use Rattle.std.specs.FinMap.{FinMap, get}
 -- files by their names: the bytes of each
 abbrev pub FileMap : Type 0
 FileMap = FinMap (slice_cmp nat_cmp) (List ℕ)
+
+-- what an object of the outside gives account of: its content, where it tells it, and how many of its calls failed. The count
+-- stands still at the last value of its counter.
+pub record Account (T : Type 0) : Type 0 where
+  pub content : Option T
+  pub faults : ℕ
 
 -- a fact of what is told; where nothing is told it claims nothing
 abbrev pub Told : {T : Type 0} → Option T → (T → Type 0) → Type 0
@@ -33,6 +39,11 @@ last_count = 18446744073709551615
 -- one more, unless the count stands still
 abbrev pub raised : ℕ → ℕ
 raised n = if n == last_count then n else n + 1
+
+-- a count that rose so often; at the last value of its counter it tells no more how often
+abbrev pub risen_by : ℕ → ℕ → ℕ
+risen_by zero n = n
+risen_by (suc k) n = raised (risen_by k n)
 
 -- a count rose in a call: it is greater than before, or stands at its last value
 abbrev pub HasRisen : ℕ → ℕ → Type 0

@@ -10,6 +10,7 @@ mod calls;
 mod door;
 mod fault;
 mod files;
+mod handing;
 mod host;
 mod mem_door;
 mod mem_files;

@@ -68,9 +68,7 @@ impl MemFiles {
 }
 
 impl Files for MemFiles {
-    ghost content = { λ s. Some s.files };
-
-    ghost faults = { λ s. s.calls.faults };
+    ghost account = { λ s. record { content = Some s.files; faults = s.calls.faults } };
 
     fn read(&mut self, name: &Txt) -> Result<Bytes, FileErr>
         ensures failed { IsErrOf result FileErr.Failed ↔ IsTrue (fails_now self.old.calls) }

@@ -2,12 +2,13 @@ ghost use Rattle.std.specs.Prelude.{◌≡◌, ◌↔◌, ◌++◌, ◌∷◌, [
 ghost use Rattle.std.specs.Option.{option_copied};
 ghost use Rattle.desk_files.specs.Outside.{is_failed};
 ghost use Rattle.desk_files.specs.Answers.{print_ending};
-ghost use Rattle.desk_files.specs.Hosts.{accept_ending};
+ghost use Rattle.desk_files.specs.Hosts.{accept_ending, after_accept, after_back, after_listen, none_handed};
 ghost use Rattle.desk_files.specs.Memory.{no_calls, after_call, fails_now};
 ghost use Rattle.desk_files.specs.MemoryHosts.{IsFresh, TakesFirst, connections_of, stated};
 
 use crate::calls::Calls;
 use crate::fault::Failed;
+use crate::handing::Handing;
 use crate::host::Host;
 use crate::mem_sink::MemSink;
 use crate::mem_source::MemSource;
@@ -40,6 +41,7 @@ pub struct MemHost {
     waiting: VecDeque<(MemSource, MemSink)>,
     returned: Vec<(MemSource, MemSink)>,
     calls: Calls,
+    handed: Handing,
 }
 
 impl Model for MemHost {
@@ -53,7 +55,7 @@ impl Model for MemHost {
 
     ghost invariant = { λ a. All IsFresh a.waiting.items };
 
-    ghost view = { λ a. record { waiting = a.waiting.items; returned = a.returned.items; calls = a.calls } };
+    ghost view = { λ a. record { waiting = a.waiting.items; returned = a.returned.items; calls = a.calls; handed = a.handed } };
 }
 
 impl MemHost {
@@ -64,12 +66,14 @@ impl MemHost {
           waiting = map stated conns;
           returned = [];
           calls = no_calls fails;
+          handed = none_handed;
         }) }
     {
         Ok(MemHost {
             waiting: ends_of(alloc, conns)?,
             returned: Vec::new(alloc),
             calls: Calls::new(fails),
+            handed: Handing::new(),
         })
     }
 
@@ -90,14 +94,13 @@ impl Host for MemHost {
 
     type Out = MemSink;
 
-    ghost content = { λ s. Some (connections_of s) };
+    ghost account = { λ s. record { content = Some (connections_of s); faults = s.calls.faults; handed = s.handed } };
 
-    ghost faults = { λ s. s.calls.faults };
-
-    fn listen(&mut self, _port: u16) -> Result<(), Failed>
+    fn listen(&mut self, port: u16) -> Result<(), Failed>
         ensures failed { IsErr result ↔ IsTrue (fails_now self.old.calls) }
         ensures calls { self.new ≡ record self.old {
           calls = after_call self.old.calls (is_failed (print_ending result));
+          handed = after_listen result port self.old.handed;
         } }
     {
         if self.calls.fails_now() {
@@ -105,6 +108,7 @@ impl Host for MemHost {
             return Err(Failed);
         }
         self.calls.count(false);
+        self.handed.listens(port);
         Ok(())
     }
 
@@ -113,21 +117,26 @@ impl Host for MemHost {
         ensures takes { TakesFirst result self.old.waiting self.new.waiting }
         ensures returned { self.new.returned ≡ self.old.returned }
         ensures calls { self.new.calls ≡ after_call self.old.calls (is_failed (accept_ending result)) }
+        ensures handed { self.new.handed ≡ after_accept result self.old.handed }
     {
         if self.calls.fails_now() {
             self.calls.count(true);
             return Err(Failed);
         }
         self.calls.count(false);
-        Ok(self.waiting.pop_front())
+        let taken = self.waiting.pop_front();
+        self.handed.count(&taken);
+        Ok(taken)
     }
 
     fn back(&mut self, input: MemSource, output: MemSink) -> Result<(), Memory>
         ensures ok { OnOk result (self.new ≡ record self.old {
           returned = self.old.returned ++ (input, output) ∷ [];
+          handed = after_back self.old.handed;
         }) }
-        ensures err { OnErr result (self.new ≡ self.old) }
+        ensures err { OnErr result (self.new ≡ record self.old { handed = after_back self.old.handed }) }
     {
+        self.handed.count_back();
         self.returned.push((input, output))?;
         Ok(())
     }

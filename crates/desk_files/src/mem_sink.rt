@@ -58,9 +58,7 @@ impl MemSink {
 }
 
 impl Sink for MemSink {
-    ghost content = { λ s. Some s.held };
-
-    ghost faults = { λ s. s.calls.faults };
+    ghost account = { λ s. record { content = Some s.held; faults = s.calls.faults } };
 
     fn write(&mut self, bytes: &[u8]) -> Result<(), Failed>
         ensures failed { IsErr result ↔ IsTrue (refuses self.old bytes.now) }

@@ -47,9 +47,7 @@ impl MemSource {
 }
 
 impl Source for MemSource {
-    ghost content = { λ s. Some s.rest };
-
-    ghost faults = { λ s. s.calls.faults };
+    ghost account = { λ s. record { content = Some s.rest; faults = s.calls.faults } };
 
     fn read(&mut self, buffer: &mut [u8]) -> Result<usize, Failed>
         ensures failed { IsErr result ↔ IsTrue (fails_now self.old.calls) }

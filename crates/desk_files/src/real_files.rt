@@ -3,6 +3,7 @@ ghost use Rattle.std.specs.IoError.{error_kind};
 ghost use Rattle.desk_files.specs.Outside.{counted};
 ghost use Rattle.desk_files.specs.Answers.{read_ending, write_ending};
 ghost use Rattle.desk_files.specs.Limits.{file_limit};
+ghost use Rattle.desk_files.specs.Inside.{part_suffix};
 
 use crate::fault::{FileErr, WriteErr};
 use crate::files::{FILE_LIMIT, Files};
@@ -71,9 +72,7 @@ impl<R> RealFiles<'_, R> {
 }
 
 impl<R: rt::Files> Files for RealFiles<'_, R> {
-    ghost content = { λ _. None };
-
-    ghost faults = { λ count. count };
+    ghost account = { λ count. record { content = None; faults = count } };
 
     fn read(&mut self, name: &Txt) -> Result<Bytes, FileErr>
         ensures limit { IfOk result (λ bytes. length bytes ≤ file_limit) }
@@ -144,7 +143,7 @@ fn write_synced<W: Write + OpenFile + Drop>(mut file: W, bytes: &[u8]) -> io::Re
 
 // The name and the suffix.
 fn name_beside(name: &Txt) -> ArrayString<NAME_ROOM>
-    ensures { result.bytes ≡ name.now ++ SUFFIX.now }
+    ensures { result.bytes ≡ name.now ++ part_suffix }
 {
     let mut beside = ArrayString::new();
     beside.push_str(name.as_str());

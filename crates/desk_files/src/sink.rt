@@ -1,5 +1,5 @@
-ghost use Rattle.std.specs.Prelude.{◌≡◌, ℕ, List, Option, OnOk};
-ghost use Rattle.desk_files.specs.Outside.{Appends, AppendsPart, Leaves};
+ghost use Rattle.std.specs.Prelude.{◌≡◌, ℕ, List, OnOk};
+ghost use Rattle.desk_files.specs.Outside.{Account, Appends, AppendsPart, Leaves};
 ghost use Rattle.desk_files.specs.Answers.{print_ending};
 
 use crate::fault::Failed;
@@ -7,20 +7,17 @@ use crate::fault::Failed;
 /// Where bytes are written one after the other. An object may tell the bytes so far; every object
 /// counts its faults, and that count never falls.
 pub trait Sink {
-    /// The bytes so far, where the object tells them.
-    ghost content: { Self → Option (List ℕ) };
-
-    /// How many calls failed. It stands still at the last value of its counter.
-    ghost faults: { Self → ℕ };
+    /// The bytes so far, where the object tells them, and how many calls failed.
+    ghost account: { Self → Account (List ℕ) };
 
     /// Appends all bytes. After `Failed` the first few of them may have been appended.
     fn write(&mut self, bytes: &[u8]) -> Result<(), Failed>
-        ensures ok { OnOk result (Appends bytes.now (content self.old) (content self.new)) }
-        ensures part { AppendsPart bytes.now (content self.old) (content self.new) }
-        ensures leaves { Leaves (print_ending result) (content self.old) (content self.new) (faults self.old) (faults self.new) };
+        ensures ok { OnOk result (Appends bytes.now (account self.old).content (account self.new).content) }
+        ensures part { AppendsPart bytes.now (account self.old).content (account self.new).content }
+        ensures leaves { Leaves (print_ending result) (account self.old).content (account self.new).content (account self.old).faults (account self.new).faults };
 
     /// Says that nothing more is written. The object may let go of what it writes to; what it tells stays.
     fn close(&mut self)
-        ensures content { content self.new ≡ content self.old }
-        ensures faults { faults self.new ≡ faults self.old };
+        ensures content { (account self.new).content ≡ (account self.old).content }
+        ensures faults { (account self.new).faults ≡ (account self.old).faults };
 }

@@ -31,9 +31,7 @@ impl<'a, R: Print> StdSink<'a, R> {
 }
 
 impl<R: Print> Sink for StdSink<'_, R> {
-    ghost content = { λ _. None };
-
-    ghost faults = { λ count. count };
+    ghost account = { λ count. record { content = None; faults = count } };
 
     fn write(&mut self, bytes: &[u8]) -> Result<(), Failed>
         ensures { self.new ≡ counted (print_ending result) self.old }

@@ -18,8 +18,8 @@ pub struct Write {
 
 /// Writes these files in order, and stops at the first that is not written.
 pub fn write_all<F: Files>(writes: &[Write], files: &mut F) -> Result<(), WriteErr>
-    ensures left { Told (F.content files.old) (λ before. IsSomeAnd (F.content files.new) (LeavesOfWrites writes.now before result)) }
-    ensures faults { Counts (write_ending result) (F.faults files.old) (F.faults files.new) }
+    ensures left { Told (F.account files.old).content (λ before. IsSomeAnd (F.account files.new).content (LeavesOfWrites writes.now before result)) }
+    ensures faults { Counts (write_ending result) (F.account files.old).faults (F.account files.new).faults }
 {
     for write in writes {
         files.write(&write.name, write.bytes.as_slice())?;

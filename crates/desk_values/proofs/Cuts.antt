@@ -7,6 +7,7 @@ use Rattle.std.proofs.lemmas.Bool.{eq-eqb, ne_eqb, eqb-true, eqb-false}
 use Rattle.std.proofs.lemmas.List.{take_at, length_push, length-map, take-append-drop, drop_more}
 use Rattle.std.proofs.lemmas.Option.{same_Some, none-some}
 use Rattle.std.proofs.lemmas.List.Splits.{join_with_byte-slice_split}
+use Rattle.memchr.specs.Find.{IsFirstByte, is_byte}
 use Rattle.desk_values.specs.declared.read_err.ReadErr.{ReadErr}
 use Rattle.desk_values.specs.declared.read_err.ReadErr.TheVariants.{Bad, Memory}
 use Rattle.desk_values.specs.Fields.{Lacks, cut_at, pieces}
@@ -77,6 +78,17 @@ pub cut_place : (byte i : ℕ) (bytes : List ℕ) → i < length bytes → get_o
 cut_place byte i bytes lt here before =
     let split : drop i bytes ≡ byte ∷ drop (i + 1) bytes = drop_more bytes i 0 lt ∙ ap (λ (b : ℕ). b ∷ drop (i + 1) bytes) here in
     record { parts = sym (take-append-drop i bytes) ∙ ap (λ (bs : List ℕ). take i bytes ++ bs) split; lacks = Lacks-take byte i bytes (omega arith) before }
+
+-- by what a search for the byte answered
+pub found_cut : (byte : ℕ) (bytes : List ℕ) (place : Option ℕ) (i : ℕ) → place ≡ Some i → IsFirstByte (is_byte byte) bytes place → IsCut byte bytes (take i bytes) (drop (i + 1) bytes)
+found_cut byte bytes None i e h = absurd cc
+found_cut byte bytes (Some k) i e h =
+    subst (λ (j : ℕ). IsCut byte bytes (take j bytes) (drop (j + 1) bytes)) (same_Some k i e)
+    (cut_place byte k bytes h.0.high (eqb-true (get_or bytes k 0) byte h.1) (λ j lt is. h.0.before j (omega arith) lt (eq-eqb (get_or bytes j 0) byte is)))
+
+pub lacks_found : (byte : ℕ) (bytes : List ℕ) (place : Option ℕ) → place ≡ None → IsFirstByte (is_byte byte) bytes place → Lacks byte bytes
+lacks_found byte bytes None e h = Lacks-from_places byte bytes (λ k lt is. h k (omega arith) lt (eq-eqb (get_or bytes k 0) byte is))
+lacks_found byte bytes (Some k) e h = absurd cc
 
 pub cut_at-cut : (byte : ℕ) (bytes front rest : List ℕ) → IsCut byte bytes front rest → cut_at byte bytes ≡ Some (front, rest)
 cut_at-cut byte bytes front rest is = ap (cut_at byte) is.parts ∙ cut_at-joined byte front rest is.lacks

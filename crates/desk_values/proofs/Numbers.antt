@@ -1,20 +1,21 @@
 -- Reading numbers undoes writing them.
-use Rattle.std.proofs.Common.{◌≡◌, ℕ, zero, suc, ◌-◌, ◌^◌, ◌<◌, ◌≤◌, true, false, eqb, ltb, leb, not, ◌&&◌, ℤ, pos, negsuc, List, [], ◌∷◌, length, get_or, drop, Some, None, Result, Ok, Err, refl, sym, ap, subst, ◌∙◌, arith, inl, inr, lit<}
-use Rattle.std.specs.Prelude.{◌≢◌, MatchResult, FitsSigned}
+use Rattle.std.proofs.Common.{◌≡◌, ℕ, zero, suc, ◌+◌, ◌-◌, ◌*◌, ◌^◌, ◌<◌, ◌≤◌, true, false, eqb, ltb, leb, not, ◌&&◌, ℤ, pos, negsuc, List, [], ◌∷◌, length, get_or, drop, Option, Some, None, Result, Ok, Err, refl, sym, ap, subst, ◌∙◌, arith, inl, inr, lit<}
+use Rattle.std.specs.Prelude.{FitsSigned}
+use Rattle.std.specs.Char.{digit_value, is_ascii_digit}
 use Rattle.std.specs.Int.{w64}
 use Rattle.std.specs.Result.{result_ok, OkIff}
 use Rattle.std.specs.Fmt.{decimal, signed_decimal}
-use Rattle.std.specs.Str.{bytes_eq, IsUtf8}
-use Rattle.std.specs.Str.Parse.{digits_value, IsNumeral, AllDigits, ParsesUnsigned}
-use Rattle.std.proofs.lemmas.Bool.{ne_eqb, eqb-true, eqb-false, ltb-true, lt-ltb, leb-true, le-leb, and_parts, and_cases, or_parts, not-false, both_ways}
-use Rattle.std.proofs.lemmas.Option.{same_Some, none-some, cond_some}
+use Rattle.std.specs.Str.{bytes_eq}
+use Rattle.std.specs.Str.Parse.{digits_value, digits_value_after, IsNumeral, AllDigits}
+use Rattle.std.proofs.lemmas.Bool.{ne_eqb, eqb-true, eqb-false, ltb-true, lt-ltb, leb-true, le-leb, and_parts, and_from, and_cases, not-false, both_ways, cond-true}
+use Rattle.std.proofs.lemmas.Option.{same_Some, cond_some}
 use Rattle.std.proofs.lemmas.Slice.Eq.{bytes_eq-Decides}
-use Rattle.std.proofs.lemmas.Str.{IsUtf8-from_ascii}
-use Rattle.std.proofs.lemmas.Str.Parse.{numerals_by_value, tells_digits, IsNumeralModel, without_leading_plus_none}
-use Rattle.std.proofs.lemmas.Fmt.{decimal_is_IsNumeral, decimal-digits_value, decimal_digit, first_decimal, IsAscii-decimal}
+use Rattle.std.proofs.lemmas.Str.{digit_value_digit}
+use Rattle.std.proofs.lemmas.Str.Parse.{numerals_by_value, tells_digits, IsNumeralModel, digit_from_value}
+use Rattle.std.proofs.lemmas.Fmt.{decimal_is_IsNumeral, decimal-digits_value, decimal_digit, first_decimal}
 use Rattle.desk_values.specs.Reading.{number_of, number_below, integer_of, negative, not_negative, ◌>>=◌}
-use Rattle.desk_values.specs.Inside.{is_loose}
-use Rattle.desk_values.proofs.Options.{bind_some, chosen, none_from}
+use Rattle.desk_values.specs.Inside.{is_loose, number_after}
+use Rattle.desk_values.proofs.Options.{bind_some, chosen, none_from, when_some}
 use Rattle.desk_values.proofs.Readers.{IsReader, first_of}
 
 -- ---- numbers without a sign
@@ -37,10 +38,10 @@ number_again n lt =
 pub numbers : IsReader number_of (λ n. n < 2 ^ 64) decimal
 numbers = record { takes = number_taken; again = number_again }
 
--- no number begins with a plus, or with a zero before more
+-- no number begins with a zero before more
 not_loose_above : (bytes : List ℕ) → 48 < get_or bytes 0 0 → is_loose bytes ≡ false
-not_loose_above [] above = refl
-not_loose_above (first ∷ rest) above = rw (ne_eqb first 43 (omega arith), ne_eqb first 48 (omega arith)) refl
+not_loose_above [] above = absurd (omega arith)
+not_loose_above (first ∷ rest) above = rw (ne_eqb first 48 (omega arith)) refl
 
 not_loose : (n : ℕ) → n < 2 ^ 64 → is_loose (decimal n) ≡ false
 not_loose zero lt = rw (decimal_digit 0 (lit< tt)) refl
@@ -51,20 +52,14 @@ loose_is_none bytes loose = none_from (number_of bytes) (λ n e.
     let taken = number_taken bytes n e in
     both_ways (is_loose bytes) (ap is_loose taken.1 ∙ not_loose n taken.0) loose)
 
-pub no_text_is_none : {A E : Type 0} (bytes : List ℕ) (r : Result A E) (P : A → Type 0) (Q : E → Type 0) → result_ok r ≡ None → MatchResult r P (λ e. (¬ (IsUtf8 bytes)) × Q e) → number_of bytes ≡ None
-no_text_is_none bytes (Ok x) P Q e h = absurd cc
-no_text_is_none bytes (Err y) P Q e h = none_from (number_of bytes) (λ n is.
-    let taken = number_taken bytes n is in
-    h.0 (subst IsUtf8 (sym taken.1) (IsUtf8-from_ascii (decimal n) (IsAscii-decimal n taken.0))))
-
-not_plus : (bytes : List ℕ) → is_loose bytes ≡ false → get_or bytes 0 0 ≢ 43
-not_plus [] h = λ e. absurd (omega arith)
-not_plus (first ∷ rest) h = eqb-false first 43 (or_parts (eqb first 43) _ h).0
+tight_some : (bytes : List ℕ) → is_loose bytes ≡ false → 0 < length bytes
+tight_some [] h = absurd cc
+tight_some (first ∷ rest) h = omega arith
 
 not_zero_before : (bytes : List ℕ) → is_loose bytes ≡ false → get_or bytes 0 0 ≡ 48 → length bytes ≡ 1
 not_zero_before [] h e = absurd (omega arith)
 not_zero_before (first ∷ rest) h e =
-    elim (and_cases (eqb first 48) (not (eqb (length rest) 0)) (or_parts (eqb first 43) _ h).1) [
+    elim (and_cases (eqb first 48) (not (eqb (length rest) 0)) h) [
       | inl other ↦ absurd (eqb-false first 48 other e)
       | inr empty ↦ omega (arith, eqb-true (length rest) 0 (not-false _ empty))
     ]
@@ -84,14 +79,57 @@ parsed bytes (Err e) canonical h = sym (none_from (number_of bytes) (λ n is.
     let numeral = decimal_is_IsNumeral n taken.0 in
     h (subst (λ (ds : List ℕ). IsNumeral 10 ds × (digits_value 10 ds < 2 ^ 64)) (sym taken.1) (numeral.0, subst (λ (m : ℕ). m < 2 ^ 64) (sym numeral.1) taken.0))))
 
-pub number_parsed : {E : Type 0} (bytes : List ℕ) (r : Result ℕ E) → is_loose bytes ≡ false → ParsesUnsigned 64 10 bytes r → result_ok r ≡ number_of bytes
-number_parsed bytes r canonical h =
-    parsed bytes r canonical (subst (λ (ds : List ℕ). IsParsed ds r) (without_leading_plus_none bytes (not_plus bytes canonical)) h)
+-- ---- digit by digit
 
--- the text that was parsed
-pub utf8_is : {A E : Type 0} (now : A → List ℕ) (bytes : List ℕ) (r : Result A E) (P : A → Type 0) (Q : E → Type 0) (s : A) → result_ok r ≡ Some s → MatchResult r (λ s. (now s ≡ bytes) × P s) Q → now s ≡ bytes
-utf8_is {A = A} now bytes (Ok x) P Q s e h = subst (λ (y : A). now y ≡ bytes) (same_Some x s e) h.0
-utf8_is now bytes (Err y) P Q s e h = absurd (none-some s e)
+digit_range : (digit : ℕ) → is_ascii_digit digit ≡ true → (48 ≤ digit) × (digit ≤ 57)
+digit_range digit e = let both = and_parts (leb 48 digit) (leb digit 57) e in (leb-true 48 digit both.0, leb-true digit 57 both.1)
+
+value_after_ge : (n : ℕ) (ds : List ℕ) → n ≤ digits_value_after 10 n ds
+value_after_ge n [] = omega arith
+value_after_ge n (digit ∷ ds) = omega (arith, value_after_ge (n * 10 + digit_value digit) ds)
+
+record AreDigits (n : ℕ) (ds : List ℕ) (m : ℕ) : Type 0 where
+  all : AllDigits 10 ds
+  value : digits_value_after 10 n ds ≡ m
+  small : m < 2 ^ 64
+
+after_some : (n : ℕ) (ds : List ℕ) (m : ℕ) → n < 2 ^ 64 → number_after n ds ≡ Some m → AreDigits n ds m
+after_some n [] m lt e = let same = same_Some n m e in record { all = tt; value = same; small = subst (λ (k : ℕ). k < 2 ^ 64) same lt }
+after_some n (digit ∷ ds) m lt e =
+    let test = when_some (is_ascii_digit digit && ltb (n * 10 + (digit - 48)) (2 ^ 64)) (number_after (n * 10 + (digit - 48)) ds) m e in
+    let both = and_parts (is_ascii_digit digit) (ltb (n * 10 + (digit - 48)) (2 ^ 64)) test.0 in
+    let range = digit_range digit both.0 in
+    let value : digit_value digit ≡ digit - 48 = omega (arith, digit_value_digit digit range) in
+    let most : digit ≤ 57 = range.1 in
+    let rest = after_some (n * 10 + (digit - 48)) ds m (ltb-true (n * 10 + (digit - 48)) (2 ^ 64) both.1) test.1 in
+    record {
+      all = (omega arith, rest.all);
+      value = ap (λ (d : ℕ). digits_value_after 10 (n * 10 + d) ds) value ∙ rest.value;
+      small = rest.small;
+    }
+
+after_all : (n : ℕ) (ds : List ℕ) → AllDigits 10 ds → digits_value_after 10 n ds < 2 ^ 64 → number_after n ds ≡ Some (digits_value_after 10 n ds)
+after_all n [] all lt = refl
+after_all n (digit ∷ ds) all lt =
+    let range = digit_from_value digit all.0 in
+    let value : digit_value digit ≡ digit - 48 = omega (arith, digit_value_digit digit range) in
+    let small : n * 10 + (digit - 48) < 2 ^ 64 = omega (arith, value, value_after_ge (n * 10 + digit_value digit) ds, lt) in
+    let is_digit : is_ascii_digit digit ≡ true = and_from (leb 48 digit) (leb digit 57) (le-leb 48 digit range.0) (le-leb digit 57 range.1) in
+    cond-true (is_ascii_digit digit && ltb (n * 10 + (digit - 48)) (2 ^ 64)) (number_after (n * 10 + (digit - 48)) ds) None
+    (and_from (is_ascii_digit digit) (ltb (n * 10 + (digit - 48)) (2 ^ 64)) is_digit (lt-ltb (n * 10 + (digit - 48)) (2 ^ 64) small))
+    ∙ ap (λ (d : ℕ). number_after (n * 10 + d) ds) (sym value) ∙ after_all (n * 10 + digit_value digit) ds all.1 lt
+
+pub digits_are : (bytes : List ℕ) → is_loose bytes ≡ false → number_after 0 bytes ≡ number_of bytes
+digits_are bytes tight = by_found (number_after 0 bytes) refl
+  where
+    by_found : (read : Option ℕ) → number_after 0 bytes ≡ read → read ≡ number_of bytes
+    by_found None none = parsed {E = ℕ} bytes (Err 0) tight (λ p.
+        let never : ◌≡◌ {A = Option ℕ} None (Some (digits_value 10 bytes)) = sym none ∙ after_all 0 bytes p.0.1 p.1 in
+        cc)
+    by_found (Some m) found =
+        let taken = after_some 0 bytes m (lit< tt) found in
+        parsed {E = ℕ} bytes (Ok m) tight
+        (((tight_some bytes tight, taken.all), subst (λ (k : ℕ). k < 2 ^ 64) (sym taken.value) taken.small), sym taken.value)
 
 -- ---- below a smaller limit
 

@@ -8,7 +8,7 @@ ghost use Rattle.desk_values.specs.Fields.{Lacks, cut_at};
 ghost use Rattle.desk_values.specs.Good.{IsTxt};
 ghost use Rattle.desk_values.specs.Text.{txt_text};
 ghost use Rattle.desk_values.specs.Reading.{Reads, number_of, number_below, negative, integer_of, txt_of};
-ghost use Rattle.desk_values.specs.Inside.{is_loose};
+ghost use Rattle.desk_values.specs.Inside.{is_loose, number_after};
 
 use crate::escape::{push_text, read_escaped};
 use crate::memory::Memory;
@@ -16,10 +16,23 @@ use crate::read_err::ReadErr;
 use crate::text::Txt;
 use crate::value::Bytes;
 use itoa::Buffer;
+use memchr::memchr;
 use std::alloc::Global;
 
 /// What stands before the first `byte`, and what stands behind it. `None` where it does not stand there.
 pub fn cut(bytes: &[u8], byte: u8) -> Option<(&[u8], &[u8])>
+    ensures value { option_map (λ parts. (parts.0.now, parts.1.now)) result ≡ cut_at byte bytes.now }
+    ensures found { IfSome result (λ parts. (bytes.now ≡ parts.0.now ++ byte ∷ parts.1.now) × Lacks byte parts.0.now) }
+    ensures none { IfNone result (Lacks byte bytes.now) }
+{
+    match memchr(byte, bytes) {
+        Some(place) => Some((&bytes[..place], &bytes[place + 1..])),
+        None => None,
+    }
+}
+
+/// The same, byte by byte: for a byte that stands near, as behind a number.
+pub fn cut_near(bytes: &[u8], byte: u8) -> Option<(&[u8], &[u8])>
     ensures value { option_map (λ parts. (parts.0.now, parts.1.now)) result ≡ cut_at byte bytes.now }
     ensures found { IfSome result (λ parts. (bytes.now ≡ parts.0.now ++ byte ∷ parts.1.now) × Lacks byte parts.0.now) }
     ensures none { IfNone result (Lacks byte bytes.now) }
@@ -67,17 +80,35 @@ fn number(bytes: &[u8]) -> Option<u64>
     if is_loose(bytes) {
         return None;
     }
-    std::str::from_utf8(bytes).ok()?.parse().ok()
+    digits(bytes)
 }
 
-// A plus, or a zero before more: `parse` takes them, and no number is spelled so.
+// No byte, or a zero before more: no number is spelled so.
 fn is_loose(bytes: &[u8]) -> bool
     ensures { result ≡ is_loose bytes.now }
 {
     match bytes {
-        [first, rest @ ..] => *first == b'+' || *first == b'0' && !rest.is_empty(),
-        [] => false,
+        [first, rest @ ..] => *first == b'0' && !rest.is_empty(),
+        [] => true,
     }
+}
+
+// The number below 2^64 of these digits. `None` where there is another byte, or where it is too large.
+fn digits(bytes: &[u8]) -> Option<u64>
+    ensures { result ≡ number_after 0 bytes.now }
+{
+    let mut number: u128 = 0;
+    for digit in bytes {
+        if !digit.is_ascii_digit() {
+            return None;
+        }
+        let next = number * 10 + u128::from(*digit - b'0');
+        if next > u64::MAX as u128 {
+            return None;
+        }
+        number = next;
+    }
+    Some(number as u64)
 }
 
 #[tactic(auto, unfolding(crate::specs::Reading::number_below))]

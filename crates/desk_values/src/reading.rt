@@ -8,7 +8,7 @@ ghost use Rattle.desk_values.specs.Text.{value_text, values_text};
 ghost use Rattle.desk_values.specs.Reading.{Reads, draw_of, value_of, items_of, inside_of, values_of};
 
 use crate::escape::read_escaped;
-use crate::fields::{cut, read_i64, read_u32, read_u64};
+use crate::fields::{cut, cut_near, read_i64, read_u32, read_u64};
 use crate::list::List;
 use crate::read_err::ReadErr;
 use crate::value::{Value, Values};
@@ -41,7 +41,7 @@ fn value(alloc: Global, bytes: &[u8]) -> Result<Value, ReadErr>
 fn draw(bytes: &[u8]) -> Option<Value>
     ensures { result ≡ draw_of bytes.now }
 {
-    let (sequence, drawn) = cut(bytes, b'.')?;
+    let (sequence, drawn) = cut_near(bytes, b'.')?;
     Some(Value::Draw(read_u32(sequence)?, read_u64(drawn)?))
 }
 
@@ -85,7 +85,7 @@ fn items(alloc: Global, bytes: &[u8]) -> Result<Values, ReadErr>
 {
     let mut values = List::with_capacity(alloc, room_for(bytes))?;
     let mut rest = bytes;
-    while let Some((item, after)) = cut(rest, b',') {
+    while let Some((item, after)) = cut_near(rest, b',') {
         values.push(value(alloc, item)?)?;
         rest = after;
     }

@@ -52,7 +52,7 @@ pub fn same_items<T: Same>(left: &[T], right: &[T]) -> bool
 
 impl Same for Txt {
     fn same(&self, other: &Txt) -> bool {
-        self.as_str().as_bytes() == other.as_str().as_bytes()
+        self.as_str() == other.as_str()
     }
 }
 

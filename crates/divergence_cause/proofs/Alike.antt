@@ -6,7 +6,7 @@ use Rattle.std.specs.declared.cmp.Ordering.{Ordering}
 use Rattle.std.specs.declared.cmp.Ordering.TheVariants.{Less}
 use Rattle.std.proofs.lemmas.Option.{same_Some}
 use Rattle.desk_schema.proofs.Members.{Contains-cases, Contains-here, Contains-none, Contains-there}
-use Rattle.machine_model.specs.Views.{AreOnce, Ascend}
+use Rattle.server_words.specs.Views.{AreOnce, Ascend}
 use Rattle.law_server.specs.Renaming.Twins.{AreSets}
 use Rattle.divergence_cause.proofs.Handed.{HaveSame}
 

@@ -8,11 +8,11 @@ use Rattle.std.proofs.lemmas.Bool.{cases_eq, cases_order}
 use Rattle.std.proofs.lemmas.Option.{same_Some, slice_get_read, slice_get_within}
 use Rattle.desk_values.specs.declared.call.Reply.{Reply}
 use Rattle.desk_values.specs.declared.capture.Captured.{Captured}
-use Rattle.machine_model.specs.Machine.{Running}
-use Rattle.machine_model.specs.State.{State, opening}
-use Rattle.machine_model.specs.Step.{Gives}
-use Rattle.machine_model.specs.Views.{IsViewOf}
-use Rattle.machine_model.specs.declared.viewing.View.{View}
+use Rattle.server_words.specs.Machine.{Running}
+use Rattle.server_words.specs.State.{State, opening}
+use Rattle.server_words.specs.Step.{Gives}
+use Rattle.server_words.specs.Views.{IsViewOf}
+use Rattle.server_words.specs.declared.views.View.{View}
 use Rattle.law_server.specs.Renaming.Laws.{view_before}
 use Rattle.replay_history.specs.Gap.{IsCallAt}
 use Rattle.replay_job.specs.Job.{IsReplayable, JobView}

@@ -3,7 +3,7 @@ use Rattle.std.proofs.Common.{◌≡◌, ℕ, List, [], ◌∷◌, map, refl, sy
 use Rattle.std.specs.List.{Contains}
 use Rattle.desk_schema.proofs.Members.{Contains-cases, Contains-here, Contains-none, Contains-there}
 use Rattle.desk_values.specs.declared.value.Image.{Image}
-use Rattle.machine_model.specs.Rows.{IsRising, row_numbers}
+use Rattle.server_words.specs.Rows.{IsRising, row_numbers}
 use Rattle.id_pairs.specs.Pairs.{IdPair}
 use Rattle.law_server.specs.Rows.Images.{IsRenamedImage}
 use Rattle.law_server.specs.Renaming.Twins.{AreSets, IsRenamedRow}

@@ -7,13 +7,13 @@ use Rattle.desk_schema.specs.Schema.{SchemaView}
 use Rattle.desk_values.specs.declared.value.Image.{Image}
 use Rattle.desk_values.specs.declared.call.Call.{Call}
 use Rattle.desk_values.specs.declared.capture.Captured.{Captured}
-use Rattle.machine_model.specs.Request.{request_of, table_in}
-use Rattle.machine_model.specs.Rows.{IsRising}
-use Rattle.machine_model.specs.State.{State, opening, session_at}
-use Rattle.machine_model.specs.View.{is_held, others, rows_seen, view_of}
-use Rattle.machine_model.specs.Views.{IsViewOf}
-use Rattle.machine_model.specs.declared.viewing.View.{View as Handed}
-use Rattle.machine_model.proofs.Members.{each_filtered}
+use Rattle.server_words.specs.Request.{request_of, table_in}
+use Rattle.server_words.specs.Rows.{IsRising}
+use Rattle.server_words.specs.State.{State, opening, session_at}
+use Rattle.server_words.specs.View.{is_held, others, rows_seen, view_of}
+use Rattle.server_words.specs.Views.{IsViewOf}
+use Rattle.server_words.specs.declared.views.View.{View as Handed}
+use Rattle.server_words.proofs.Members.{each_filtered}
 use Rattle.id_pairs.specs.declared.Id.TheVariants.{Row}
 use Rattle.id_pairs.specs.Pairs.{HasNoIdTwice, IdPair}
 use Rattle.law_ids.proofs.Replays.Starts.{each_contained, each_in}

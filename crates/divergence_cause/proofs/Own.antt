@@ -5,10 +5,10 @@ use Rattle.std.proofs.Math.Bool.{beq}
 use Rattle.desk_schema.proofs.Members.{Contains-here, Contains-none}
 use Rattle.desk_values.specs.declared.value.Image.{Image}
 use Rattle.desk_values.specs.declared.call.Call.{Call}
-use Rattle.machine_model.specs.Clean.{changes_nothing, is_clean}
-use Rattle.machine_model.specs.Request.{request_of, table_in}
-use Rattle.machine_model.specs.State.{State, session_at}
-use Rattle.machine_model.specs.View.{view_of}
+use Rattle.server_words.specs.Clean.{changes_nothing, is_clean}
+use Rattle.server_words.specs.Request.{request_of, table_in}
+use Rattle.server_words.specs.State.{State, session_at}
+use Rattle.server_words.specs.View.{view_of}
 use Rattle.id_pairs.specs.Pairs.{IdPair}
 use Rattle.law_server.specs.Renaming.Laws.{view_before}
 use Rattle.law_server.specs.Renaming.Twins.{AreSets, AreTwinViews}

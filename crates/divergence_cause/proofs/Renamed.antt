@@ -8,7 +8,7 @@ use Rattle.id_pairs.proofs.Carrying.Carrying.{then_some}
 use Rattle.desk_values.specs.declared.value.Value.{Value}
 use Rattle.desk_values.specs.declared.value.Value.TheVariants as value
 use Rattle.desk_values.specs.declared.value.Image.{Image}
-use Rattle.machine_model.specs.declared.viewing.KeyId.{KeyId}
+use Rattle.server_words.specs.declared.views.KeyId.{KeyId}
 use Rattle.id_pairs.specs.declared.Id.{Id}
 use Rattle.id_pairs.specs.declared.Id.TheVariants.{Row, Draw}
 use Rattle.id_pairs.specs.Pairs.{IdPair, IsIdMap, image_in}

@@ -6,16 +6,16 @@ use Rattle.std.specs.declared.cmp.Ordering.{Ordering}
 use Rattle.desk_values.specs.declared.value.Image.{Image}
 use Rattle.desk_values.specs.declared.call.Call.{Call}
 use Rattle.desk_values.specs.declared.call.Call.TheVariants.{Disconnect}
-use Rattle.machine_model.specs.declared.session.HeldKey.{HeldKey}
-use Rattle.machine_model.specs.declared.session.Savepoint.{Savepoint}
-use Rattle.machine_model.specs.declared.viewing.KeyId.{KeyId}
-use Rattle.machine_model.specs.declared.viewing.Point.{Point}
-use Rattle.machine_model.specs.declared.viewing.View.{View as Handed}
-use Rattle.machine_model.specs.Rows.{IsRising, row_numbers}
-use Rattle.machine_model.specs.Request.{request_of, table_in}
-use Rattle.machine_model.specs.State.{State}
-use Rattle.machine_model.specs.View.{View, view_of}
-use Rattle.machine_model.specs.Views.{AreOnce, IsPointOf, IsViewOf, key_id, key_order}
+use Rattle.server_words.specs.declared.session.HeldKey.{HeldKey}
+use Rattle.server_words.specs.declared.session.Savepoint.{Savepoint}
+use Rattle.server_words.specs.declared.views.KeyId.{KeyId}
+use Rattle.server_words.specs.declared.views.Point.{Point}
+use Rattle.server_words.specs.declared.views.View.{View as Handed}
+use Rattle.server_words.specs.Rows.{IsRising, row_numbers}
+use Rattle.server_words.specs.Request.{request_of, table_in}
+use Rattle.server_words.specs.State.{State}
+use Rattle.server_words.specs.View.{View, view_of}
+use Rattle.server_words.specs.Views.{AreOnce, IsPointOf, IsViewOf, key_id, key_order}
 use Rattle.id_pairs.specs.Pairs.{IdPair}
 use Rattle.id_pairs.specs.Renaming.{IsRenamed}
 use Rattle.law_server.specs.Rows.Images.{IsRenamedImage}

@@ -2,10 +2,10 @@
 use Rattle.std.specs.Prelude.{◌≡◌, ◌↔◌, ℕ, List}
 use Rattle.desk_values.specs.declared.call.Call.{Call}
 use Rattle.desk_values.specs.declared.capture.Event.{Event}
-use Rattle.machine_model.specs.Sound.{IsSoundState}
-use Rattle.machine_model.specs.State.{State}
-use Rattle.machine_model.specs.Views.{IsViewOf}
-use Rattle.machine_model.specs.declared.viewing.View.{View as Handed}
+use Rattle.server_words.specs.Sound.{IsSoundState}
+use Rattle.server_words.specs.State.{State}
+use Rattle.server_words.specs.Views.{IsViewOf}
+use Rattle.server_words.specs.declared.views.View.{View as Handed}
 use Rattle.id_pairs.specs.Pairs.{IdPair, IsIdMap}
 use Rattle.law_server.specs.Renaming.Laws.{view_before}
 use Rattle.law_server.specs.Renaming.Twins.{AreTwinViews}

@@ -1,9 +1,9 @@
 -- When two views are one but for ids. It is said of the views as they are handed out, whatever stands in their lists.
 use Rattle.std.specs.Prelude.{◌≡◌, List}
 use Rattle.std.specs.List.{AllZip}
-use Rattle.machine_model.specs.declared.viewing.KeyId.{KeyId}
-use Rattle.machine_model.specs.declared.viewing.Point.{Point}
-use Rattle.machine_model.specs.declared.viewing.View.{View}
+use Rattle.server_words.specs.declared.views.KeyId.{KeyId}
+use Rattle.server_words.specs.declared.views.Point.{Point}
+use Rattle.server_words.specs.declared.views.View.{View}
 use Rattle.id_pairs.specs.Pairs.{IdPair}
 use Rattle.id_pairs.specs.Renaming.{IsRenamed}
 use Rattle.law_server.specs.Rows.Images.{IsRenamedImage}

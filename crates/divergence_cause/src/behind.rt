@@ -5,9 +5,9 @@ ghost use Rattle.std.specs.Prelude.{◌≡◌, ◌≢◌, ◌+◌, ◌<◌, ◌�
 ghost use Rattle.std.specs.BTreeMap.{get};
 ghost use Rattle.std.specs.Ordering.{nat_cmp};
 ghost use Rattle.desk_values.specs.declared.call.Reply.{Reply as GivenReply};
-ghost use Rattle.machine_model.specs.Step.{Gives};
-ghost use Rattle.machine_model.specs.Views.{IsViewOf};
-ghost use Rattle.machine_model.specs.declared.viewing.View.{View as Handed};
+ghost use Rattle.server_words.specs.Step.{Gives};
+ghost use Rattle.server_words.specs.Views.{IsViewOf};
+ghost use Rattle.server_words.specs.declared.views.View.{View as Handed};
 ghost use Rattle.law_server.specs.Renaming.Laws.{view_before};
 ghost use Rattle.replay_job.specs.Job.{IsReplayable, seen};
 ghost use Rattle.divergence_cause.specs.Inside.Meeting.{HadOtherOwn, HasMet, HaveOtherOwn, IsOtherOwn};

@@ -5,13 +5,13 @@ ghost use Rattle.std.specs.Ordering.{nat_cmp};
 ghost use Rattle.id_pairs.specs.Pairs.{IdPair};
 ghost use Rattle.id_pairs.specs.Carrying.Carried.{carried_image, carried_number, carried_value, each_some};
 ghost use Rattle.desk_values.specs.Sorting.{kind_then_value};
-ghost use Rattle.machine_model.specs.Views.{AreOnce, key_order};
+ghost use Rattle.server_words.specs.Views.{AreOnce, key_order};
 ghost use Rattle.law_server.specs.Renaming.Twins.{AreSets};
 ghost use Rattle.divergence_cause.specs.Inside.Passing.{carried_key, image_order, order_of_left};
 ghost use Rattle.std.proofs.lemmas.Cmp.{nat_cmp_total};
 ghost use Rattle.std.proofs.lemmas.Map.Lookups.{exact_unsigned};
 ghost use Rattle.desk_values.proofs.ValueOrder.{value_total};
-ghost use Rattle.machine_model.proofs.Once.{key_exact, key_total, value_exact};
+ghost use Rattle.server_words.proofs.Once.{key_exact, key_total, value_exact};
 ghost use Rattle.divergence_cause.specs.Inside.Orders.{image_exact, image_total};
 
 use desk_values::{

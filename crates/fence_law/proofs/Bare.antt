@@ -11,11 +11,11 @@ use Rattle.desk_values.specs.declared.capture.Captured.{Captured}
 use Rattle.desk_schema.specs.Schema.{SchemaView}
 use Rattle.desk_schema.specs.declared.schema.Rights.{Rights}
 use Rattle.sql_tree.specs.Plain.{Plan, select}
-use Rattle.machine_model.specs.Rows.{IsRising, lay, lay_all, of_table}
-use Rattle.machine_model.specs.View.{View, view_of}
-use Rattle.machine_model.specs.Request.{Request, request_of, statement, table_in, unsound}
-use Rattle.machine_model.specs.Answer.{answer}
-use Rattle.machine_model.proofs.Looks.{rising_of_table}
+use Rattle.server_words.specs.Rows.{IsRising, lay, lay_all, of_table}
+use Rattle.server_words.specs.View.{View, view_of}
+use Rattle.server_words.specs.Request.{Request, request_of, statement, table_in, unsound}
+use Rattle.server_words.specs.Answer.{answer}
+use Rattle.server_words.proofs.Looks.{rising_of_table}
 use Rattle.id_pairs.specs.Pairs.{HasNoIdTwice, IdPair, IsIdMap}
 use Rattle.law_server.specs.Rows.Images.{IsRenamedImage}
 use Rattle.law_server.specs.Renaming.Twins.{AreSets, AreTwinViews}

@@ -9,13 +9,13 @@ use Rattle.desk_values.specs.declared.capture.Captured.{Captured}
 use Rattle.desk_values.specs.declared.capture.Event.{Event}
 use Rattle.desk_schema.specs.Schema.{SchemaView}
 use Rattle.desk_schema.specs.Start.{StartView}
-use Rattle.machine_model.specs.Rows.{IsRising, lay_all, of_table}
-use Rattle.machine_model.specs.Sound.{IsSoundState}
-use Rattle.machine_model.specs.State.{State, opening, session_at}
-use Rattle.machine_model.specs.Step.{reply_in}
-use Rattle.machine_model.specs.View.{View, view_of}
-use Rattle.machine_model.specs.Request.{request_of, table_in}
-use Rattle.machine_model.proofs.SoundSteps.{tables_stand}
+use Rattle.server_words.specs.Rows.{IsRising, lay_all, of_table}
+use Rattle.server_words.specs.Sound.{IsSoundState}
+use Rattle.server_words.specs.State.{State, opening, session_at}
+use Rattle.server_words.specs.Step.{reply_in}
+use Rattle.server_words.specs.View.{View, view_of}
+use Rattle.server_words.specs.Request.{request_of, table_in}
+use Rattle.server_words.proofs.SoundSteps.{tables_stand}
 use Rattle.replay_history.specs.declared.report.Class.TheVariants.{Same}
 use Rattle.id_pairs.specs.Pairs.{HasNoIdTwice, IdPair, IsIdMap, learnt}
 use Rattle.remap_ids.specs.Sent.{sent}

@@ -8,12 +8,12 @@ use Rattle.desk_schema.specs.declared.schema.Rights.TheVariants.{ReadOnly}
 use Rattle.desk_schema.specs.Schema.{SchemaView}
 use Rattle.sql_tree.specs.declared.tree.Key.{Key}
 use Rattle.sql_tree.specs.Plain.{Asked, Term, select}
-use Rattle.machine_model.specs.State.{nothing}
-use Rattle.machine_model.specs.View.{View}
-use Rattle.machine_model.specs.Causes.{ranked, statement_fault}
-use Rattle.machine_model.specs.Request.{Request, statement, unsound}
-use Rattle.machine_model.specs.Answer.{Answer, answer, done, ruled, select_causes, select_effect, unless}
-use Rattle.machine_model.specs.Found.{Environment}
+use Rattle.server_words.specs.State.{nothing}
+use Rattle.server_words.specs.View.{View}
+use Rattle.server_words.specs.Causes.{ranked, statement_fault}
+use Rattle.server_words.specs.Request.{Request, statement, unsound}
+use Rattle.server_words.specs.Answer.{Answer, answer, done, ruled, select_causes, select_effect, unless}
+use Rattle.server_words.specs.Found.{Environment}
 
 -- the view of a session that only reads, with nothing of its own and nothing held by others
 abbrev pub bare : List Image → View

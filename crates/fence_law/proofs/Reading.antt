@@ -12,8 +12,8 @@ use Rattle.desk_values.specs.declared.value.Image.{Image}
 use Rattle.desk_values.specs.declared.call.Call.{Call}
 use Rattle.desk_values.specs.declared.call.Call.TheVariants.{Connect, Sql, Disconnect}
 use Rattle.desk_schema.specs.declared.schema.Rights.{Rights}
-use Rattle.machine_model.specs.Clean.{changes_nothing, is_clean}
-use Rattle.machine_model.specs.State.{State, session_at}
+use Rattle.server_words.specs.Clean.{changes_nothing, is_clean}
+use Rattle.server_words.specs.State.{State, session_at}
 use Rattle.replay_history.specs.declared.report.Class.{Class}
 use Rattle.replay_history.specs.declared.report.Class.TheVariants.{Same}
 use Rattle.replay_history.specs.Capture.{binds_of}
@@ -25,7 +25,7 @@ use Rattle.sql_reader.specs.Reading.{statement_of}
 use Rattle.sql_eval.specs.Check.{first_fault}
 use Rattle.sql_eval.specs.Faults.{unless_told}
 use Rattle.sql_eval.specs.SchemaNames.{numbered}
-use Rattle.machine_model.specs.Request.{checked, known_in, read, request_of, table_named}
+use Rattle.server_words.specs.Request.{checked, known_in, read, request_of, table_named}
 use Rattle.id_pairs.specs.declared.Id.TheVariants as id
 use Rattle.id_pairs.specs.Ids.{id_value}
 use Rattle.id_pairs.specs.Pairs.{IdPair, IsIdMap, image_in}

@@ -8,8 +8,8 @@ use Rattle.desk_values.specs.declared.call.Reply.{Reply}
 use Rattle.desk_values.specs.declared.capture.Captured.{Captured}
 use Rattle.desk_values.specs.declared.capture.Event.{Event}
 use Rattle.desk_values.specs.declared.capture.Event.TheVariants.{Start, Answer}
-use Rattle.machine_model.specs.Clean.{is_clean}
-use Rattle.machine_model.specs.State.{State, opening}
+use Rattle.server_words.specs.Clean.{is_clean}
+use Rattle.server_words.specs.State.{State, opening}
 use Rattle.replay_history.specs.Gap.{IsCallAt}
 use Rattle.replay_history.specs.History.{AnswersAt, IsAnsweredBefore}
 use Rattle.divergence.specs.Class.{is_write_divergence}

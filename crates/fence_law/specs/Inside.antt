@@ -5,9 +5,9 @@ use Rattle.desk_values.specs.declared.call.Reply.{Reply}
 use Rattle.desk_values.specs.declared.capture.Captured.{Captured}
 use Rattle.desk_values.specs.declared.capture.Event.{Event}
 use Rattle.desk_values.specs.declared.capture.Event.TheVariants.{Start, Answer}
-use Rattle.machine_model.specs.Clean.{is_clean}
-use Rattle.machine_model.specs.State.{State}
-use Rattle.machine_model.specs.Step.{Gives}
+use Rattle.server_words.specs.Clean.{is_clean}
+use Rattle.server_words.specs.State.{State}
+use Rattle.server_words.specs.Step.{Gives}
 use Rattle.replay_history.specs.Capture.{binds_of}
 use Rattle.replay_history.specs.Gap.{IsCallAt}
 use Rattle.id_pairs.specs.Carrying.Carried.{carried_row}

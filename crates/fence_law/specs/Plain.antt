@@ -9,8 +9,8 @@ use Rattle.desk_values.specs.declared.capture.Captured.{Captured}
 use Rattle.desk_values.specs.declared.capture.Event.{Event}
 use Rattle.sql_tree.specs.Plain.{Name, Plan, select}
 use Rattle.sql_reader.specs.Reading.{statement_of}
-use Rattle.machine_model.specs.Clean.{is_clean}
-use Rattle.machine_model.specs.State.{State}
+use Rattle.server_words.specs.Clean.{is_clean}
+use Rattle.server_words.specs.State.{State}
 use Rattle.replay_history.specs.Capture.{binds_of}
 use Rattle.id_pairs.specs.Carrying.Carried.{carried_row}
 use Rattle.replay_job.specs.Job.{JobView}

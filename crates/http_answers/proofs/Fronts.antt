@@ -5,18 +5,19 @@ use Rattle.std.specs.Option.{option_and_then}
 use Rattle.std.proofs.Math.Seq.{take-add}
 use Rattle.std.proofs.lemmas.Bool.Decides.{nat_tests}
 use Rattle.std.proofs.lemmas.Option.{same_Some}
-use Rattle.std.proofs.lemmas.List.{length-append, length-drop, length-map, length-take, length-take-le, take_at, take-append-drop, take-append-le, take-take}
+use Rattle.std.proofs.lemmas.List.{length-append, length-drop, length-map, length-take, length-take-le, take_all, take_at, take-append-drop, take-append-le, take-take}
 use Rattle.httparse.specs.declared.spans.HeaderSpan.{HeaderSpan}
 use Rattle.httparse.specs.declared.spans.ResponseSpans.{ResponseSpans}
-use Rattle.httparse.specs.Grammar.{HasNoResponse, ReadsResponse, ResponseHead, print_response}
+use Rattle.httparse.specs.Grammar.{HasNoResponse, MayBecomeResponse, ReadsResponse, ResponseHead, print_response}
 use Rattle.httparse.specs.Spans.{IsResponseAt, IsResponseOf, ResponseOverflows, header_bytes, name_and_value}
 use Rattle.httparse.proofs.GrammarLemmas.{ReadsResponse-append, response_unique}
 use Rattle.http_requests.specs.Decisions.{values_of}
 use Rattle.http_requests.specs.Fields.{length_in}
 use Rattle.http_answers.specs.declared.answer.Answer.{Answer}
+use Rattle.http_answers.specs.declared.answer.Front.TheVariants.{Short}
 use Rattle.http_answers.specs.Answers.{Begins, IsAnswer, IsBodyShort, IsUnfinished, IsWholeAt, NeverAnswers, Shows, body_length, content_length, length_by, within}
 use Rattle.http_answers.specs.Inside.{body_by}
-use Rattle.http_answers.proofs.Answering.{parted, reads_on}
+use Rattle.http_answers.proofs.Answering.{headless, parted, reads_on}
 
 -- ---- all of an answer, or less
 
@@ -81,6 +82,12 @@ endless bytes many none more own rest status body a same =
     let left = drop (length a.text) (take 8192 bytes) in
     let parts : take 8192 bytes ≡ a.text ++ left = sym (take-append-drop (length a.text) (take 8192 bytes)) ∙ ap (λ (l : List ℕ). l ++ left) front in
     none a.head left (subst (λ (l : List ℕ). ReadsResponse l a.head left) (sym parts) (reads_on a.text left a.head a.is_head))
+
+-- bytes that were read whole and are no head yet
+pub shows_short : (n : ℕ) (bytes : List ℕ) → n ≡ length bytes → length bytes < 8192 → HasNoResponse (take n bytes) → MayBecomeResponse (take n bytes) → Shows bytes Short
+shows_short n bytes all few none may =
+    let whole : take n bytes ≡ bytes = take_all n bytes (omega (arith, all)) in
+    (headless bytes (subst HasNoResponse whole none), few, subst MayBecomeResponse whole may)
 
 -- ---- a head
 

@@ -1,7 +1,7 @@
 -- Which bytes are an answer, and what bytes begin with.
 use Rattle.std.specs.Prelude.{◌≡◌, ℕ, ◌+◌, ◌<◌, ◌≤◌, nat_le, if◌then◌else◌, List, [], ◌∷◌, ◌++◌, length, take, map, slice_range, codes, Option, None, Some}
 use Rattle.std.specs.Option.{option_and_then}
-use Rattle.httparse.specs.Grammar.{ReadsResponse, ResponseHead, status_code}
+use Rattle.httparse.specs.Grammar.{MayBecomeResponse, ReadsResponse, ResponseHead, status_code}
 use Rattle.httparse.specs.Spans.{name_and_value}
 use Rattle.http_requests.specs.Decisions.{values_of}
 use Rattle.http_requests.specs.Fields.{length_in}
@@ -73,8 +73,8 @@ pub record IsBodyShort (bytes : List ℕ) (answer : Answer) : Type 0 where
   pub begins : Begins bytes answer
   pub short : length bytes < answer.head + answer.body
 
--- what the bytes begin with
+-- what the bytes begin with; of those that are no head yet, some bytes that may follow make one
 abbrev pub Shows : List ℕ → Front → Type 0
-Shows bytes Short = IsUnfinished bytes × (length bytes < head_limit)
+Shows bytes Short = IsUnfinished bytes × (length bytes < head_limit) × MayBecomeResponse bytes
 Shows bytes (Begun answer) = Begins bytes answer
 Shows bytes Other = NeverAnswers bytes

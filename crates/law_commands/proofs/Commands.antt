@@ -3,8 +3,10 @@ pub mod Behind
 pub mod Complete
 pub mod Ends
 pub mod Good
+pub mod Headline
 pub mod Sent
 pub mod Served
 pub mod Sizes
 pub mod Small
+pub mod Statuses
 pub mod Whole

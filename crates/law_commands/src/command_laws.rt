@@ -1,12 +1,20 @@
 //! Laws of what the words and the files come to.
 
 ghost use Rattle.law_commands.specs.Commands.Complete.{CapturesAreMade, CapturesArePrepared, CapturesAreReplayed, CapturesAreTried, DivergencesAreAccepted, ErrandsEndSo, LegalCapturesArePrepared, LegalCapturesAreReplayed, RegistersStayGood, ReportsAreRegistered, RunsAreCompared, RunsAreListed, SentRunsEndSo, StartsAreServed};
-ghost use Rattle.law_commands.specs.Commands.Ends.{JournalsTellTheirHistory, OneIsTold, PlansTellTheirHistory, QuietRunsCarryTables, ReadsMeetTheirCommits, RunsAgainAreQuiet, SentJournalsTellTheirHistory, SentPlansTellTheirHistory, TablesAreCarried, ToldIsQuiet};
+ghost use Rattle.law_commands.specs.Commands.Ends.{JournalsTellTheirHistory, OneIsTold, PlansTellTheirHistory, QuietRunsCarryTables, ReadsMeetTheirCommits, RunsAgainAreQuiet, SentJournalsTellTheirHistory, SentPlansTellTheirHistory, SentReadsMeetTheirCommits, TablesAreCarried, ToldIsQuiet, TwinsAreQuiet};
+ghost use Rattle.law_commands.specs.Commands.Headline.{RunsKeepThePromise};
 ghost use Rattle.law_commands.specs.Commands.Reports.{ReportsAreSmall, ReportsAreWhole, RunsAreRegistered, SentReportsAreRegistered, WrittenReportsAreRegistered};
 ghost use Rattle.law_commands.specs.Commands.Served.{ServedCapturesAreLegal, ServedCapturesAreNotBad, ServedCapturesAreNotBadToPrepare, ServedCapturesArePrepared, ServedCapturesAreReplayed};
+ghost use Rattle.law_commands.specs.Commands.Statuses.{FailuresEndSo, TasksEndSo};
 
 use divergence_cause::laws::{one_list_of_causes, unchanged_servers_upgrade_nothing};
 use fence_law::laws::{one_list_of_plain_reads, plain_reads_are_same};
+
+/// The headline, from its beginning to its end, of files that are told: where `run` without a target ends with 0 or 1, as the clause `ends` of
+/// `replay_main` says, the files are a legal capture, and what was written is the one replay of it.
+pub fn headline()
+    ensures { RunsKeepThePromise }
+{}
 
 /// Completeness of `run`: where the words are its command, the files of the capture are there, each within the limit of one file
 /// and all within that of a capture, the remap file says services and the change file makes a target, each where one is named, and
@@ -66,6 +74,15 @@ pub fn registers_stay_good()
     ensures { RegistersStayGood }
 {}
 
+/// With which statuses each command may end, where the files are told and no device failed, so that by the clause `causes` of `replay_main` the
+/// status is not 5: `run` with 0, 1 or 6, and against another server where no line fails with 9 too; `serve` with 0, 6 or 9; `prepare`,
+/// `generate` and `trial` with 0 or 6; and the commands of the register as `runs_are_asked_for` says, `register` whatever the keeper tells. What is
+/// refused ends with its own status, or with 6.
+pub fn may_end()
+    ensures done { TasksEndSo }
+    ensures refused { FailuresEndSo }
+{}
+
 /// What `run` writes as its report is the text of a report, with its counts those of its lines, within the limit of a file: so
 /// `register` takes it, behind the run and wherever it is put, and never tells it as a bad report or as too long. Behind a run with a
 /// target it takes it too.
@@ -107,6 +124,17 @@ pub fn tables_are_carried()
 /// those are answered that it saw when it was captured.
 pub fn reads_meet_their_commits()
     ensures { ReadsMeetTheirCommits }
+{}
+
+/// And so against another server, whatever it answers.
+pub fn sent_reads_meet_their_commits()
+    ensures { SentReadsMeetTheirCommits }
+{}
+
+/// A call whose session sees in a run what it saw in the capture, but for ids, is named by no line of the report, where both servers have one
+/// schema.
+pub fn twins_are_quiet()
+    ensures { TwinsAreQuiet }
 {}
 
 /// The calls that `fence.txt` names are the same, and `causes.csv` names no upgrade where the replay has the captured schema.

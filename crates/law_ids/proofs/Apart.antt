@@ -11,10 +11,10 @@ use Rattle.desk_values.specs.declared.call.Reply.{Reply}
 use Rattle.desk_values.specs.declared.capture.Captured.{Captured}
 use Rattle.desk_schema.specs.Sound.{IsSoundStart}
 use Rattle.desk_schema.specs.Start.{StartView}
-use Rattle.machine_model.specs.Draws.{drawn_from}
-use Rattle.machine_model.specs.State.{State, opening}
-use Rattle.machine_model.specs.Step.{Gives}
-use Rattle.machine_model.proofs.Members.{each_joined, each_mapped, each_weaker}
+use Rattle.server_words.specs.Draws.{drawn_from}
+use Rattle.server_words.specs.State.{State, opening}
+use Rattle.server_words.specs.Step.{Gives}
+use Rattle.server_words.proofs.Members.{each_joined, each_mapped, each_weaker}
 use Rattle.replay_history.specs.Capture.{IsGivenBy, IsRun}
 use Rattle.replay_history.specs.Gap.{IsCallAt}
 use Rattle.id_pairs.specs.declared.Id.{Id}

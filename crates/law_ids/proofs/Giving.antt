@@ -6,15 +6,15 @@ use Rattle.desk_values.specs.declared.call.Call.{Call}
 use Rattle.desk_values.specs.declared.call.Outcome.TheVariants.{Connected, Disconnected}
 use Rattle.desk_schema.specs.Schema.{SchemaView, columns_of}
 use Rattle.sql_tree.specs.Plain.{Plan, select, next, insert, update, delete, commit, rollback, set_read_only, savepoint, rollback_to}
-use Rattle.machine_model.specs.State.{State}
-use Rattle.machine_model.specs.View.{View}
-use Rattle.machine_model.specs.Request.{Request, connect, disconnect, unreadable, unsound, statement, request_of}
-use Rattle.machine_model.specs.Draws.{draws_from, draws_of, drawn_from}
-use Rattle.machine_model.specs.Found.{Environment}
-use Rattle.machine_model.specs.declared.effect.Effect.{Effect}
-use Rattle.machine_model.specs.Causes.{connect_fault, disconnect_fault, statement_fault}
-use Rattle.machine_model.specs.Answer.{Answer, answer, delete_effect, done, ended, executed, insert_effect, new_row, reply_of, select_effect, unchanged, unless, update_effect}
-use Rattle.machine_model.specs.Step.{reply_in, view_for}
+use Rattle.server_words.specs.State.{State}
+use Rattle.server_words.specs.View.{View}
+use Rattle.server_words.specs.Request.{Request, connect, disconnect, unreadable, unsound, statement, request_of}
+use Rattle.server_words.specs.Draws.{draws_from, draws_of, drawn_from}
+use Rattle.server_words.specs.Found.{Environment}
+use Rattle.server_words.specs.declared.effect.Effect.{Effect}
+use Rattle.server_words.specs.Causes.{connect_fault, disconnect_fault, statement_fault}
+use Rattle.server_words.specs.Answer.{Answer, answer, delete_effect, done, ended, executed, insert_effect, new_row, reply_of, select_effect, unchanged, unless, update_effect}
+use Rattle.server_words.specs.Step.{reply_in, view_for}
 use Rattle.law_ids.specs.Given.{GivesNext}
 
 no_draws : (from : ℕ) (ns : List ℕ) → [] ≡ drawn_from (λ n. false) from ns

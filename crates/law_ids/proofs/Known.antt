@@ -12,10 +12,10 @@ use Rattle.desk_values.specs.declared.capture.Captured.{Captured}
 use Rattle.desk_values.specs.Ids.{ids_of_image, is_id}
 use Rattle.desk_values.specs.Comparison.{same_key}
 use Rattle.desk_schema.specs.Start.{StartView}
-use Rattle.machine_model.proofs.Exact.{is_same, same_is}
+use Rattle.server_words.proofs.Exact.{is_same, same_is}
 use Rattle.replay_history.specs.Capture.{IsKnown, IsRun, StandsIn}
-use Rattle.machine_model.specs.State.{State, is_between, is_given, opening, stands_in}
-use Rattle.machine_model.specs.Step.{Gives}
+use Rattle.server_words.specs.State.{State, is_between, is_given, opening, stands_in}
+use Rattle.server_words.specs.Step.{Gives}
 use Rattle.law_ids.specs.Counters.{IsPassed}
 use Rattle.law_ids.proofs.Members.{any_weaker}
 use Rattle.law_ids.proofs.Runs.{run_count, run_fresh, run_gave, run_passed, run_start}

@@ -4,8 +4,8 @@ use Rattle.desk_values.specs.declared.value.Value.{Value}
 use Rattle.desk_values.specs.declared.capture.Captured.{Captured}
 use Rattle.replay_history.specs.Capture.{IsGivenBy, IsRun}
 use Rattle.replay_history.specs.Gap.{IsCallAt}
-use Rattle.machine_model.specs.State.{State}
-use Rattle.machine_model.specs.Step.{Gives}
+use Rattle.server_words.specs.State.{State}
+use Rattle.server_words.specs.Step.{Gives}
 use Rattle.law_ids.specs.Counters.{AreAtMost, IsPassed}
 use Rattle.law_ids.proofs.Steps.{step_bound, step_count, step_fresh, step_gave, step_kept, step_passed, step_start}
 

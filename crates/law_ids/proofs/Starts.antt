@@ -14,9 +14,9 @@ use Rattle.desk_schema.specs.Rules.{AreBelow, IsAllowed, IsOfKind}
 use Rattle.desk_schema.specs.Schema.{columns_of}
 use Rattle.desk_schema.specs.Sound.{IsSoundRow, IsSoundStart}
 use Rattle.desk_schema.specs.Start.{StartView}
-use Rattle.machine_model.specs.State.{State, opening}
-use Rattle.machine_model.specs.Step.{Gives}
-use Rattle.machine_model.proofs.Members.{each_weaker}
+use Rattle.server_words.specs.State.{State, opening}
+use Rattle.server_words.specs.Step.{Gives}
+use Rattle.server_words.proofs.Members.{each_weaker}
 use Rattle.replay_history.specs.Capture.{IsKnown, IsRun, StandsIn}
 use Rattle.law_ids.specs.Counters.{AreAtMost, IsBelow, IsPassed}
 use Rattle.law_ids.proofs.Members.{any_also}

@@ -10,10 +10,10 @@ use Rattle.desk_values.specs.declared.value.Value.TheVariants.{Null, Int, Text, 
 use Rattle.desk_values.specs.declared.call.Call.{Call}
 use Rattle.desk_values.specs.declared.call.Reply.{Reply}
 use Rattle.replay_history.specs.Capture.{IsGivenBy}
-use Rattle.machine_model.specs.State.{State}
-use Rattle.machine_model.specs.Draws.{drawn_from, is_draw_of, moved}
-use Rattle.machine_model.specs.Step.{Gives, after_made, reply_in, step}
-use Rattle.machine_model.proofs.SoundSteps.{length_moved}
+use Rattle.server_words.specs.State.{State}
+use Rattle.server_words.specs.Draws.{drawn_from, is_draw_of, moved}
+use Rattle.server_words.specs.Step.{Gives, after_made, reply_in, step}
+use Rattle.server_words.proofs.SoundSteps.{length_moved}
 use Rattle.law_ids.specs.Counters.{AreAtMost, IsPassed}
 use Rattle.law_ids.specs.Given.{GivesNext}
 use Rattle.law_ids.proofs.Giving.{reply_given}

@@ -3,7 +3,7 @@ use Rattle.std.specs.Prelude.{ℕ, ◌<◌, ◌≤◌, slice_index}
 use Rattle.std.specs.List.{AllByRecursion}
 use Rattle.desk_values.specs.declared.value.Value.{Value}
 use Rattle.desk_values.specs.declared.value.Value.TheVariants.{Row, Draw}
-use Rattle.machine_model.specs.State.{State}
+use Rattle.server_words.specs.State.{State}
 
 -- the id is below the one of its kind that the state gives out next: the state gives it out no more
 abbrev pub IsPassed : State → Value → Type 0

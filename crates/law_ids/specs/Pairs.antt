@@ -5,7 +5,7 @@ use Rattle.desk_values.specs.declared.value.Value.{Value}
 use Rattle.desk_values.specs.declared.value.Image.{Image}
 use Rattle.desk_values.specs.declared.call.Reply.{Reply}
 use Rattle.desk_values.specs.declared.capture.Captured.{Captured}
-use Rattle.machine_model.specs.State.{State}
+use Rattle.server_words.specs.State.{State}
 use Rattle.replay_history.specs.Capture.{IsGivenBy, StandsIn}
 use Rattle.replay_history.specs.Gap.{IsCallAt}
 use Rattle.id_pairs.specs.Ids.{id_value}

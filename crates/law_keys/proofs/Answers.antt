@@ -13,20 +13,20 @@ use Rattle.desk_schema.specs.Schema.{columns_of}
 use Rattle.sql_tree.specs.declared.tree.Key.{Key}
 use Rattle.sql_tree.specs.Plain.{Term, Asked, Entry, Change, Plan, select, next, insert, update, delete, commit, rollback, set_read_only, savepoint, rollback_to}
 use Rattle.sql_eval.specs.SchemaNames.{table_of}
-use Rattle.machine_model.specs.declared.causes.Causes.{Causes}
-use Rattle.machine_model.specs.declared.effect.Effect.{Effect}
-use Rattle.machine_model.specs.Answer.{Answer, answer, delete_causes, delete_effect, done, executed, gone_back, insert_causes, insert_effect, marked, meets_lock, new_row, ended, refused, reply_of, ruled, select_causes, select_effect, unchanged, unless, update_causes, update_effect}
-use Rattle.machine_model.specs.Causes.{connect_fault, disconnect_fault, is_empty, is_read_only, is_under_way, needs_write_access, ranked, sets_read_only, statement_fault}
-use Rattle.machine_model.specs.Draws.{draws_of}
-use Rattle.machine_model.specs.Found.{Environment, matches, matching}
-use Rattle.machine_model.specs.Request.{Request, connect, disconnect, unreadable, unsound, statement, request_of, table_in}
-use Rattle.machine_model.specs.Rows.{lay, lay_all, row_numbers}
-use Rattle.machine_model.specs.declared.session.Savepoint.{Savepoint}
-use Rattle.machine_model.specs.declared.session.Transaction.{Transaction}
-use Rattle.machine_model.proofs.Marks.{each_up_to, each_with, own_at_one}
-use Rattle.machine_model.specs.State.{State, nothing, session_at}
-use Rattle.machine_model.specs.Step.{after, step}
-use Rattle.machine_model.specs.View.{View, view_of}
+use Rattle.server_words.specs.declared.causes.Causes.{Causes}
+use Rattle.server_words.specs.declared.effect.Effect.{Effect}
+use Rattle.server_words.specs.Answer.{Answer, answer, delete_causes, delete_effect, done, executed, gone_back, insert_causes, insert_effect, marked, meets_lock, new_row, ended, refused, reply_of, ruled, select_causes, select_effect, unchanged, unless, update_causes, update_effect}
+use Rattle.server_words.specs.Causes.{connect_fault, disconnect_fault, is_empty, is_read_only, is_under_way, needs_write_access, ranked, sets_read_only, statement_fault}
+use Rattle.server_words.specs.Draws.{draws_of}
+use Rattle.server_words.specs.Found.{Environment, matches, matching}
+use Rattle.server_words.specs.Request.{Request, connect, disconnect, unreadable, unsound, statement, request_of, table_in}
+use Rattle.server_words.specs.Rows.{lay, lay_all, row_numbers}
+use Rattle.server_words.specs.declared.session.Savepoint.{Savepoint}
+use Rattle.server_words.specs.declared.session.Transaction.{Transaction}
+use Rattle.server_words.proofs.Marks.{each_up_to, each_with, own_at_one}
+use Rattle.server_words.specs.State.{State, nothing, session_at}
+use Rattle.server_words.specs.Step.{after, step}
+use Rattle.server_words.specs.View.{View, view_of}
 use Rattle.law_keys.proofs.Members.{In, in_filtered, none_in}
 use Rattle.law_keys.proofs.Writing.{Sees, deletes, holds_rows, inserts}
 use Rattle.law_keys.proofs.Updating.{updates}

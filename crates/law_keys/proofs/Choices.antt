@@ -2,14 +2,14 @@
 use Rattle.std.proofs.Common.{◌≡◌, ◌⊎◌, ℕ, true, false, List, [], ◌∷◌, ◌++◌, refl, sym, ap, subst, inl, inr}
 use Rattle.std.specs.Prelude.{if◌then◌else◌}
 use Rattle.std.specs.List.{AllByRecursion}
-use Rattle.machine_model.specs.declared.session.HeldKey.{HeldKey}
-use Rattle.machine_model.specs.declared.session.Savepoint.{Savepoint}
-use Rattle.machine_model.specs.declared.session.Session.{Session}
-use Rattle.machine_model.specs.declared.session.Transaction.{Transaction}
-use Rattle.machine_model.specs.Savepoints.{is_named, own_at, up_to, with_savepoint, without}
-use Rattle.machine_model.specs.State.{State, nothing, session_at}
-use Rattle.machine_model.proofs.Marks.{each_up_to, each_without, own_at_one}
-use Rattle.machine_model.proofs.Members.{each_joined}
+use Rattle.server_words.specs.declared.session.HeldKey.{HeldKey}
+use Rattle.server_words.specs.declared.session.Savepoint.{Savepoint}
+use Rattle.server_words.specs.declared.session.Session.{Session}
+use Rattle.server_words.specs.declared.session.Transaction.{Transaction}
+use Rattle.server_words.specs.Savepoints.{is_named, own_at, up_to, with_savepoint, without}
+use Rattle.server_words.specs.State.{State, nothing, session_at}
+use Rattle.server_words.proofs.Marks.{each_up_to, each_without, own_at_one}
+use Rattle.server_words.proofs.Members.{each_joined}
 use Rattle.law_keys.proofs.Members.{In, in_joined}
 
 abbrev pub MayHave : Session → Transaction → Type 0

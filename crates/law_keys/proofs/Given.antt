@@ -10,9 +10,9 @@ use Rattle.desk_values.specs.declared.value.Value.TheVariants.{Null, Int, Text, 
 use Rattle.desk_values.specs.declared.value.Image.{Image}
 use Rattle.desk_values.specs.Comparison.{same_key}
 use Rattle.desk_schema.specs.Rules.{key_of, key_in as key_of_row}
-use Rattle.machine_model.specs.Rows.{is_there, lay_all, row_key}
-use Rattle.machine_model.specs.State.{State, session_at, tables}
-use Rattle.machine_model.proofs.Ordering.{column_total}
+use Rattle.server_words.specs.Rows.{is_there, lay_all, row_key}
+use Rattle.server_words.specs.State.{State, session_at, tables}
+use Rattle.server_words.proofs.Ordering.{column_total}
 use Rattle.law_steps.specs.Held.{HoldsKey, IsKey}
 use Rattle.law_keys.specs.Keys.{HasCommitted, HasNonNullKey, IsItWithKey, KeysAreThere}
 use Rattle.law_keys.proofs.Members.{In, each_in, in_each, place_of}

@@ -5,9 +5,9 @@ use Rattle.std.specs.List.{list_any}
 use Rattle.std.proofs.lemmas.Bool.{and_parts, eqb-true}
 use Rattle.desk_values.specs.declared.value.Value.{Value}
 use Rattle.desk_values.specs.Comparison.{same_key}
-use Rattle.machine_model.proofs.Exact.{same_is}
-use Rattle.machine_model.specs.declared.session.HeldKey.{HeldKey}
-use Rattle.machine_model.specs.Writes.{is_held_key, with_key, with_keys, with_row, with_rows}
+use Rattle.server_words.proofs.Exact.{same_is}
+use Rattle.server_words.specs.declared.session.HeldKey.{HeldKey}
+use Rattle.server_words.specs.Writes.{is_held_key, with_key, with_keys, with_row, with_rows}
 use Rattle.law_keys.proofs.Members.{In, any_in, in_joined, in_left, in_right}
 
 -- ---- rows

@@ -3,11 +3,11 @@ use Rattle.std.proofs.Common.{◌≡◌, ◌∙◌, ◌⊎◌, ◌<◌, ◌≤�
 use Rattle.std.proofs.lemmas.Bool.{cases_eq, cases_lt}
 use Rattle.std.proofs.lemmas.List.{take_all, take-append-le}
 use Rattle.desk_values.specs.declared.value.Image.{Image}
-use Rattle.machine_model.specs.declared.session.HeldKey.{HeldKey}
-use Rattle.machine_model.specs.declared.session.Transaction.{Transaction}
-use Rattle.machine_model.specs.Rows.{IsRising, is_there, lay, lay_all}
-use Rattle.machine_model.specs.State.{nothing}
-use Rattle.machine_model.proofs.Laying.{lay_all_push, rising_lay, rising_lay_all}
+use Rattle.server_words.specs.declared.session.HeldKey.{HeldKey}
+use Rattle.server_words.specs.declared.session.Transaction.{Transaction}
+use Rattle.server_words.specs.Rows.{IsRising, is_there, lay, lay_all}
+use Rattle.server_words.specs.State.{nothing}
+use Rattle.server_words.proofs.Laying.{lay_all_push, rising_lay, rising_lay_all}
 use Rattle.law_keys.proofs.Members.{In, in_joined}
 use Rattle.law_keys.proofs.Rows.{HasRow, in_laid, laid_new, laid_old}
 use Rattle.law_keys.proofs.Same.{Apart, HasKey, Same, back, key_in, on}

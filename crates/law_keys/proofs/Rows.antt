@@ -4,9 +4,9 @@ use Rattle.std.specs.Prelude.{nat_eq}
 use Rattle.std.proofs.lemmas.Bool.{ltb-true, eqb-true, eq-eqb}
 use Rattle.std.proofs.lemmas.Bool.Decides.{nat_tests}
 use Rattle.desk_values.specs.declared.value.Image.{Image}
-use Rattle.machine_model.specs.Rows.{IsRising, RisesFrom, is_there, lay, lay_all, noted, one, placed, shown}
-use Rattle.machine_model.specs.Writes.{is_among}
-use Rattle.machine_model.proofs.Laying.{rising_lay, rising_put, rising_shown}
+use Rattle.server_words.specs.Rows.{IsRising, RisesFrom, is_there, lay, lay_all, noted, one, placed, shown}
+use Rattle.server_words.specs.Writes.{is_among}
+use Rattle.server_words.proofs.Laying.{rising_lay, rising_put, rising_shown}
 use Rattle.law_keys.proofs.Members.{In, in_joined, in_left, in_right, in_any, any_in}
 
 -- ---- rising rows

@@ -14,17 +14,17 @@ use Rattle.desk_schema.specs.Schema.{columns_of}
 use Rattle.desk_schema.specs.Sound.{AreApart, IsSoundRow, IsSoundStart}
 use Rattle.desk_schema.specs.Start.{StartView}
 use Rattle.desk_schema.proofs.Files.{sound_start}
-use Rattle.machine_model.specs.declared.session.HeldKey.{HeldKey}
-use Rattle.machine_model.specs.declared.session.Savepoint.{Savepoint}
-use Rattle.machine_model.specs.declared.session.Session.{Session}
-use Rattle.machine_model.specs.declared.session.Transaction.{Transaction}
-use Rattle.machine_model.specs.Rows.{IsRising, lay, lay_all, of_table, row_key}
-use Rattle.machine_model.specs.State.{State, disconnected, nothing, opening, session_at, tables}
-use Rattle.machine_model.specs.Step.{run, step}
-use Rattle.machine_model.specs.View.{commits_seen}
-use Rattle.machine_model.proofs.Laying.{rising_lay, rising_lay_all}
-use Rattle.machine_model.proofs.Looks.{rising_of_table}
-use Rattle.machine_model.proofs.SoundRows.{ascending_rises}
+use Rattle.server_words.specs.declared.session.HeldKey.{HeldKey}
+use Rattle.server_words.specs.declared.session.Savepoint.{Savepoint}
+use Rattle.server_words.specs.declared.session.Session.{Session}
+use Rattle.server_words.specs.declared.session.Transaction.{Transaction}
+use Rattle.server_words.specs.Rows.{IsRising, lay, lay_all, of_table, row_key}
+use Rattle.server_words.specs.State.{State, disconnected, nothing, opening, session_at, tables}
+use Rattle.server_words.specs.Step.{run, step}
+use Rattle.server_words.specs.View.{commits_seen}
+use Rattle.server_words.proofs.Laying.{rising_lay, rising_lay_all}
+use Rattle.server_words.proofs.Looks.{rising_of_table}
+use Rattle.server_words.proofs.SoundRows.{ascending_rises}
 use Rattle.law_steps.specs.Held.{HoldsKey, HoldsRow}
 use Rattle.law_steps.specs.Reading.{rows_in}
 use Rattle.law_keys.specs.Keys.{CommittedKeysDiffer, HaveOwnKeys, HoldKeysAlone, HoldRowsAlone, HoldWhatTheyChange, ReadersHaveNothing, ReadersSeeTables, SavepointsHoldNoMore, SeenKeysDiffer, SeesTables}

@@ -11,11 +11,11 @@ use Rattle.desk_values.specs.declared.value.Image.{Image}
 use Rattle.desk_values.specs.Comparison.{same_key}
 use Rattle.desk_schema.specs.Rules.{key_of, key_in as key_of_row, keys_of}
 use Rattle.desk_schema.specs.Sound.{AreApart}
-use Rattle.machine_model.specs.declared.session.HeldKey.{HeldKey}
-use Rattle.machine_model.specs.Rows.{RisesFrom, row_key}
-use Rattle.machine_model.specs.Writes.{repeats_key}
-use Rattle.machine_model.proofs.Ordering.{column_total}
-use Rattle.machine_model.proofs.Repeating.{same_back}
+use Rattle.server_words.specs.declared.session.HeldKey.{HeldKey}
+use Rattle.server_words.specs.Rows.{RisesFrom, row_key}
+use Rattle.server_words.specs.Writes.{repeats_key}
+use Rattle.server_words.proofs.Ordering.{column_total}
+use Rattle.server_words.proofs.Repeating.{same_back}
 use Rattle.law_keys.specs.Keys.{HaveOwnKeys}
 use Rattle.law_keys.proofs.Members.{In, in_each, mapped_in, none_in}
 use Rattle.law_keys.proofs.Rows.{in_from}

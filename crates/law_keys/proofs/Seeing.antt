@@ -7,13 +7,13 @@ use Rattle.std.proofs.lemmas.List.{get_or_past}
 use Rattle.desk_values.specs.declared.value.Value.{Value}
 use Rattle.desk_values.specs.declared.value.Image.{Image}
 use Rattle.desk_values.specs.Comparison.{same_key}
-use Rattle.machine_model.specs.declared.session.HeldKey.{HeldKey}
-use Rattle.machine_model.specs.declared.session.Session.{Session}
-use Rattle.machine_model.specs.declared.session.Transaction.{Transaction}
-use Rattle.machine_model.specs.Rows.{lay, lay_all, of_table}
-use Rattle.machine_model.specs.State.{State, disconnected, nothing, session_at}
-use Rattle.machine_model.specs.View.{commits_seen, holds_row, is_held, key_of_table, keys_held, others, rows_seen, view_of}
-use Rattle.machine_model.proofs.Laying.{rising_lay_all}
+use Rattle.server_words.specs.declared.session.HeldKey.{HeldKey}
+use Rattle.server_words.specs.declared.session.Session.{Session}
+use Rattle.server_words.specs.declared.session.Transaction.{Transaction}
+use Rattle.server_words.specs.Rows.{lay, lay_all, of_table}
+use Rattle.server_words.specs.State.{State, disconnected, nothing, session_at}
+use Rattle.server_words.specs.View.{commits_seen, holds_row, is_held, key_of_table, keys_held, others, rows_seen, view_of}
+use Rattle.server_words.proofs.Laying.{rising_lay_all}
 use Rattle.law_keys.proofs.Members.{In, filtered_in, flat_in, in_any, in_filtered, in_rest}
 use Rattle.law_keys.proofs.Rows.{in_laid_all}
 use Rattle.law_keys.proofs.Keeping.{IsKeptBySteps, Stands}

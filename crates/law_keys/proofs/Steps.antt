@@ -5,14 +5,14 @@ use Rattle.std.specs.List.{AllByRecursion}
 use Rattle.std.proofs.lemmas.Bool.{cases_eq, cases_lt, eq-eqb, false≢true, ne_eqb}
 use Rattle.std.proofs.lemmas.List.{get_or-set_other, get_or-set_same, get_or_past, set_past}
 use Rattle.desk_values.specs.declared.value.Image.{Image}
-use Rattle.machine_model.specs.declared.effect.Writing.{Writing}
-use Rattle.machine_model.specs.declared.session.Savepoint.{Savepoint}
-use Rattle.machine_model.specs.declared.session.Session.{Session}
-use Rattle.machine_model.specs.declared.session.Transaction.{Transaction}
-use Rattle.machine_model.specs.Answer.{Answer}
-use Rattle.machine_model.specs.State.{State, disconnected, nothing, session_at}
-use Rattle.machine_model.specs.Step.{after, after_made, committed_in, session_after, snapshot_after, with_commit}
-use Rattle.machine_model.specs.Writes.{holding}
+use Rattle.server_words.specs.declared.effect.Writing.{Writing}
+use Rattle.server_words.specs.declared.session.Savepoint.{Savepoint}
+use Rattle.server_words.specs.declared.session.Session.{Session}
+use Rattle.server_words.specs.declared.session.Transaction.{Transaction}
+use Rattle.server_words.specs.Answer.{Answer}
+use Rattle.server_words.specs.State.{State, disconnected, nothing, session_at}
+use Rattle.server_words.specs.Step.{after, after_made, committed_in, session_after, snapshot_after, with_commit}
+use Rattle.server_words.specs.Writes.{holding}
 use Rattle.law_keys.proofs.Keeping.{IsKeptBySteps, committed, dropped, stays_open}
 use Rattle.law_keys.proofs.Writing.{Writes, writes_on}
 use Rattle.law_keys.proofs.Seeing.{IsKeptIn, own_in}

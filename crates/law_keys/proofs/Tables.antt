@@ -5,10 +5,10 @@ use Rattle.std.proofs.lemmas.Bool.{cases_eq, cases_lt, eq-eqb, le-ltb, lt-ltb, n
 use Rattle.std.proofs.lemmas.List.{append-nil}
 use Rattle.std.proofs.lemmas.List.Elements.{filter-append}
 use Rattle.desk_values.specs.declared.value.Image.{Image}
-use Rattle.machine_model.specs.Rows.{IsRising, RisesFrom, is_there, lay, lay_all, of_table, placed, shown}
-use Rattle.machine_model.proofs.Laying.{rising_lay, rising_shown}
-use Rattle.machine_model.proofs.Looks.{filtered_from}
-use Rattle.machine_model.proofs.Noting.{of_other, of_same}
+use Rattle.server_words.specs.Rows.{IsRising, RisesFrom, is_there, lay, lay_all, of_table, placed, shown}
+use Rattle.server_words.proofs.Laying.{rising_lay, rising_shown}
+use Rattle.server_words.proofs.Looks.{filtered_from}
+use Rattle.server_words.proofs.Noting.{of_other, of_same}
 use Rattle.law_keys.proofs.Members.{In}
 use Rattle.law_keys.proofs.Rows.{in_laid, in_placed, in_shown}
 

@@ -16,10 +16,10 @@ use Rattle.desk_schema.specs.Schema.{HasColumns, SchemaView, columns_of}
 use Rattle.desk_schema.specs.Sound.{IsSoundTable}
 use Rattle.desk_schema.specs.Start.{StartView}
 use Rattle.desk_schema.proofs.Files.{sound_start}
-use Rattle.machine_model.specs.declared.session.Session.{Session}
-use Rattle.machine_model.specs.State.{disconnected, opening, session_at, tables}
-use Rattle.machine_model.specs.Step.{run}
-use Rattle.machine_model.proofs.Members.{each_weaker, one_of}
+use Rattle.server_words.specs.declared.session.Session.{Session}
+use Rattle.server_words.specs.State.{disconnected, opening, session_at, tables}
+use Rattle.server_words.specs.Step.{run}
+use Rattle.server_words.proofs.Members.{each_weaker, one_of}
 use Rattle.law_steps.specs.Fits.{FillColumns, FillsItsTable, FillsTable, FitsItsTable, MayStandIn}
 use Rattle.law_steps.specs.Reading.{rows_in}
 use Rattle.law_steps.proofs.Fits.{runs_fit, seen_rows_fill, tables_fill}

@@ -7,14 +7,14 @@ use Rattle.desk_values.specs.declared.value.Value.{Value}
 use Rattle.desk_values.specs.declared.value.Image.{Image}
 use Rattle.desk_values.specs.Comparison.{same_key}
 use Rattle.sql_tree.specs.Plain.{Term, Change}
-use Rattle.machine_model.specs.declared.session.HeldKey.{HeldKey}
-use Rattle.machine_model.specs.declared.session.Transaction.{Transaction}
-use Rattle.machine_model.specs.Answer.{meets_lock, rows_after}
-use Rattle.machine_model.specs.Found.{Environment, matches, matching}
-use Rattle.machine_model.specs.Rows.{lay, lay_all, noted, row_key, row_numbers}
-use Rattle.machine_model.specs.View.{View}
-use Rattle.machine_model.specs.Writes.{holding, is_locked_key, keys_moved, moved_keys, moves_key, repeats_key, updated, with_keys}
-use Rattle.machine_model.proofs.Laying.{rising_lay_all}
+use Rattle.server_words.specs.declared.session.HeldKey.{HeldKey}
+use Rattle.server_words.specs.declared.session.Transaction.{Transaction}
+use Rattle.server_words.specs.Answer.{meets_lock, rows_after}
+use Rattle.server_words.specs.Found.{Environment, matches, matching}
+use Rattle.server_words.specs.Rows.{lay, lay_all, noted, row_key, row_numbers}
+use Rattle.server_words.specs.View.{View}
+use Rattle.server_words.specs.Writes.{holding, is_locked_key, keys_moved, moved_keys, moves_key, repeats_key, updated, with_keys}
+use Rattle.server_words.proofs.Laying.{rising_lay_all}
 use Rattle.law_keys.proofs.Members.{In, filtered_in, in_filtered, flat_in, in_flat, in_mapped, mapped_in, none_in}
 use Rattle.law_keys.proofs.Rows.{HasRow, in_laid, noted_all}
 use Rattle.law_keys.proofs.Same.{Same, HasKey, back, key_in, not_twice, on}

@@ -4,13 +4,13 @@ use Rattle.std.proofs.lemmas.Bool.{false≢true}
 use Rattle.desk_values.specs.declared.value.Value.{Value}
 use Rattle.desk_values.specs.declared.value.Image.{Image}
 use Rattle.desk_values.specs.Comparison.{same_key}
-use Rattle.machine_model.specs.declared.effect.Writing.{Writing}
-use Rattle.machine_model.specs.declared.session.HeldKey.{HeldKey}
-use Rattle.machine_model.specs.declared.session.Transaction.{Transaction}
-use Rattle.machine_model.specs.Rows.{IsRising, is_there, lay, lay_all, noted, row_key, row_numbers}
-use Rattle.machine_model.specs.View.{View}
-use Rattle.machine_model.specs.Writes.{gone, holding, is_locked_key, repeats_key}
-use Rattle.machine_model.proofs.Laying.{rising_lay_all}
+use Rattle.server_words.specs.declared.effect.Writing.{Writing}
+use Rattle.server_words.specs.declared.session.HeldKey.{HeldKey}
+use Rattle.server_words.specs.declared.session.Transaction.{Transaction}
+use Rattle.server_words.specs.Rows.{IsRising, is_there, lay, lay_all, noted, row_key, row_numbers}
+use Rattle.server_words.specs.View.{View}
+use Rattle.server_words.specs.Writes.{gone, holding, is_locked_key, repeats_key}
+use Rattle.server_words.proofs.Laying.{rising_lay_all}
 use Rattle.law_keys.proofs.Members.{In, in_mapped, mapped_in}
 use Rattle.law_keys.proofs.Rows.{HasRow, has_row, in_laid, in_laid_all, in_noted, laid_new, laid_old, noted_all, noted_has, rising_noted}
 use Rattle.law_keys.proofs.Same.{Apart, Same, back, key_in, not_twice}

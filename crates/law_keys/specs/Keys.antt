@@ -10,12 +10,12 @@ use Rattle.desk_values.specs.Comparison.{same_key}
 use Rattle.desk_schema.specs.Rules.{key_in, key_of, keys_of}
 use Rattle.desk_schema.specs.Sound.{AreApart}
 use Rattle.desk_schema.specs.Start.{StartView}
-use Rattle.machine_model.specs.declared.session.HeldKey.{HeldKey}
-use Rattle.machine_model.specs.declared.session.Savepoint.{Savepoint}
-use Rattle.machine_model.specs.Rows.{lay, lay_all, of_table}
-use Rattle.machine_model.specs.State.{State, nothing, opening, session_at, tables}
-use Rattle.machine_model.specs.Step.{run}
-use Rattle.machine_model.specs.View.{commits_seen}
+use Rattle.server_words.specs.declared.session.HeldKey.{HeldKey}
+use Rattle.server_words.specs.declared.session.Savepoint.{Savepoint}
+use Rattle.server_words.specs.Rows.{lay, lay_all, of_table}
+use Rattle.server_words.specs.State.{State, nothing, opening, session_at, tables}
+use Rattle.server_words.specs.Step.{run}
+use Rattle.server_words.specs.View.{commits_seen}
 use Rattle.law_steps.specs.Held.{HoldsKey, HoldsRow}
 use Rattle.law_steps.specs.Reading.{rows_in}
 

@@ -1,6 +1,6 @@
 //! Laws of rows and keys in each state that the server comes to: nothing is held by two sessions, and no key stands twice.
 //!
-//! Enters and leaves nothing, and touches nothing: its calls are laws over the definitions of `machine_model`. What it is to hold
+//! Enters and leaves nothing, and touches nothing: its calls are laws over the definitions of `server_words`. What it is to hold
 //! and to see are words of `law_steps`, and what keys that differ are is what `desk_schema` says of a start. A law is a call that
 //! does nothing, whose contract is the law. Each speaks of any calls from a start that keeps the rules, as each `Start` of
 //! `desk_schema` does, so each that was read.

@@ -15,15 +15,15 @@ use Rattle.sql_eval.specs.Check.{applies, check_of, first_fault}
 use Rattle.sql_eval.specs.Faults.{unless_told}
 use Rattle.sql_eval.specs.SchemaNames.{numbered}
 use Rattle.sql_eval.proofs.CheckLaws.{lowest_rank_is_told, nothing_is_overlooked}
-use Rattle.machine_model.specs.declared.causes.Causes.{Causes}
-use Rattle.machine_model.specs.declared.effect.Effect.{Effect}
-use Rattle.machine_model.specs.Causes.{connect_fault, disconnect_fault, needs_write_access, ranked, statement_fault}
-use Rattle.machine_model.specs.Found.{Environment}
-use Rattle.machine_model.specs.Draws.{draws_of}
-use Rattle.machine_model.specs.View.{View}
-use Rattle.machine_model.specs.Step.{view_for}
-use Rattle.machine_model.specs.Request.{Request, checked, connect, disconnect, read, request_of, statement, statement_in, table_named}
-use Rattle.machine_model.specs.Answer.{Answer, answer, delete_causes, delete_effect, done, executed, insert_causes, insert_effect, new_row, ruled, select_causes, select_effect, unless, update_causes, update_effect}
+use Rattle.server_words.specs.declared.causes.Causes.{Causes}
+use Rattle.server_words.specs.declared.effect.Effect.{Effect}
+use Rattle.server_words.specs.Causes.{connect_fault, disconnect_fault, needs_write_access, ranked, statement_fault}
+use Rattle.server_words.specs.Found.{Environment}
+use Rattle.server_words.specs.Draws.{draws_of}
+use Rattle.server_words.specs.View.{View}
+use Rattle.server_words.specs.Step.{view_for}
+use Rattle.server_words.specs.Request.{Request, checked, connect, disconnect, read, request_of, statement, statement_in, table_named}
+use Rattle.server_words.specs.Answer.{Answer, answer, delete_causes, delete_effect, done, executed, insert_causes, insert_effect, new_row, ruled, select_causes, select_effect, unless, update_causes, update_effect}
 use Rattle.law_server.specs.Ranks.{BeginsTooLate, Brings, Forbids, GoesBackToNone, Refuses, TellsLowest, WritesUnallowed}
 use Rattle.law_server.specs.Applies.{AnswersByRank, Applies, IsChecked, IsRead, RepliesByRank, fault_told}
 use Rattle.law_server.proofs.Ranks.{IsAtMost, causes_first, connections_first, first_applies, here, none_is, statements_first}

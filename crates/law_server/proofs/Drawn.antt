@@ -15,14 +15,14 @@ use Rattle.sql_tree.specs.Plain.{Name, Plan, select, next, insert, update, delet
 use Rattle.sql_eval.specs.Check.{check_of, first_fault}
 use Rattle.sql_eval.specs.SchemaNames.{numbered}
 use Rattle.sql_eval.proofs.CheckLaws.{lowest_rank_is_told}
-use Rattle.machine_model.specs.declared.causes.Causes.{Causes}
-use Rattle.machine_model.specs.declared.effect.Effect.{Effect}
-use Rattle.machine_model.specs.Causes.{connect_fault, disconnect_fault, ranked, statement_fault}
-use Rattle.machine_model.specs.Found.{Environment}
-use Rattle.machine_model.specs.Draws.{draws_from, draws_of, drawn_from}
-use Rattle.machine_model.specs.View.{View}
-use Rattle.machine_model.specs.Request.{Request, checked, connect, disconnect, read, request_of, statement, statement_in, table_named}
-use Rattle.machine_model.specs.Answer.{Answer, answer, delete_causes, delete_effect, done, executed, insert_causes, insert_effect, new_row, refused, ruled, select_causes, select_effect, unless, update_causes, update_effect}
+use Rattle.server_words.specs.declared.causes.Causes.{Causes}
+use Rattle.server_words.specs.declared.effect.Effect.{Effect}
+use Rattle.server_words.specs.Causes.{connect_fault, disconnect_fault, ranked, statement_fault}
+use Rattle.server_words.specs.Found.{Environment}
+use Rattle.server_words.specs.Draws.{draws_from, draws_of, drawn_from}
+use Rattle.server_words.specs.View.{View}
+use Rattle.server_words.specs.Request.{Request, checked, connect, disconnect, read, request_of, statement, statement_in, table_named}
+use Rattle.server_words.specs.Answer.{Answer, answer, delete_causes, delete_effect, done, executed, insert_causes, insert_effect, new_row, refused, ruled, select_causes, select_effect, unless, update_causes, update_effect}
 use Rattle.law_server.specs.Ranks.{Brings, Forbids, Refuses}
 use Rattle.law_server.specs.Applies.{DrawsByRank, drawn_by, fault_told, is_told_early}
 use Rattle.law_server.proofs.Ranks.{causes_first, connections_first, first_applies, statements_first}

@@ -12,8 +12,8 @@ use Rattle.desk_values.specs.Comparison.{text_order}
 use Rattle.sql_tree.specs.Plain.{Name, Plan}
 use Rattle.sql_reader.specs.Reading.{statement_of}
 use Rattle.sql_eval.specs.Totals.{extreme_of, over, part_in, tied_order}
-use Rattle.machine_model.specs.Request.{known_in, names_savepoint, statement_in}
-use Rattle.machine_model.proofs.Keeping.{kept_at_one}
+use Rattle.server_words.specs.Request.{known_in, names_savepoint, statement_in}
+use Rattle.server_words.proofs.Keeping.{kept_at_one}
 use Rattle.law_server.specs.Levels.{GreatestGoesByBytes, KeysCountWhole, LeastGoesByBytes, NewServersKnowAll, OldServersKnowNoSavepoint, OldServersKnowTheRest, QuotientsArePlain, TextsCompareByBytes, ValuesAreStored, plain_extreme}
 
 pub texts_compare_by_bytes : TextsCompareByBytes

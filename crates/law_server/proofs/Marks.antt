@@ -7,15 +7,15 @@ use Rattle.desk_values.specs.declared.fault.Fault.TheVariants.{NoSavepoint, NotC
 use Rattle.desk_values.specs.declared.call.Outcome.TheVariants.{Connected, Disconnected}
 use Rattle.desk_schema.specs.Schema.{SchemaView, columns_of}
 use Rattle.sql_tree.specs.Plain.{Plan, select, next, insert, update, delete, commit, rollback, set_read_only, savepoint, rollback_to}
-use Rattle.machine_model.specs.declared.session.Savepoint.{Savepoint}
-use Rattle.machine_model.specs.declared.causes.Causes.{Causes}
-use Rattle.machine_model.specs.declared.effect.Effect.{Effect}
-use Rattle.machine_model.specs.Answer.{Answer, delete_causes, delete_effect, done, ended, executed, insert_causes, insert_effect, new_row, reply_of, ruled, select_causes, select_effect, unchanged, unless, update_causes, update_effect}
-use Rattle.machine_model.specs.Draws.{draws_of}
-use Rattle.machine_model.specs.Causes.{connect_fault, disconnect_fault, ranked, is_empty, is_read_only, is_under_way, lacks_savepoint, needs_write_access, sets_read_only, statement_fault}
-use Rattle.machine_model.specs.Found.{Environment}
-use Rattle.machine_model.specs.Request.{connect, disconnect, unreadable, unsound, statement, names_savepoint}
-use Rattle.machine_model.specs.View.{View}
+use Rattle.server_words.specs.declared.session.Savepoint.{Savepoint}
+use Rattle.server_words.specs.declared.causes.Causes.{Causes}
+use Rattle.server_words.specs.declared.effect.Effect.{Effect}
+use Rattle.server_words.specs.Answer.{Answer, delete_causes, delete_effect, done, ended, executed, insert_causes, insert_effect, new_row, reply_of, ruled, select_causes, select_effect, unchanged, unless, update_causes, update_effect}
+use Rattle.server_words.specs.Draws.{draws_of}
+use Rattle.server_words.specs.Causes.{connect_fault, disconnect_fault, ranked, is_empty, is_read_only, is_under_way, lacks_savepoint, needs_write_access, sets_read_only, statement_fault}
+use Rattle.server_words.specs.Found.{Environment}
+use Rattle.server_words.specs.Request.{connect, disconnect, unreadable, unsound, statement, names_savepoint}
+use Rattle.server_words.specs.View.{View}
 use Rattle.law_server.specs.Marks.{IsSameButMarks, OthersReadNoSavepoint, marked_so}
 
 module _ (schema : SchemaView) (view : View) (next_values : List ℕ) (row : ℕ) (savepoints : List Savepoint) (alike : is_empty savepoints ≡ is_empty view.savepoints) where

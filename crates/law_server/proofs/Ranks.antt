@@ -13,11 +13,11 @@ use Rattle.desk_schema.specs.declared.schema.Rights.TheVariants as rights
 use Rattle.sql_tree.specs.Plain.{Plan, select, next, insert, update, delete, commit, rollback, set_read_only, savepoint, rollback_to}
 use Rattle.sql_eval.specs.declared.faults.Faults.{Faults}
 use Rattle.sql_eval.specs.Faults.{told}
-use Rattle.machine_model.specs.declared.causes.Causes.{Causes}
-use Rattle.machine_model.specs.Causes.{connect_fault, is_read_only, is_under_way, lacks_savepoint, needs_write_access, ranked, sets_read_only, statement_fault}
-use Rattle.machine_model.specs.declared.session.Savepoint.{Savepoint}
-use Rattle.machine_model.specs.Savepoints.{has_savepoint, is_named}
-use Rattle.machine_model.specs.View.{View}
+use Rattle.server_words.specs.declared.causes.Causes.{Causes}
+use Rattle.server_words.specs.Causes.{connect_fault, is_read_only, is_under_way, lacks_savepoint, needs_write_access, ranked, sets_read_only, statement_fault}
+use Rattle.server_words.specs.declared.session.Savepoint.{Savepoint}
+use Rattle.server_words.specs.Savepoints.{has_savepoint, is_named}
+use Rattle.server_words.specs.View.{View}
 use Rattle.law_server.specs.Ranks.{Brings, CausesByRank, ConnectionsByRank, Forbids, GoesBackToNone, Has, MayOnlyRead, PartsByRank, Refuses, StatementsByRank}
 
 -- ---- a list of tests, the first of which that passes tells its fault

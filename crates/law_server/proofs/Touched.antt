@@ -14,15 +14,15 @@ use Rattle.desk_values.specs.Comparison.{same_key}
 use Rattle.desk_schema.specs.Schema.{SchemaView, columns_of}
 use Rattle.sql_tree.specs.Plain.{Asked, Change, Plan, Term, columns, values, totals, select, next, insert, update, delete, commit, rollback, set_read_only, savepoint, rollback_to}
 use Rattle.sql_eval.specs.Faults.{any_fault, divides, joined, overflows}
-use Rattle.machine_model.specs.declared.causes.Causes.{Causes}
-use Rattle.machine_model.specs.Causes.{no_cause}
-use Rattle.machine_model.specs.Limits.{row_limit}
-use Rattle.machine_model.specs.Found.{Environment, faults_over, matches, matching, row_faults, truth_in, value_in, where_faults}
-use Rattle.machine_model.specs.Rows.{row_key}
-use Rattle.machine_model.specs.Draws.{draws_of}
-use Rattle.machine_model.specs.View.{View}
-use Rattle.machine_model.specs.Writes.{changed_rows, exceeds, input_value, is_locked_key, leaves, moves_key, sources, updated, violates_not_null}
-use Rattle.machine_model.specs.Answer.{are_totals, asked_faults, delete_causes, insert_causes, is_over, meets_lock, new_row, select_causes, too_many_rows, total_in, update_causes}
+use Rattle.server_words.specs.declared.causes.Causes.{Causes}
+use Rattle.server_words.specs.Causes.{no_cause}
+use Rattle.server_words.specs.Limits.{row_limit}
+use Rattle.server_words.specs.Found.{Environment, faults_over, matches, matching, row_faults, truth_in, value_in, where_faults}
+use Rattle.server_words.specs.Rows.{row_key}
+use Rattle.server_words.specs.Draws.{draws_of}
+use Rattle.server_words.specs.View.{View}
+use Rattle.server_words.specs.Writes.{changed_rows, exceeds, input_value, is_locked_key, leaves, moves_key, sources, updated, violates_not_null}
+use Rattle.server_words.specs.Answer.{are_totals, asked_faults, delete_causes, insert_causes, is_over, meets_lock, new_row, select_causes, too_many_rows, total_in, update_causes}
 use Rattle.law_server.specs.Ranks.{Brings}
 use Rattle.law_server.specs.Applies.{AreTooMany, AskedGives, ChangesTooMany, ConditionGives, MeetsHold, MeetsKey, MeetsRow, MovesOntoKey, RepeatsKey, ValuesGive, WritesAgainst}
 

@@ -17,16 +17,16 @@ use Rattle.desk_schema.specs.Schema.{SchemaView, columns_of, rights_of}
 use Rattle.sql_tree.specs.Plain.{Asked, Change, Entry, Name, Plan, Term, Total, columns, values, totals, select, insert, update, delete}
 use Rattle.sql_eval.specs.Check.{applies, check_of}
 use Rattle.sql_eval.specs.SchemaNames.{numbered}
-use Rattle.machine_model.specs.Limits.{row_limit}
-use Rattle.machine_model.specs.Found.{Environment, matches, matching, truth_in, value_in}
-use Rattle.machine_model.specs.Rows.{row_key}
-use Rattle.machine_model.specs.Draws.{draws_of}
-use Rattle.machine_model.specs.Writes.{any_value, changed_rows, exceeds, input_value, leaves, moves_key, repeats_key, sources, updated, violates_not_null}
-use Rattle.machine_model.specs.State.{State}
-use Rattle.machine_model.specs.View.{View}
-use Rattle.machine_model.specs.Request.{request_of, statement_in}
-use Rattle.machine_model.specs.Answer.{are_totals, new_row, rows_after, total_in}
-use Rattle.machine_model.specs.Step.{reply_in, view_for}
+use Rattle.server_words.specs.Limits.{row_limit}
+use Rattle.server_words.specs.Found.{Environment, matches, matching, truth_in, value_in}
+use Rattle.server_words.specs.Rows.{row_key}
+use Rattle.server_words.specs.Draws.{draws_of}
+use Rattle.server_words.specs.Writes.{any_value, changed_rows, exceeds, input_value, leaves, moves_key, repeats_key, sources, updated, violates_not_null}
+use Rattle.server_words.specs.State.{State}
+use Rattle.server_words.specs.View.{View}
+use Rattle.server_words.specs.Request.{request_of, statement_in}
+use Rattle.server_words.specs.Answer.{are_totals, new_row, rows_after, total_in}
+use Rattle.server_words.specs.Step.{reply_in, view_for}
 use Rattle.law_server.specs.Renaming.Laws.{reply_to}
 use Rattle.law_server.specs.Ranks.{BeginsTooLate, GoesBackToNone, Refuses, TellsLowest, WritesUnallowed}
 

@@ -12,8 +12,8 @@ use Rattle.sql_tree.specs.Plain.{Name, Plan, Term, greatest, least}
 use Rattle.sql_reader.specs.Reading.{statement_of}
 use Rattle.sql_eval.specs.Totals.{first_of, first_value, number_in, over, part_in, text_in, total_over}
 use Rattle.sql_eval.specs.Value.{quotient}
-use Rattle.machine_model.specs.Request.{names_savepoint, statement_in}
-use Rattle.machine_model.specs.Writes.{stored}
+use Rattle.server_words.specs.Request.{names_savepoint, statement_in}
+use Rattle.server_words.specs.Writes.{stored}
 
 -- texts compare byte by byte
 abbrev pub TextsCompareByBytes : Type 0

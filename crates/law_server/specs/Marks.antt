@@ -1,11 +1,11 @@
 -- What of a session's savepoints an answer depends on.
 use Rattle.std.specs.Prelude.{◌≡◌, ◌⊎◌, ℕ, Bool, false, List, []}
 use Rattle.desk_schema.specs.Schema.{SchemaView}
-use Rattle.machine_model.specs.declared.session.Savepoint.{Savepoint}
-use Rattle.machine_model.specs.Answer.{Answer, answer}
-use Rattle.machine_model.specs.Causes.{is_empty}
-use Rattle.machine_model.specs.Request.{Request, statement, names_savepoint}
-use Rattle.machine_model.specs.View.{View}
+use Rattle.server_words.specs.declared.session.Savepoint.{Savepoint}
+use Rattle.server_words.specs.Answer.{Answer, answer}
+use Rattle.server_words.specs.Causes.{is_empty}
+use Rattle.server_words.specs.Request.{Request, statement, names_savepoint}
+use Rattle.server_words.specs.View.{View}
 
 -- it is for SAVEPOINT or ROLLBACK TO
 abbrev pub is_on_savepoints : Request → Bool

@@ -9,10 +9,10 @@ use Rattle.desk_schema.specs.declared.schema.Rights.TheVariants as rights
 use Rattle.sql_tree.specs.Plain.{Plan, set_read_only, rollback_to}
 use Rattle.sql_eval.specs.declared.faults.Faults.{Faults}
 use Rattle.sql_eval.specs.Faults.{told}
-use Rattle.machine_model.specs.declared.causes.Causes.{Causes}
-use Rattle.machine_model.specs.declared.session.Savepoint.{Savepoint}
-use Rattle.machine_model.specs.Causes.{connect_fault, is_under_way, needs_write_access, ranked, statement_fault}
-use Rattle.machine_model.specs.View.{View}
+use Rattle.server_words.specs.declared.causes.Causes.{Causes}
+use Rattle.server_words.specs.declared.session.Savepoint.{Savepoint}
+use Rattle.server_words.specs.Causes.{connect_fault, is_under_way, needs_write_access, ranked, statement_fault}
+use Rattle.server_words.specs.View.{View}
 
 -- what is told applies; and where a fault applies, one is told of a rank no higher
 pub record TellsLowest (Applies : Fault → Type 0) (said : Option Fault) : Type 0 where

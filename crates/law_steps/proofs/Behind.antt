@@ -19,18 +19,18 @@ use Rattle.sql_tree.specs.Plain.{Name, Plan, select, next, insert, update, delet
 use Rattle.sql_reader.specs.Reading.{statement_of}
 use Rattle.sql_eval.specs.Check.{check_of, first_fault}
 use Rattle.sql_eval.specs.SchemaNames.{numbered}
-use Rattle.machine_model.specs.declared.session.Savepoint.{Savepoint}
-use Rattle.machine_model.specs.declared.session.Session.{Session}
-use Rattle.machine_model.specs.Answer.{Answer, answer, gone_back, marked, unless}
-use Rattle.machine_model.specs.Causes.{is_empty, statement_fault}
-use Rattle.machine_model.specs.Draws.{moved}
-use Rattle.machine_model.specs.Request.{Request, checked, statement, known_in, names_savepoint, read, request_of, statement_in, table_in, table_named}
-use Rattle.machine_model.specs.Savepoints.{has_savepoint, up_to, without}
-use Rattle.machine_model.specs.State.{State, disconnected, opening, session_at}
-use Rattle.machine_model.specs.Step.{after, answer_in, reply_in, run, session_after, snapshot_after, step}
-use Rattle.machine_model.specs.View.{View, plain_view, view_of}
-use Rattle.machine_model.proofs.Members.{each_repeated, each_set, one_of}
-use Rattle.machine_model.proofs.SoundPlans.{told_ok}
+use Rattle.server_words.specs.declared.session.Savepoint.{Savepoint}
+use Rattle.server_words.specs.declared.session.Session.{Session}
+use Rattle.server_words.specs.Answer.{Answer, answer, gone_back, marked, unless}
+use Rattle.server_words.specs.Causes.{is_empty, statement_fault}
+use Rattle.server_words.specs.Draws.{moved}
+use Rattle.server_words.specs.Request.{Request, checked, statement, known_in, names_savepoint, read, request_of, statement_in, table_in, table_named}
+use Rattle.server_words.specs.Savepoints.{has_savepoint, up_to, without}
+use Rattle.server_words.specs.State.{State, disconnected, opening, session_at}
+use Rattle.server_words.specs.Step.{after, answer_in, reply_in, run, session_after, snapshot_after, step}
+use Rattle.server_words.specs.View.{View, plain_view, view_of}
+use Rattle.server_words.proofs.Members.{each_repeated, each_set, one_of}
+use Rattle.server_words.proofs.SoundPlans.{told_ok}
 use Rattle.law_steps.specs.Holding.{IsNoRefusal}
 use Rattle.law_steps.specs.Marks.{GoesOnBehind, NamesDiffer, OldServersHaveNoSavepoint, OthersLeaveSavepoints, SavepointNamesDiffer, SavepointsLeaveTheRest, StaysBehind, StretchesAreUndone}
 use Rattle.law_steps.specs.Reading.{Requests, ends_transaction}

@@ -26,9 +26,9 @@ use Rattle.sql_eval.specs.Kinds.{are_inputs, entry_kind, fits_column, is_change,
 use Rattle.sql_eval.specs.Laws.{FitColumns, IsArithmetic}
 use Rattle.sql_eval.specs.Totals.{values_in}
 use Rattle.sql_eval.specs.Value.{arithmetic, bind_at, both, is_in_range, is_zero, minus, number, of_numbers, quotient, then_apply, value_of}
-use Rattle.machine_model.specs.Draws.{drawn_value, is_draw_of}
-use Rattle.machine_model.specs.Found.{Environment, sound, value_in}
-use Rattle.machine_model.specs.Writes.{any_column, assigned, column_value, exceeds, exceeds_length, input_value, inputs_for, is_empty_text, leaves, leaves_range, row_values, set_values, stored, targets, violates_not_null}
+use Rattle.server_words.specs.Draws.{drawn_value, is_draw_of}
+use Rattle.server_words.specs.Found.{Environment, sound, value_in}
+use Rattle.server_words.specs.Writes.{any_column, assigned, column_value, exceeds, exceeds_length, input_value, inputs_for, is_empty_text, leaves, leaves_range, row_values, set_values, stored, targets, violates_not_null}
 use Rattle.law_steps.specs.Fits.{FillColumns, KeepsKind, MayStandIn}
 
 -- the column takes the value's kind

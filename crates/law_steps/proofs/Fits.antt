@@ -25,24 +25,24 @@ use Rattle.sql_eval.specs.Laws.{FitColumns}
 use Rattle.sql_eval.specs.SchemaNames.{columns_at, numbered, table_of}
 use Rattle.sql_eval.specs.Totals.{values_in}
 use Rattle.sql_eval.proofs.CheckLaws.{nothing_is_overlooked}
-use Rattle.machine_model.specs.declared.causes.Causes.{Causes}
-use Rattle.machine_model.specs.declared.effect.Effect.{Effect}
-use Rattle.machine_model.specs.declared.session.Savepoint.{Savepoint}
-use Rattle.machine_model.specs.declared.session.Session.{Session}
-use Rattle.machine_model.specs.Answer.{Answer, answer, delete_causes, delete_effect, done, ended, executed, insert_causes, insert_effect, new_row, reply_of, ruled, select_causes, select_effect, unchanged, unless, update_causes, update_effect}
-use Rattle.machine_model.specs.Causes.{connect_fault, disconnect_fault, ranked, statement_fault}
-use Rattle.machine_model.specs.Draws.{draws_of}
-use Rattle.machine_model.specs.Found.{Environment, matches, matching}
-use Rattle.machine_model.specs.Request.{Request, connect, disconnect, unreadable, unsound, statement, statement_in, checked, read, request_of, table_in, table_named}
-use Rattle.machine_model.specs.Rows.{is_there, lay, lay_all, noted, of_table, one, placed, shown}
-use Rattle.machine_model.specs.State.{State, disconnected, opening, session_at}
-use Rattle.machine_model.specs.Step.{answer_in, committed_in, run, session_after, step, with_commit}
-use Rattle.machine_model.specs.View.{View, commits_seen, rows_seen, view_of}
-use Rattle.machine_model.specs.Writes.{any_column, any_value, exceeds, gone, leaves, updated, violates_not_null}
-use Rattle.machine_model.proofs.Members.{each_filtered, each_joined, each_mapped, each_repeated, each_set, each_taken, each_weaker, one_of}
-use Rattle.machine_model.proofs.Marks.{each_up_to, each_with, own_at_one}
-use Rattle.machine_model.proofs.SoundPlans.{IsSoundPlan, IsSoundRequest, sound_request}
-use Rattle.machine_model.proofs.SoundRows.{each_placed}
+use Rattle.server_words.specs.declared.causes.Causes.{Causes}
+use Rattle.server_words.specs.declared.effect.Effect.{Effect}
+use Rattle.server_words.specs.declared.session.Savepoint.{Savepoint}
+use Rattle.server_words.specs.declared.session.Session.{Session}
+use Rattle.server_words.specs.Answer.{Answer, answer, delete_causes, delete_effect, done, ended, executed, insert_causes, insert_effect, new_row, reply_of, ruled, select_causes, select_effect, unchanged, unless, update_causes, update_effect}
+use Rattle.server_words.specs.Causes.{connect_fault, disconnect_fault, ranked, statement_fault}
+use Rattle.server_words.specs.Draws.{draws_of}
+use Rattle.server_words.specs.Found.{Environment, matches, matching}
+use Rattle.server_words.specs.Request.{Request, connect, disconnect, unreadable, unsound, statement, statement_in, checked, read, request_of, table_in, table_named}
+use Rattle.server_words.specs.Rows.{is_there, lay, lay_all, noted, of_table, one, placed, shown}
+use Rattle.server_words.specs.State.{State, disconnected, opening, session_at}
+use Rattle.server_words.specs.Step.{answer_in, committed_in, run, session_after, step, with_commit}
+use Rattle.server_words.specs.View.{View, commits_seen, rows_seen, view_of}
+use Rattle.server_words.specs.Writes.{any_column, any_value, exceeds, gone, leaves, updated, violates_not_null}
+use Rattle.server_words.proofs.Members.{each_filtered, each_joined, each_mapped, each_repeated, each_set, each_taken, each_weaker, one_of}
+use Rattle.server_words.proofs.Marks.{each_up_to, each_with, own_at_one}
+use Rattle.server_words.proofs.SoundPlans.{IsSoundPlan, IsSoundRequest, sound_request}
+use Rattle.server_words.proofs.SoundRows.{each_placed}
 use Rattle.law_steps.specs.Fits.{FillColumns, FillsItsTable, FillsTable, FitsItsTable, HasFitting, MayStandIn, OpeningsFit, RowsKeepRules, RunsFit, SeenRowsFill, SeenRowsHaveKinds, StepsKeepFit, TablesFill}
 use Rattle.law_steps.specs.Reading.{rows_in}
 use Rattle.law_steps.proofs.Columns.{IsTaken, all_tested, allowed_stands, assigned_taken, new_taken, stands_taken, taken_fit, zip_weaker}

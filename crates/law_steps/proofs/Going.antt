@@ -9,14 +9,14 @@ use Rattle.desk_values.specs.declared.value.Value.{Value}
 use Rattle.desk_schema.specs.declared.schema.Rights.{Rights}
 use Rattle.desk_schema.specs.Schema.{SchemaView, columns_of}
 use Rattle.sql_tree.specs.Plain.{Plan, select, next, insert, update, delete, commit, rollback, set_read_only, savepoint, rollback_to}
-use Rattle.machine_model.specs.declared.causes.Causes.{Causes}
-use Rattle.machine_model.specs.declared.effect.Effect.{Effect}
-use Rattle.machine_model.specs.Answer.{Answer, answer, delete_causes, delete_effect, done, ended, executed, gone_back, insert_causes, insert_effect, marked, new_row, reply_of, ruled, select_causes, select_effect, unchanged, unless, update_causes, update_effect}
-use Rattle.machine_model.specs.Causes.{connect_fault, disconnect_fault, is_empty, is_under_way, ranked, statement_fault}
-use Rattle.machine_model.specs.Draws.{draws_of}
-use Rattle.machine_model.specs.Found.{Environment}
-use Rattle.machine_model.specs.Request.{Request, connect, disconnect, unreadable, unsound, statement}
-use Rattle.machine_model.specs.View.{View}
+use Rattle.server_words.specs.declared.causes.Causes.{Causes}
+use Rattle.server_words.specs.declared.effect.Effect.{Effect}
+use Rattle.server_words.specs.Answer.{Answer, answer, delete_causes, delete_effect, done, ended, executed, gone_back, insert_causes, insert_effect, marked, new_row, reply_of, ruled, select_causes, select_effect, unchanged, unless, update_causes, update_effect}
+use Rattle.server_words.specs.Causes.{connect_fault, disconnect_fault, is_empty, is_under_way, ranked, statement_fault}
+use Rattle.server_words.specs.Draws.{draws_of}
+use Rattle.server_words.specs.Found.{Environment}
+use Rattle.server_words.specs.Request.{Request, connect, disconnect, unreadable, unsound, statement}
+use Rattle.server_words.specs.View.{View}
 use Rattle.law_steps.specs.Reading.{ends_transaction}
 
 -- the request goes back to a savepoint

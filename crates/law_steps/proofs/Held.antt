@@ -15,20 +15,20 @@ use Rattle.desk_values.specs.Comparison.{same_key}
 use Rattle.desk_values.specs.Fault.{fault_rank}
 use Rattle.desk_schema.specs.Schema.{columns_of}
 use Rattle.sql_tree.specs.Plain.{Term, Entry, Change, Plan, select, next, insert, update, delete, commit, rollback, set_read_only, savepoint, rollback_to}
-use Rattle.machine_model.specs.declared.causes.Causes.{Causes}
-use Rattle.machine_model.specs.declared.effect.Effect.{Effect}
-use Rattle.machine_model.specs.declared.session.HeldKey.{HeldKey}
-use Rattle.machine_model.specs.declared.session.Session.{Session}
-use Rattle.machine_model.specs.Answer.{Answer, answer, delete_causes, delete_effect, done, executed, insert_causes, insert_effect, meets_lock, new_row, ruled, select_causes, select_effect, unless, update_causes, update_effect}
-use Rattle.machine_model.specs.Causes.{is_read_only, is_under_way, lacks_savepoint, needs_write_access, ranked, sets_read_only, statement_fault}
-use Rattle.machine_model.specs.Draws.{draws_of}
-use Rattle.machine_model.specs.Found.{Environment, matches, matching}
-use Rattle.machine_model.specs.Request.{Request, statement, table_in}
-use Rattle.machine_model.specs.Rows.{row_key}
-use Rattle.machine_model.specs.State.{State, disconnected, session_at}
-use Rattle.machine_model.specs.Step.{reply_in}
-use Rattle.machine_model.specs.View.{View, holds_row, is_held, key_of_table, keys_held, others, view_of}
-use Rattle.machine_model.specs.Writes.{is_locked_key, moves_key, updated}
+use Rattle.server_words.specs.declared.causes.Causes.{Causes}
+use Rattle.server_words.specs.declared.effect.Effect.{Effect}
+use Rattle.server_words.specs.declared.session.HeldKey.{HeldKey}
+use Rattle.server_words.specs.declared.session.Session.{Session}
+use Rattle.server_words.specs.Answer.{Answer, answer, delete_causes, delete_effect, done, executed, insert_causes, insert_effect, meets_lock, new_row, ruled, select_causes, select_effect, unless, update_causes, update_effect}
+use Rattle.server_words.specs.Causes.{is_read_only, is_under_way, lacks_savepoint, needs_write_access, ranked, sets_read_only, statement_fault}
+use Rattle.server_words.specs.Draws.{draws_of}
+use Rattle.server_words.specs.Found.{Environment, matches, matching}
+use Rattle.server_words.specs.Request.{Request, statement, table_in}
+use Rattle.server_words.specs.Rows.{row_key}
+use Rattle.server_words.specs.State.{State, disconnected, session_at}
+use Rattle.server_words.specs.Step.{reply_in}
+use Rattle.server_words.specs.View.{View, holds_row, is_held, key_of_table, keys_held, others, view_of}
+use Rattle.server_words.specs.Writes.{is_locked_key, moves_key, updated}
 use Rattle.law_steps.specs.Held.{GivesKey, HeldKeysAreNotInserted, HeldKeysAreNotSet, HeldRowsAreRefused, HoldsKey, HoldsRow, IsRefusedAsHeld, LockedMeansHeld, SeesMatch, StandsInTheWay, Takes, environment, row_to_insert}
 use Rattle.law_steps.specs.Reading.{Requests, rows_in}
 use Rattle.law_steps.proofs.Listed.{both_passed, number_in, place_of}

@@ -15,26 +15,26 @@ use Rattle.desk_values.specs.declared.value.Value.{Value}
 use Rattle.desk_values.specs.declared.value.Value.TheVariants.{Int, Text, Row, Draw, Null}
 use Rattle.desk_values.specs.Comparison.{same_key}
 use Rattle.desk_schema.specs.Schema.{SchemaView, columns_of}
-use Rattle.machine_model.proofs.Exact.{same_is}
+use Rattle.server_words.proofs.Exact.{same_is}
 use Rattle.desk_schema.proofs.Members.{Contains-cases, Contains-here, Contains-none, Contains-there}
 use Rattle.sql_tree.specs.declared.tree.Key.{Key}
 use Rattle.sql_tree.specs.Plain.{Asked, Term, Change, Entry, Plan, select, next, insert, update, delete, commit, rollback, set_read_only, savepoint, rollback_to}
-use Rattle.machine_model.specs.declared.causes.Causes.{Causes}
-use Rattle.machine_model.specs.declared.effect.Effect.{Effect}
-use Rattle.machine_model.specs.declared.session.HeldKey.{HeldKey}
-use Rattle.machine_model.specs.declared.session.Session.{Session}
-use Rattle.machine_model.specs.declared.session.Transaction.{Transaction}
-use Rattle.machine_model.specs.Answer.{Answer, answer, delete_causes, delete_effect, done, ended, executed, insert_causes, insert_effect, new_row, reply_of, ruled, select_causes, select_effect, unchanged, unless, update_causes, update_effect}
-use Rattle.machine_model.specs.Causes.{connect_fault, disconnect_fault, ranked, statement_fault}
-use Rattle.machine_model.specs.Draws.{draws_of}
-use Rattle.machine_model.specs.Found.{Environment, matches, matching}
-use Rattle.machine_model.specs.Request.{Request, connect, disconnect, unreadable, unsound, statement, request_of, table_in}
-use Rattle.machine_model.specs.Rows.{row_key, row_numbers}
-use Rattle.machine_model.specs.State.{State, disconnected, nothing, session_at}
-use Rattle.machine_model.specs.Step.{answer_in, reply_in, snapshot_after, step}
-use Rattle.machine_model.specs.View.{View, view_of}
-use Rattle.machine_model.specs.Writes.{holding, is_held_key, keys_moved, moved_keys, moves_key, updated, with_key, with_keys, with_row, with_rows}
-use Rattle.machine_model.proofs.Ordering.{column_total}
+use Rattle.server_words.specs.declared.causes.Causes.{Causes}
+use Rattle.server_words.specs.declared.effect.Effect.{Effect}
+use Rattle.server_words.specs.declared.session.HeldKey.{HeldKey}
+use Rattle.server_words.specs.declared.session.Session.{Session}
+use Rattle.server_words.specs.declared.session.Transaction.{Transaction}
+use Rattle.server_words.specs.Answer.{Answer, answer, delete_causes, delete_effect, done, ended, executed, insert_causes, insert_effect, new_row, reply_of, ruled, select_causes, select_effect, unchanged, unless, update_causes, update_effect}
+use Rattle.server_words.specs.Causes.{connect_fault, disconnect_fault, ranked, statement_fault}
+use Rattle.server_words.specs.Draws.{draws_of}
+use Rattle.server_words.specs.Found.{Environment, matches, matching}
+use Rattle.server_words.specs.Request.{Request, connect, disconnect, unreadable, unsound, statement, request_of, table_in}
+use Rattle.server_words.specs.Rows.{row_key, row_numbers}
+use Rattle.server_words.specs.State.{State, disconnected, nothing, session_at}
+use Rattle.server_words.specs.Step.{answer_in, reply_in, snapshot_after, step}
+use Rattle.server_words.specs.View.{View, view_of}
+use Rattle.server_words.specs.Writes.{holding, is_held_key, keys_moved, moved_keys, moves_key, updated, with_key, with_keys, with_row, with_rows}
+use Rattle.server_words.proofs.Ordering.{column_total}
 use Rattle.law_steps.specs.Held.{GivesKey, IsKey, SeesMatch, Takes, environment, row_to_insert}
 use Rattle.law_steps.specs.Holding.{EndedSessionsHoldNothing, HoldsStay, InsertedRowsAreHeld, IsNoRefusal, MovedKeysAreHeld, TakenRowsAreHeld, TakesKey}
 use Rattle.law_steps.specs.Reading.{Requests, ends_transaction, rows_in}

@@ -12,17 +12,17 @@ use Rattle.desk_values.specs.declared.value.Value.{Value}
 use Rattle.desk_schema.proofs.Members.{Contains-cases, Contains-here, Contains-none, Contains-there}
 use Rattle.desk_schema.specs.Schema.{SchemaView}
 use Rattle.sql_tree.specs.Plain.{Plan, select, next, insert, update, delete, commit, rollback, set_read_only, savepoint, rollback_to}
-use Rattle.machine_model.specs.declared.session.Savepoint.{Savepoint}
-use Rattle.machine_model.specs.declared.session.Session.{Session}
-use Rattle.machine_model.specs.declared.session.Transaction.{Transaction}
-use Rattle.machine_model.specs.Answer.{Answer, answer, ended, executed, gone_back, marked, reply_of, unchanged, unless}
-use Rattle.machine_model.specs.Causes.{connect_fault, disconnect_fault, statement_fault}
-use Rattle.machine_model.specs.Found.{Environment}
-use Rattle.machine_model.specs.Request.{Request, connect, disconnect, unreadable, unsound, statement, request_of, table_in}
-use Rattle.machine_model.specs.Savepoints.{is_named, own_at, up_to, with_savepoint, without}
-use Rattle.machine_model.specs.State.{State, session_at}
-use Rattle.machine_model.specs.Step.{answer_in, session_after}
-use Rattle.machine_model.specs.View.{View, plain_view, view_of}
+use Rattle.server_words.specs.declared.session.Savepoint.{Savepoint}
+use Rattle.server_words.specs.declared.session.Session.{Session}
+use Rattle.server_words.specs.declared.session.Transaction.{Transaction}
+use Rattle.server_words.specs.Answer.{Answer, answer, ended, executed, gone_back, marked, reply_of, unchanged, unless}
+use Rattle.server_words.specs.Causes.{connect_fault, disconnect_fault, statement_fault}
+use Rattle.server_words.specs.Found.{Environment}
+use Rattle.server_words.specs.Request.{Request, connect, disconnect, unreadable, unsound, statement, request_of, table_in}
+use Rattle.server_words.specs.Savepoints.{is_named, own_at, up_to, with_savepoint, without}
+use Rattle.server_words.specs.State.{State, session_at}
+use Rattle.server_words.specs.Step.{answer_in, session_after}
+use Rattle.server_words.specs.View.{View, plain_view, view_of}
 use Rattle.law_steps.specs.Holding.{IsNoRefusal}
 use Rattle.law_steps.specs.Marks.{GoingBackRestores, SavepointsKeep, SavepointsStay}
 use Rattle.law_steps.specs.Reading.{Requests}

@@ -13,19 +13,19 @@ use Rattle.desk_values.specs.declared.value.Value.{Value}
 use Rattle.desk_schema.specs.declared.schema.Rights.{Rights}
 use Rattle.desk_schema.specs.Schema.{SchemaView, columns_of}
 use Rattle.sql_tree.specs.Plain.{Plan, select, next, insert, update, delete, commit, rollback, set_read_only, savepoint, rollback_to}
-use Rattle.machine_model.specs.declared.session.Savepoint.{Savepoint}
-use Rattle.machine_model.specs.declared.session.Session.{Session}
-use Rattle.machine_model.specs.declared.session.Transaction.{Transaction}
-use Rattle.machine_model.specs.declared.causes.Causes.{Causes}
-use Rattle.machine_model.specs.declared.effect.Effect.{Effect}
-use Rattle.machine_model.specs.Answer.{Answer, answer, delete_causes, delete_effect, done, ended, executed, insert_causes, insert_effect, new_row, reply_of, ruled, select_causes, select_effect, unchanged, unless, update_causes, update_effect}
-use Rattle.machine_model.specs.Causes.{connect_fault, disconnect_fault, ranked, statement_fault}
-use Rattle.machine_model.specs.Draws.{draws_of, is_draw_of, moved}
-use Rattle.machine_model.specs.Found.{Environment}
-use Rattle.machine_model.specs.Request.{Request, connect, disconnect, unreadable, unsound, statement, request_of, table_in}
-use Rattle.machine_model.specs.State.{State, disconnected, session_at}
-use Rattle.machine_model.specs.Step.{after_made, answer_in, committed_in, run, session_after, snapshot_after, step, with_commit}
-use Rattle.machine_model.specs.View.{View, view_of}
+use Rattle.server_words.specs.declared.session.Savepoint.{Savepoint}
+use Rattle.server_words.specs.declared.session.Session.{Session}
+use Rattle.server_words.specs.declared.session.Transaction.{Transaction}
+use Rattle.server_words.specs.declared.causes.Causes.{Causes}
+use Rattle.server_words.specs.declared.effect.Effect.{Effect}
+use Rattle.server_words.specs.Answer.{Answer, answer, delete_causes, delete_effect, done, ended, executed, insert_causes, insert_effect, new_row, reply_of, ruled, select_causes, select_effect, unchanged, unless, update_causes, update_effect}
+use Rattle.server_words.specs.Causes.{connect_fault, disconnect_fault, ranked, statement_fault}
+use Rattle.server_words.specs.Draws.{draws_of, is_draw_of, moved}
+use Rattle.server_words.specs.Found.{Environment}
+use Rattle.server_words.specs.Request.{Request, connect, disconnect, unreadable, unsound, statement, request_of, table_in}
+use Rattle.server_words.specs.State.{State, disconnected, session_at}
+use Rattle.server_words.specs.Step.{after_made, answer_in, committed_in, run, session_after, snapshot_after, step, with_commit}
+use Rattle.server_words.specs.View.{View, view_of}
 use Rattle.law_steps.specs.Leaving.{OnlyAdds, OthersAreLeft, OthersAreLeftByRuns, RefusedLeaves, RunsAdd, StepsAdd}
 
 -- ---- what a refusal keeps

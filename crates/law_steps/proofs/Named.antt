@@ -4,11 +4,11 @@ use Rattle.std.proofs.lemmas.Bool.{false≢true}
 use Rattle.std.proofs.lemmas.List.{append_assoc}
 use Rattle.std.proofs.lemmas.Slice.Eq.{bytes_eq-Decides}
 use Rattle.std.specs.Prelude.{◌||◌, if◌then◌else◌}
-use Rattle.machine_model.specs.declared.session.Savepoint.{Savepoint}
-use Rattle.machine_model.specs.Causes.{is_empty}
-use Rattle.machine_model.specs.Savepoints.{has_savepoint, is_named, up_to, with_savepoint, without}
-use Rattle.machine_model.proofs.Marks.{each_up_to, each_without}
-use Rattle.machine_model.proofs.Members.{each_joined}
+use Rattle.server_words.specs.declared.session.Savepoint.{Savepoint}
+use Rattle.server_words.specs.Causes.{is_empty}
+use Rattle.server_words.specs.Savepoints.{has_savepoint, is_named, up_to, with_savepoint, without}
+use Rattle.server_words.proofs.Marks.{each_up_to, each_without}
+use Rattle.server_words.proofs.Members.{each_joined}
 use Rattle.law_steps.specs.Marks.{NamesDiffer, NoneIsNamed}
 
 -- one that has another name is passed

@@ -15,24 +15,24 @@ use Rattle.desk_schema.specs.Schema.{SchemaView, columns_of}
 use Rattle.desk_schema.specs.Start.{StartView}
 use Rattle.sql_tree.specs.declared.tree.Key.{Key}
 use Rattle.sql_tree.specs.Plain.{Asked, Term, Plan, select, next, insert, update, delete, commit, rollback, set_read_only, savepoint, rollback_to}
-use Rattle.machine_model.specs.declared.session.Savepoint.{Savepoint}
-use Rattle.machine_model.specs.declared.session.Session.{Session}
-use Rattle.machine_model.specs.declared.session.Transaction.{Transaction}
-use Rattle.machine_model.specs.Answer.{Answer, answer, delete_causes, delete_effect, done, ended, executed, insert_causes, insert_effect, new_row, reply_of, ruled, select_causes, select_effect, unchanged, unless, update_causes, update_effect}
-use Rattle.machine_model.specs.declared.causes.Causes.{Causes}
-use Rattle.machine_model.specs.declared.effect.Effect.{Effect}
-use Rattle.machine_model.specs.Causes.{connect_fault, disconnect_fault, is_empty, is_read_only, is_under_way, needs_write_access, ranked, statement_fault}
-use Rattle.machine_model.specs.Draws.{draws_of}
+use Rattle.server_words.specs.declared.session.Savepoint.{Savepoint}
+use Rattle.server_words.specs.declared.session.Session.{Session}
+use Rattle.server_words.specs.declared.session.Transaction.{Transaction}
+use Rattle.server_words.specs.Answer.{Answer, answer, delete_causes, delete_effect, done, ended, executed, insert_causes, insert_effect, new_row, reply_of, ruled, select_causes, select_effect, unchanged, unless, update_causes, update_effect}
+use Rattle.server_words.specs.declared.causes.Causes.{Causes}
+use Rattle.server_words.specs.declared.effect.Effect.{Effect}
+use Rattle.server_words.specs.Causes.{connect_fault, disconnect_fault, is_empty, is_read_only, is_under_way, needs_write_access, ranked, statement_fault}
+use Rattle.server_words.specs.Draws.{draws_of}
 use Rattle.desk_values.specs.declared.call.Outcome.TheVariants.{Connected, Disconnected, Marked}
-use Rattle.machine_model.specs.Found.{Environment}
-use Rattle.machine_model.specs.Request.{Request, connect, disconnect, unreadable, unsound, statement, request_of, table_in}
-use Rattle.machine_model.specs.State.{State, disconnected, opening, session_at}
-use Rattle.machine_model.specs.Step.{answer_in, committed_in, reply_in, run, session_after, snapshot_after, step, with_commit}
-use Rattle.machine_model.specs.Rows.{lay, lay_all, of_table}
-use Rattle.machine_model.specs.View.{View, commits_seen, others, plain_view, rows_seen, view_of, with_table}
-use Rattle.machine_model.specs.Savepoints.{own_at, up_to}
-use Rattle.machine_model.proofs.Marks.{each_up_to, each_with, own_at_one}
-use Rattle.machine_model.proofs.Members.{each_repeated, each_set, each_weaker, one_of}
+use Rattle.server_words.specs.Found.{Environment}
+use Rattle.server_words.specs.Request.{Request, connect, disconnect, unreadable, unsound, statement, request_of, table_in}
+use Rattle.server_words.specs.State.{State, disconnected, opening, session_at}
+use Rattle.server_words.specs.Step.{answer_in, committed_in, reply_in, run, session_after, snapshot_after, step, with_commit}
+use Rattle.server_words.specs.Rows.{lay, lay_all, of_table}
+use Rattle.server_words.specs.View.{View, commits_seen, others, plain_view, rows_seen, view_of, with_table}
+use Rattle.server_words.specs.Savepoints.{own_at, up_to}
+use Rattle.server_words.proofs.Marks.{each_up_to, each_with, own_at_one}
+use Rattle.server_words.proofs.Members.{each_repeated, each_set, each_weaker, one_of}
 use Rattle.law_steps.specs.Reading.{IsLeftButMarks, IsReading, KeepsWhatItHas, MarkedSessionsRead, OnlyMarkedSessionsRead, GoesBack, Requests, ReadersAreAnsweredTheSame, ReadersAreLeft, ReadersSeeTheSame, SnapshotsAreWithin, ends_transaction, rows_in}
 use Rattle.law_steps.proofs.Going.{GoesOn}
 use Rattle.law_steps.proofs.Leaving.{beyond_at, commits_longer, left_at, others_are_left, runs_add, snapshot_stays, taken_in_front, view_own, view_reads, view_rights}

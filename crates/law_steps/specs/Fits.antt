@@ -14,11 +14,11 @@ use Rattle.desk_schema.specs.Schema.{columns_of}
 use Rattle.desk_schema.specs.Start.{StartView}
 use Rattle.sql_eval.specs.Laws.{FitColumns}
 use Rattle.sql_eval.specs.Totals.{values_in}
-use Rattle.machine_model.specs.declared.session.Savepoint.{Savepoint}
-use Rattle.machine_model.specs.declared.session.Session.{Session}
-use Rattle.machine_model.specs.declared.session.Transaction.{Transaction}
-use Rattle.machine_model.specs.State.{State, opening, tables}
-use Rattle.machine_model.specs.Step.{run, step}
+use Rattle.server_words.specs.declared.session.Savepoint.{Savepoint}
+use Rattle.server_words.specs.declared.session.Session.{Session}
+use Rattle.server_words.specs.declared.session.Transaction.{Transaction}
+use Rattle.server_words.specs.State.{State, opening, tables}
+use Rattle.server_words.specs.Step.{run, step}
 use Rattle.law_steps.specs.Reading.{rows_in}
 
 -- a value of this kind: a number in the range, a text that is not too long, or a value that was drawn from the sequence

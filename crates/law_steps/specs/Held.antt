@@ -11,14 +11,14 @@ use Rattle.desk_values.specs.Comparison.{same_key}
 use Rattle.desk_values.specs.Fault.{fault_rank}
 use Rattle.desk_schema.specs.Schema.{columns_of}
 use Rattle.sql_tree.specs.Plain.{Term, Entry, Change, Plan, select, insert, update, delete}
-use Rattle.machine_model.specs.declared.session.HeldKey.{HeldKey}
-use Rattle.machine_model.specs.Answer.{new_row}
-use Rattle.machine_model.specs.Draws.{draws_of}
-use Rattle.machine_model.specs.Found.{Environment, matches}
-use Rattle.machine_model.specs.Rows.{row_key}
-use Rattle.machine_model.specs.State.{State, session_at}
-use Rattle.machine_model.specs.Step.{reply_in}
-use Rattle.machine_model.specs.Writes.{moves_key, updated}
+use Rattle.server_words.specs.declared.session.HeldKey.{HeldKey}
+use Rattle.server_words.specs.Answer.{new_row}
+use Rattle.server_words.specs.Draws.{draws_of}
+use Rattle.server_words.specs.Found.{Environment, matches}
+use Rattle.server_words.specs.Rows.{row_key}
+use Rattle.server_words.specs.State.{State, session_at}
+use Rattle.server_words.specs.Step.{reply_in}
+use Rattle.server_words.specs.Writes.{moves_key, updated}
 use Rattle.law_steps.specs.Reading.{Requests, rows_in}
 
 -- refused since another session holds what it takes, or for a fault that is told before that one

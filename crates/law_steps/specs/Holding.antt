@@ -10,12 +10,12 @@ use Rattle.desk_values.specs.declared.value.Value.{Value}
 use Rattle.desk_values.specs.declared.value.Value.TheVariants.{Null}
 use Rattle.desk_values.specs.Comparison.{same_key}
 use Rattle.sql_tree.specs.Plain.{Entry, Plan, delete, insert, update, rollback_to}
-use Rattle.machine_model.specs.declared.session.Savepoint.{Savepoint}
-use Rattle.machine_model.specs.declared.session.Transaction.{Transaction}
-use Rattle.machine_model.specs.Rows.{row_key}
-use Rattle.machine_model.specs.State.{State, nothing, session_at}
-use Rattle.machine_model.specs.Step.{reply_in, run, step}
-use Rattle.machine_model.specs.Writes.{moves_key}
+use Rattle.server_words.specs.declared.session.Savepoint.{Savepoint}
+use Rattle.server_words.specs.declared.session.Transaction.{Transaction}
+use Rattle.server_words.specs.Rows.{row_key}
+use Rattle.server_words.specs.State.{State, nothing, session_at}
+use Rattle.server_words.specs.Step.{reply_in, run, step}
+use Rattle.server_words.specs.Writes.{moves_key}
 use Rattle.law_steps.specs.Held.{GivesKey, HoldsKey, HoldsRow, SeesMatch, Takes, environment, row_to_insert}
 use Rattle.law_steps.specs.Reading.{GoesBack, OnlyGoesOn, Requests, ends_transaction}
 

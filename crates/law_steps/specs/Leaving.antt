@@ -4,9 +4,9 @@ use Rattle.std.specs.List.{AllByRecursion, AllZip}
 use Rattle.desk_values.specs.declared.call.Call.{Call}
 use Rattle.desk_values.specs.declared.call.Outcome.TheVariants.{Refused}
 use Rattle.desk_values.specs.declared.fault.Fault.{Fault}
-use Rattle.machine_model.specs.Draws.{moved}
-use Rattle.machine_model.specs.State.{State, session_at}
-use Rattle.machine_model.specs.Step.{reply_in, run, step}
+use Rattle.server_words.specs.Draws.{moved}
+use Rattle.server_words.specs.State.{State, session_at}
+use Rattle.server_words.specs.Step.{reply_in, run, step}
 
 -- the second state is the first, or one after it: the start and the number of sessions stay, the commits stay in front of new
 -- ones, and neither the number of the next row nor the next value of any sequence falls

@@ -6,11 +6,11 @@ use Rattle.desk_values.specs.declared.call.Outcome.TheVariants.{RolledBack}
 use Rattle.desk_values.specs.declared.value.Value.{Value}
 use Rattle.desk_schema.specs.Start.{StartView}
 use Rattle.sql_tree.specs.Plain.{savepoint, rollback_to}
-use Rattle.machine_model.specs.declared.session.Savepoint.{Savepoint}
-use Rattle.machine_model.specs.declared.session.Transaction.{Transaction}
-use Rattle.machine_model.specs.Savepoints.{without}
-use Rattle.machine_model.specs.State.{State, opening, session_at}
-use Rattle.machine_model.specs.Step.{reply_in, run, step}
+use Rattle.server_words.specs.declared.session.Savepoint.{Savepoint}
+use Rattle.server_words.specs.declared.session.Transaction.{Transaction}
+use Rattle.server_words.specs.Savepoints.{without}
+use Rattle.server_words.specs.State.{State, opening, session_at}
+use Rattle.server_words.specs.Step.{reply_in, run, step}
 use Rattle.law_steps.specs.Holding.{IsNoRefusal}
 use Rattle.law_steps.specs.Reading.{GoesBack, Requests, ends_transaction}
 

@@ -1,6 +1,5 @@
 -- What a transaction that only reads sees.
-use Rattle.std.specs.Prelude.{◌≡◌, ◌≤◌, ◌<◌, ℕ, Bool, true, false, List, [], ◌∷◌, length}
-use Rattle.std.specs.Prelude.{Option, None, Some, IsSomeAnd}
+use Rattle.std.specs.Prelude.{◌≡◌, ◌≤◌, ◌<◌, ℕ, Bool, true, false, List, [], ◌∷◌, length, Option, None, Some, IsSomeAnd}
 use Rattle.std.specs.List.{AllByRecursion}
 use Rattle.desk_values.specs.declared.call.Call.{Call}
 use Rattle.desk_values.specs.declared.call.Outcome.{Outcome}
@@ -10,12 +9,12 @@ use Rattle.desk_values.specs.declared.value.Value.{Value}
 use Rattle.desk_schema.specs.Start.{StartView}
 use Rattle.sql_tree.specs.declared.tree.Key.{Key}
 use Rattle.sql_tree.specs.Plain.{Asked, Plan, Term, rollback_to, select, set_read_only}
-use Rattle.machine_model.specs.declared.session.Savepoint.{Savepoint}
-use Rattle.machine_model.specs.declared.session.Session.{Session}
-use Rattle.machine_model.specs.Request.{request_of, statement}
-use Rattle.machine_model.specs.State.{State, is_connected, opening, session_at}
-use Rattle.machine_model.specs.Step.{reply_in, run, step}
-use Rattle.machine_model.specs.View.{rows_seen}
+use Rattle.server_words.specs.declared.session.Savepoint.{Savepoint}
+use Rattle.server_words.specs.declared.session.Session.{Session}
+use Rattle.server_words.specs.Request.{request_of, statement}
+use Rattle.server_words.specs.State.{State, is_connected, opening, session_at}
+use Rattle.server_words.specs.Step.{reply_in, run, step}
+use Rattle.server_words.specs.View.{rows_seen}
 
 -- a table's rows as the session sees them in this state
 abbrev pub rows_in : State → ℕ → ℕ → List Image

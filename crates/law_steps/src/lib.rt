@@ -1,7 +1,7 @@
 //! The laws of the server's steps: what a refused call leaves, what a step leaves of the other sessions, what a transaction that
 //! only reads sees, what a session holds and that others are refused it, and that rows keep the rules of their columns.
 //!
-//! Enters and leaves nothing, and touches nothing: its calls are laws over the definitions of `machine_model`. A law is a call
+//! Enters and leaves nothing, and touches nothing: its calls are laws over the definitions of `server_words`. A law is a call
 //! that does nothing, whose contract is the law.
 #![tactic(auto)]
 

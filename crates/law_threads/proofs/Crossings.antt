@@ -25,13 +25,14 @@ use Rattle.std.proofs.MapsCrossing.{crosses as maps}
 use Rattle.statement_cache.specs.contracts.kept.Kept as Kept
 use Rattle.statement_cache.specs.contracts.statements.Known as Known
 use Rattle.statement_cache.specs.contracts.statements.Statements as Statements
-use Rattle.machine_model.specs.contracts.index.KeyIndex as KeyIndex
+use Rattle.machine_stores.specs.contracts.index.KeyIndex as KeyIndex
+use Rattle.machine_stores.specs.contracts.stores.Stores as Stores
 use Rattle.machine_model.specs.contracts.machine.PlainMachine as PlainMachine
-use Rattle.machine_model.specs.contracts.rows.Rows as Rows
+use Rattle.server_words.specs.contracts.rows.Rows as Rows
 use Rattle.row_versions.specs.contracts.versions.Versions as Versions
 use Rattle.hold_index.specs.contracts.index.HoldIndex as HoldIndex
 use Rattle.hold_index.specs.contracts.numbers.Numbers as Numbers
-use Rattle.machine_model.specs.contracts.session.Session as Session
+use Rattle.server_words.specs.contracts.session.Session as Session
 use Rattle.txn_engine.specs.contracts.Engine as Engine
 use Rattle.sql_tree.specs.declared.tree.Expr.TheBlock.{the_members, member-Expr}
 
@@ -134,8 +135,11 @@ holds_send = search (numbers_send, crosses, sendable) depth 30
 session_send : IsSend Session.the_field.row
 session_send = search (rows_send, value_send, crosses, sendable) depth 60 fits 100000
 
+stores_send : IsSend Stores.the_field.row
+stores_send = search (rows_send, versions_send, index_send, session_send, holds_send, crosses, sendable) depth 40
+
 machine_send : IsSend PlainMachine.the_field.row
-machine_send = search (start_send, rows_send, versions_send, index_send, session_send, holds_send, statements_send, values_send, value_send, crosses, sendable) depth 40
+machine_send = search (start_send, stores_send, statements_send, values_send, value_send, crosses, sendable) depth 40
 
 pub engine_send : IsSend Engine.the_field.row
 engine_send = search (machine_send, crosses, sendable) depth 20

@@ -4,7 +4,7 @@ use Rattle.desk_values.specs.declared.call.Reply.{Reply}
 use Rattle.desk_values.specs.declared.capture.Captured.{Captured}
 use Rattle.desk_values.specs.declared.capture.Event.{Event}
 use Rattle.desk_values.specs.declared.capture.Event.TheVariants.{Start, Answer}
-use Rattle.machine_model.specs.State.{State}
+use Rattle.server_words.specs.State.{State}
 use Rattle.replay_history.specs.History.{AnswersAt, IsAnswered, IsTruthfulHistory, StartsAt}
 use Rattle.replay_history.specs.Limits.{call_limit}
 use Rattle.id_pairs.specs.Pairs.{HasNoIdTwice, learnt}

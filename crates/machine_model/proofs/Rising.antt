@@ -1,19 +1,19 @@
 -- What a call can depend on rises: own changes, those that savepoints keep, and rows.
 use Rattle.std.proofs.Common.{ℕ, List, [], ◌∷◌, map, Option, None, Some, sym, subst}
 use Rattle.std.specs.List.{AllByRecursion, AllZip}
-use Rattle.machine_model.specs.declared.session.Savepoint.{Savepoint}
-use Rattle.machine_model.specs.declared.viewing.Point.{Point}
-use Rattle.machine_model.specs.declared.viewing.View.{View as Handed}
-use Rattle.machine_model.specs.Rows.{IsRising, lay_all, of_table}
-use Rattle.machine_model.specs.Sound.{HasSoundChanges, IsSoundState, KeepsSound}
-use Rattle.machine_model.specs.State.{State, disconnected, session_at}
-use Rattle.machine_model.specs.View.{commits_seen, view_of}
-use Rattle.machine_model.specs.Views.{IsPointOf, IsViewOf, KeepsRising}
-use Rattle.machine_model.proofs.Looks.{rising_of_table}
-use Rattle.machine_model.proofs.Laying.{rising_lay, rising_lay_all}
-use Rattle.machine_model.proofs.Members.{one_of}
-use Rattle.machine_model.proofs.SoundRows.{sound_none}
-use Rattle.machine_model.proofs.SoundSteps.{tables_stand}
+use Rattle.server_words.specs.declared.session.Savepoint.{Savepoint}
+use Rattle.server_words.specs.declared.views.Point.{Point}
+use Rattle.server_words.specs.declared.views.View.{View as Handed}
+use Rattle.server_words.specs.Rows.{IsRising, lay_all, of_table}
+use Rattle.server_words.specs.Sound.{HasSoundChanges, IsSoundState, KeepsSound}
+use Rattle.server_words.specs.State.{State, disconnected, session_at}
+use Rattle.server_words.specs.View.{commits_seen, view_of}
+use Rattle.server_words.specs.Views.{IsPointOf, IsViewOf, KeepsRising}
+use Rattle.server_words.proofs.Looks.{rising_of_table}
+use Rattle.server_words.proofs.Laying.{rising_lay, rising_lay_all}
+use Rattle.server_words.proofs.Members.{one_of}
+use Rattle.server_words.proofs.SoundRows.{sound_none}
+use Rattle.server_words.proofs.SoundSteps.{tables_stand}
 
 keeps_rising : (savepoints : List Savepoint) (points : List Point) → AllZip IsPointOf savepoints points → AllByRecursion KeepsSound savepoints → AllByRecursion KeepsRising points
 keeps_rising [] [] zip kept = tt

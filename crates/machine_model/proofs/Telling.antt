@@ -10,50 +10,37 @@ use Rattle.desk_values.specs.declared.call.Call.{Call}
 use Rattle.desk_values.specs.declared.call.Reply.{Reply}
 use Rattle.desk_values.specs.Good.{HasGoodShape}
 use Rattle.sql_tree.specs.Plain.{Plan}
-use Rattle.machine_model.specs.declared.effect.Deed.{Deed}
-use Rattle.machine_model.specs.declared.effect.Deed.TheVariants.{Nothing}
+use Rattle.server_words.specs.declared.effect.Deed.{Deed}
+use Rattle.server_words.specs.declared.effect.Deed.TheVariants.{Nothing}
 use Rattle.desk_values.specs.declared.fault.Fault.TheVariants.{NotConnected}
 use Rattle.desk_values.specs.declared.call.Outcome.TheVariants.{Refused}
 use Rattle.desk_schema.specs.declared.schema.Rights.{Rights}
 use Rattle.std.specs.Prelude.{is_none}
-use Rattle.machine_model.specs.declared.effect.Decision.{Decision}
-use Rattle.machine_model.specs.declared.session.Session.{Session}
+use Rattle.server_words.specs.declared.effect.Decision.{Decision}
+use Rattle.server_words.specs.declared.session.Session.{Session}
 use Rattle.desk_schema.specs.Start.{StartView}
 use Rattle.desk_schema.specs.File.{IsStart}
-use Rattle.machine_model.specs.State.{State, disconnected, opening, session_at}
-use Rattle.machine_model.specs.View.{plain_view, view_of}
+use Rattle.server_words.specs.State.{State, disconnected, opening, session_at}
+use Rattle.server_words.specs.View.{plain_view, view_of}
 use Rattle.row_versions.specs.History.{History}
-use Rattle.machine_model.specs.Rows.{IsRising}
-use Rattle.machine_model.specs.Inside.Tables.{AreForgot, AreFrom, ArePut, AreTold, AreWithin, least_seen}
-use Rattle.machine_model.specs.Causes.{statement_fault}
-use Rattle.machine_model.specs.Draws.{is_draw_of, moved}
-use Rattle.machine_model.specs.Request.{request_of, statement, table_in, unsound}
-use Rattle.machine_model.specs.Answer.{Answer, executed, reply_of, unless}
-use Rattle.machine_model.specs.Step.{after, after_made, answer_in, answer_to, committed_in, reply_in, step, view_for, with_commit}
-use Rattle.machine_model.specs.declared.index.KeyIndex.{KeyIndex}
-use Rattle.machine_model.specs.Inside.Index.{AreIndexes}
-use Rattle.machine_model.specs.Inside.Decision.{Decides, Executes, committed_by, done_so, session_left}
-use Rattle.machine_model.specs.Sound.{AreSound, IsSoundState}
-use Rattle.machine_model.specs.Machine.{Running}
-use Rattle.machine_model.specs.Inside.Machine.{Keeps}
-use Rattle.machine_model.proofs.SoundSteps.{opening_sound, reply_shaped, step_sound}
-use Rattle.machine_model.proofs.Forgetting.{floors_told, indexes_forgot, least_after, least_most, told_forgot}
-use Rattle.machine_model.proofs.SoundRows.{ascending_rises}
-use Rattle.machine_model.proofs.Noting.{indexes_after}
-use Rattle.machine_model.proofs.Storing.{told_after, told_later, told_within}
-
--- a fact of some things is one of equal ones
-pub along : {A B C : Type 0} (P : A → B → C → Type 0) {a a' : A} {b b' : B} {c c' : C} → a ≡ a' → b ≡ b' → c ≡ c' → P a b c → P a' b' c'
-along P {a' = a'} {b = b} {b' = b'} {c = c} p q r here = subst (λ z. P a' b' z) r (subst (λ y. P a' y c) q (subst (λ x. P x b c) p here))
-
-pub along_four : {A B C D : Type 0} (P : A → B → C → D → Type 0) {a a' : A} {b b' : B} {c c' : C} {d d' : D} → a ≡ a' → b ≡ b' → c ≡ c' → d ≡ d' → P a b c d → P a' b' c' d'
-along_four P {a' = a'} {b' = b'} {c' = c'} {d = d} p q r s here = subst (λ x. P a' b' c' x) s (along (λ x y z. P x y z d) p q r here)
-
-pub along_five : {A B C D E : Type 0} (P : A → B → C → D → E → Type 0) {a a' : A} {b b' : B} {c c' : C} {d d' : D} {e e' : E} → a ≡ a' → b ≡ b' → c ≡ c' → d ≡ d' → e ≡ e' → P a b c d e → P a' b' c' d' e'
-along_five P {a' = a'} {b' = b'} {c' = c'} {d' = d'} {e = e} p q r s t here = subst (λ x. P a' b' c' d' x) t (along_four (λ w x y z. P w x y z e) p q r s here)
-
-pub along_six : {A B C D E F : Type 0} (P : A → B → C → D → E → F → Type 0) {a a' : A} {b b' : B} {c c' : C} {d d' : D} {e e' : E} {f f' : F} → a ≡ a' → b ≡ b' → c ≡ c' → d ≡ d' → e ≡ e' → f ≡ f' → P a b c d e f → P a' b' c' d' e' f'
-along_six P {a' = a'} {b' = b'} {c' = c'} {d' = d'} {e' = e'} {f = f} p q r s t u here = subst (λ x. P a' b' c' d' e' x) u (along_five (λ v w x y z. P v w x y z f) p q r s t here)
+use Rattle.server_words.specs.Rows.{IsRising}
+use Rattle.machine_stores.specs.Tables.{AreForgot, AreFrom, ArePut, AreTold, AreWithin, least_seen}
+use Rattle.server_words.specs.Causes.{statement_fault}
+use Rattle.server_words.specs.Draws.{is_draw_of, moved}
+use Rattle.server_words.specs.Request.{request_of, statement, table_in, unsound}
+use Rattle.server_words.specs.Answer.{Answer, executed, reply_of, unless}
+use Rattle.server_words.specs.Step.{after, after_made, answer_in, answer_to, committed_in, reply_in, step, view_for, with_commit}
+use Rattle.machine_stores.specs.declared.index.KeyIndex.{KeyIndex}
+use Rattle.machine_stores.specs.Index.{AreIndexes}
+use Rattle.server_words.specs.Decision.{Decides, committed_by, done_so, session_left}
+use Rattle.machine_model.specs.Inside.Machine.{Executes, Keeps}
+use Rattle.server_words.specs.Sound.{AreSound, IsSoundState}
+use Rattle.server_words.specs.Machine.{Running}
+use Rattle.server_words.proofs.SoundSteps.{opening_sound, reply_shaped, step_sound}
+use Rattle.machine_stores.proofs.Forgetting.{floors_told, indexes_forgot, least_after, least_most, told_forgot}
+use Rattle.server_words.proofs.SoundRows.{ascending_rises}
+use Rattle.machine_stores.proofs.Noting.{indexes_after}
+use Rattle.machine_stores.proofs.Storing.{told_after, told_later, told_within}
 
 -- what rights and transaction forbid does not depend on the rows that are seen
 pub same_fault : (state : State) (session : ℕ) (table : Option ℕ) (plan : Plan ℕ) → statement_fault (view_of state session table) plan ≡ statement_fault (plain_view (session_at state session)) plan

@@ -9,10 +9,10 @@ use Rattle.desk_schema.specs.Schema.{SchemaView}
 use Rattle.sql_tree.specs.Plain.{Name, Plan, savepoint, rollback_to}
 use Rattle.sql_eval.specs.Check.{check_of, first_fault}
 use Rattle.sql_eval.specs.SchemaNames.{numbered}
-use Rattle.machine_model.specs.Request.{Request, checked, known_in, names_savepoint, read, statement, table_named, unreadable, unsound}
+use Rattle.server_words.specs.Request.{Request, checked, known_in, names_savepoint, read, statement, table_named, unreadable, unsound}
 use Rattle.machine_model.specs.Inside.Machine.{known_request}
-use Rattle.machine_model.proofs.SoundPlans.{told_ok}
-use Rattle.machine_model.proofs.Versions.{names_mapped}
+use Rattle.server_words.proofs.SoundPlans.{told_ok}
+use Rattle.server_words.proofs.Versions.{names_mapped}
 
 some_is : {X : Type 0} (a b : X) → Some a ≡ Some b → a ≡ b
 some_is a b same = cc

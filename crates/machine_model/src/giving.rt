@@ -5,7 +5,7 @@ ghost use Rattle.std.specs.List.{list_any};
 ghost use Rattle.desk_values.specs.declared.value.Value.TheVariants.{Row as RowId};
 ghost use Rattle.desk_values.specs.Comparison.{same_key};
 ghost use Rattle.desk_values.specs.Ids.{ids_of_image, is_id};
-ghost use Rattle.machine_model.specs.State.{is_between, stands_in};
+ghost use Rattle.server_words.specs.State.{is_between, stands_in};
 
 use desk_values::{Image, Value, same_key};
 
@@ -16,7 +16,7 @@ pub fn stands_in(rows: &[Image], id: &Value) -> bool
     rows.iter().any(|image| has_id(image, id))
 }
 
-#[tactic(auto, using(crate::proofs::Adding::any_filter))]
+#[tactic(auto, using(crate::proofs::Filters::filters))]
 fn has_id(image: &Image, id: &Value) -> bool
     ensures { result ≡ list_any (same_key 1 id.now) (ids_of_image image.now) }
 {

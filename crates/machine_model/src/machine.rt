@@ -3,42 +3,36 @@
 ghost use Rattle.std.specs.Prelude.{◌≡◌, ◌+◌, ◌-◌, ◌<◌, ◌^◌, All, ◌++◌, [], length, replicate, IfOk, OnOk, OnErr};
 ghost use Rattle.std.specs.List.{AllByRecursion};
 ghost use Rattle.sql_eval.specs.Totals.{looked_at};
-ghost use Rattle.machine_model.specs.Draws.{moved};
-ghost use Rattle.machine_model.specs.Apart.{KeysAreApart};
-ghost use Rattle.machine_model.specs.Clean.{is_clean};
-ghost use Rattle.machine_model.specs.Views.{IsViewOf, KeepsRising};
-ghost use Rattle.machine_model.specs.State.{disconnected, is_connected, is_given, opening, session_at, tables};
-ghost use Rattle.machine_model.specs.View.{others, plain_view, rows_seen, view_of};
-ghost use Rattle.machine_model.specs.Request.{request_of};
-ghost use Rattle.machine_model.specs.Step.{Gives, after, after_made, committed_in, view_for};
-ghost use Rattle.machine_model.specs.Inside.Decision.{committed_by, done_so};
-ghost use Rattle.machine_model.specs.Inside.Holds.{IsBeside};
+ghost use Rattle.server_words.specs.Draws.{moved};
+ghost use Rattle.server_words.specs.Apart.{KeysAreApart};
+ghost use Rattle.server_words.specs.Clean.{is_clean};
+ghost use Rattle.server_words.specs.Views.{IsViewOf, KeepsRising};
+ghost use Rattle.server_words.specs.State.{disconnected, is_connected, is_given, opening, session_at, tables};
+ghost use Rattle.server_words.specs.View.{others, plain_view, rows_seen, view_of};
+ghost use Rattle.server_words.specs.Request.{request_of};
+ghost use Rattle.server_words.specs.Step.{Gives, after, after_made, answer_in, committed_in, view_for};
+ghost use Rattle.server_words.specs.Decision.{Decides, committed_by, done_so};
+ghost use Rattle.machine_stores.specs.Holds.{IsBeside};
 ghost use Rattle.desk_values.specs.Good.{IsGoodReply};
-ghost use Rattle.machine_model.specs.Sound.{AreStanding, IsSoundState};
-ghost use Rattle.machine_model.specs.Rows.{IsRising};
+ghost use Rattle.server_words.specs.Sound.{AreStanding, IsSoundState};
+ghost use Rattle.server_words.specs.Rows.{IsRising};
 
 mod calls;
 mod executing;
 
-use crate::draws::move_sequences;
-use crate::effect::Decision;
-use crate::following::enact;
 use crate::giving::{is_between, stands_in};
-use crate::holds::{Others, beside};
-use crate::index::{KeyIndex, indexes_of, note_commit};
-use crate::latest::all_laid;
-use crate::laws::tables_stand;
-use crate::rows::Rows;
-use crate::seeing::rows_seen;
-use crate::session::Session;
-use crate::tables::{forget_unread, tables_of};
-use crate::viewing::{
-    View, copied, held_by_others, keys_of_others, table_of_call, view_without_table,
-};
+use crate::viewing::{copied, held_by_others, keys_of_others, table_of_call, view_without_table};
+use call_deeds::enact;
 use desk_schema::Start;
 use desk_values::{Call, Copied, Image, Images, List, Memory, Reply, SESSION_LIMIT, Value, Values};
+use found_rows::all_laid;
 use hold_index::HoldIndex;
-use row_versions::Versions;
+use machine_stores::{
+    Others, Stores, beside, forget_unread, indexes_of, note_commit, rows_seen, tables_of,
+};
+use server_words::laws::tables_stand;
+use server_words::{Decision, Session, View};
+use statement_acts::move_sequences;
 use statement_cache::Statements;
 use std::alloc::Global;
 use std::marker::Model;
@@ -58,13 +52,9 @@ pub struct Copies {
 pub struct PlainMachine {
     alloc: Global,
     start: Start,
-    commits: Vec<Rows>,
-    versions: Vec<Versions>,
-    indexes: Vec<KeyIndex>,
+    stores: Stores,
     next_row: u64,
     next_values: Vec<u64>,
-    sessions: Vec<Session>,
-    holds: HoldIndex,
     keys_differ: bool,
     statements: Statements,
     steps: u64,
@@ -78,13 +68,9 @@ impl Drop for PlainMachine {
         let PlainMachine {
             alloc: _alloc,
             start: _start,
-            commits: _commits,
-            versions: _versions,
-            indexes: _indexes,
+            stores: _stores,
             next_row: _next_row,
             next_values: _next_values,
-            sessions: _sessions,
-            holds: _holds,
             keys_differ: _keys_differ,
             statements: _statements,
             steps: _steps,
@@ -97,10 +83,10 @@ impl Drop for PlainMachine {
 impl Model for PlainMachine {
     ghost use Rattle.std.specs.Prelude.{◌≡◌, true, [], length};
     ghost use Rattle.desk_values.specs.declared.value.Value.TheVariants.{Null as NoValue};
-    ghost use Rattle.machine_model.specs.Apart.{KeysAreApart};
-    ghost use Rattle.machine_model.specs.Machine.{Running};
-    ghost use Rattle.machine_model.specs.Inside.Holds.{AreHeld};
-    ghost use Rattle.machine_model.specs.Inside.Index.{AreIndexes};
+    ghost use Rattle.server_words.specs.Apart.{KeysAreApart};
+    ghost use Rattle.server_words.specs.Machine.{Running};
+    ghost use Rattle.machine_stores.specs.Holds.{AreHeld};
+    ghost use Rattle.machine_stores.specs.Index.{AreIndexes};
     ghost use Rattle.machine_model.specs.Inside.Machine.{Keeps};
     ghost use Rattle.statement_cache.specs.Kept.{AreRight};
 
@@ -110,10 +96,10 @@ impl Model for PlainMachine {
         record {
           state = record {
             start = a.start;
-            commits = a.commits.items;
+            commits = a.stores.commits.items;
             next_row = a.next_row;
             next_values = a.next_values.items;
-            sessions = a.sessions.items;
+            sessions = a.stores.sessions.items;
           };
           steps = a.steps;
         } };
@@ -122,23 +108,23 @@ impl Model for PlainMachine {
         (record {
           state = record {
             start = a.start;
-            commits = a.commits.items;
+            commits = a.stores.commits.items;
             next_row = a.next_row;
             next_values = a.next_values.items;
-            sessions = a.sessions.items;
+            sessions = a.stores.sessions.items;
           };
           steps = a.steps;
         })
-        a.versions.items
-        × (a.no_values ≡ []) × (a.null ≡ NoValue) × AreIndexes a.indexes.items a.versions.items (length a.commits.items) []
-        × AreRight a.start.schema a.statements × AreHeld a.holds a.sessions.items
+        a.stores.versions.items
+        × (a.no_values ≡ []) × (a.null ≡ NoValue) × AreIndexes a.stores.indexes.items a.stores.versions.items (length a.stores.commits.items) []
+        × AreRight a.start.schema a.statements × AreHeld a.stores.holds a.stores.sessions.items
         × (a.keys_differ ≡ true → KeysAreApart
         (record {
           start = a.start;
-          commits = a.commits.items;
+          commits = a.stores.commits.items;
           next_row = a.next_row;
           next_values = a.next_values.items;
-          sessions = a.sessions.items;
+          sessions = a.stores.sessions.items;
         })) };
 }
 
@@ -157,13 +143,15 @@ impl PlainMachine {
         Ok(PlainMachine {
             alloc,
             start,
-            commits: Vec::new(alloc),
-            versions,
-            indexes,
+            stores: Stores {
+                commits: Vec::new(alloc),
+                sessions,
+                versions,
+                indexes,
+                holds: HoldIndex::new(alloc),
+            },
             next_row,
             next_values,
-            sessions,
-            holds: HoldIndex::new(alloc),
             keys_differ: false,
             statements: Statements::new(alloc),
             steps: 0,
@@ -183,14 +171,14 @@ impl PlainMachine {
     pub fn commits(&self) -> u64
         ensures { result ≡ length self.now.state.commits }
     {
-        self.commits.len() as u64
+        self.stores.commits.len() as u64
     }
 
     /// Whether a session is connected.
     pub fn connected(&self, session: u32) -> bool
         ensures { result ≡ is_connected self.now.state session }
     {
-        match self.sessions.get(session as usize) {
+        match self.stores.sessions.get(session as usize) {
             Some(session) => session.rights.is_some(),
             None => false,
         }
@@ -201,7 +189,7 @@ impl PlainMachine {
     pub fn clean(&self, session: u32) -> bool
         ensures { result ≡ is_clean self.now.state session }
     {
-        match self.sessions.get(session as usize) {
+        match self.stores.sessions.get(session as usize) {
             Some(mine) => {
                 mine.rights.is_some() && mine.snapshot.is_none() && mine.own.changes.len() == 0
             }
@@ -268,7 +256,7 @@ impl PlainMachine {
         self.know_sound();
         tables_stand();
         let start = self.start.rows().as_slice();
-        let rows = all_laid(self.alloc, start, &self.commits)?;
+        let rows = all_laid(self.alloc, start, &self.stores.commits)?;
         copied(self.alloc, &rows)
     }
 
@@ -281,8 +269,10 @@ impl PlainMachine {
         ensures steps { OnOk result (self.new.steps ≡ self.old.steps + 1) }
         ensures err { OnErr result (self.new ≡ self.old) }
     {
-        self.learn(call);
-        self.stepped(session, call)
+        let decision = self.decision(session as usize, call)?;
+        let reply = self.follow(session as usize, decision)?;
+        reply.know_good();
+        Ok(reply)
     }
 
     /// Executes a call of a session. Its reply is given three times: the copies are made before anything changes.
@@ -296,78 +286,6 @@ impl PlainMachine {
         ensures steps { OnOk result (self.new.steps ≡ self.old.steps + 1) }
         ensures err { OnErr result (self.new ≡ self.old) }
     {
-        self.learn(call);
-        self.stepped_copies(session, call)
-    }
-
-    /// The same step, where it is known that no session sees two rows with one key: an INSERT looks for its key alone.
-    pub fn step_apart(&mut self, session: u32, call: &Call) -> Result<Reply, Memory>
-        requires session { session < 64 }
-        requires steps { self.old.steps < 1048576 }
-        requires apart { KeysAreApart self.old.state }
-        ensures ok { IfOk result (λ reply. Gives self.old.state session call.now reply self.new.state) }
-        ensures good { IfOk result (λ reply. IsGoodReply reply) }
-        ensures steps { OnOk result (self.new.steps ≡ self.old.steps + 1) }
-        ensures err { OnErr result (self.new ≡ self.old) }
-    {
-        self.note_apart();
-        self.learn(call);
-        self.stepped(session, call)
-    }
-
-    /// The same, with its reply three times.
-    pub fn step_copies_apart(&mut self, session: u32, call: &Call) -> Result<Copies, Memory>
-        requires session { session < 64 }
-        requires steps { self.old.steps < 1048576 }
-        requires apart { KeysAreApart self.old.state }
-        ensures ok { IfOk result (λ copies. Gives self.old.state session call.now copies.first self.new.state) }
-        ensures second { IfOk result (λ copies. copies.second ≡ copies.first) }
-        ensures third { IfOk result (λ copies. copies.third ≡ copies.first) }
-        ensures good { IfOk result (λ copies. IsGoodReply copies.first) }
-        ensures steps { OnOk result (self.new.steps ≡ self.old.steps + 1) }
-        ensures err { OnErr result (self.new ≡ self.old) }
-    {
-        self.note_apart();
-        self.learn(call);
-        self.stepped_copies(session, call)
-    }
-
-    /// No session sees two rows with one key, until something changes.
-    fn note_apart(&mut self)
-        requires { KeysAreApart self.old.state }
-        ensures { self.new ≡ self.old }
-    {
-        self.keys_differ = true;
-    }
-
-    /// The step of a call whose text is kept, or read anew.
-    fn stepped(&mut self, session: u32, call: &Call) -> Result<Reply, Memory>
-        requires session { session < 64 }
-        requires steps { self.old.steps < 1048576 }
-        ensures ok { IfOk result (λ reply. Gives self.old.state session call.now reply self.new.state) }
-        ensures good { IfOk result (λ reply. IsGoodReply reply) }
-        ensures steps { OnOk result (self.new.steps ≡ self.old.steps + 1) }
-        ensures err { OnErr result (self.new ≡ self.old) }
-    {
-        self.know_sound();
-        let decision = self.decision(session as usize, call)?;
-        let reply = self.follow(session as usize, decision)?;
-        reply.know_good();
-        Ok(reply)
-    }
-
-    /// The same step, with its reply three times.
-    fn stepped_copies(&mut self, session: u32, call: &Call) -> Result<Copies, Memory>
-        requires session { session < 64 }
-        requires steps { self.old.steps < 1048576 }
-        ensures ok { IfOk result (λ copies. Gives self.old.state session call.now copies.first self.new.state) }
-        ensures second { IfOk result (λ copies. copies.second ≡ copies.first) }
-        ensures third { IfOk result (λ copies. copies.third ≡ copies.first) }
-        ensures good { IfOk result (λ copies. IsGoodReply copies.first) }
-        ensures steps { OnOk result (self.new.steps ≡ self.old.steps + 1) }
-        ensures err { OnErr result (self.new ≡ self.old) }
-    {
-        self.know_sound();
         let decision = self.decision(session as usize, call)?;
         let second = decision.reply.copy()?;
         let third = decision.reply.copy()?;
@@ -378,6 +296,28 @@ impl PlainMachine {
             second,
             third,
         })
+    }
+
+    /// No session sees two rows with one key: until something changes an INSERT looks for its key alone.
+    pub fn note_apart(&mut self)
+        requires { KeysAreApart self.old.state }
+        ensures { self.new ≡ self.old }
+    {
+        self.keys_differ = true;
+    }
+
+    /// What a call is answered, and what it does. Its text is kept, if memory is there for that.
+    fn decision(&mut self, session: usize, call: &Call) -> Result<Decision, Memory>
+        requires { session < 64 }
+        ensures same { self.new ≡ self.old }
+        ensures sound { IsSoundState self.new.state }
+        ensures decides { IfOk result
+            (λ decision. Decides (view_for self.new.state session (request_of self.new.state.start.schema call.now))
+            (answer_in self.new.state session call.now) decision) }
+    {
+        self.learn(call);
+        self.know_sound();
+        self.decided(session, call)
     }
 
     /// A machine's state is sound. It costs nothing.
@@ -392,7 +332,7 @@ impl PlainMachine {
         requires { session < 64 }
         ensures { result.now ≡ session_at self.now.state session }
     {
-        &self.sessions[session]
+        &self.stores.sessions[session]
     }
 
     /// The sessions beside it.
@@ -401,7 +341,7 @@ impl PlainMachine {
         ensures others { result.before.now ++ result.after.now ≡ others self.now.state.sessions session }
         ensures beside { IsBeside result }
     {
-        beside(&self.sessions, session, &self.holds)
+        beside(&self.stores.sessions, session, &self.stores.holds)
     }
 
     /// Reads the text of a call, unless it is kept.
@@ -423,8 +363,8 @@ impl PlainMachine {
         rows_seen(
             self.alloc,
             self.start.rows().as_slice(),
-            &self.commits,
-            &self.versions,
+            &self.stores.commits,
+            &self.stores.versions,
             self.session(session),
             table,
         )
@@ -451,23 +391,23 @@ impl PlainMachine {
         self.keys_differ = false;
         enact(
             self.alloc,
-            &mut self.commits,
-            &mut self.versions,
-            &mut self.sessions[session],
-            &mut self.holds,
+            &mut self.stores.commits,
+            &mut self.stores.versions,
+            &mut self.stores.sessions[session],
+            &mut self.stores.holds,
             session as u32,
             deed,
         )?;
         note_commit(
-            &self.versions,
-            self.commits.len() as u64,
-            &mut self.indexes,
+            &self.stores.versions,
+            self.stores.commits.len() as u64,
+            &mut self.stores.indexes,
             &reply.outcome,
         );
         forget_unread(
-            &mut self.versions,
-            &self.sessions,
-            self.commits.len() as u64,
+            &mut self.stores.versions,
+            &self.stores.sessions,
+            self.stores.commits.len() as u64,
             &reply.outcome,
         );
         self.next_row = row_after(reply.made, self.next_row);

@@ -7,91 +7,19 @@ ghost use Rattle.std.specs.Ordering.{nat_cmp};
 ghost use Rattle.desk_values.specs.Sorting.{kind_then_value};
 ghost use Rattle.sql_eval.specs.Totals.{looked_at};
 ghost use Rattle.sql_tree.specs.Plain.{plan_of};
-ghost use Rattle.machine_model.specs.Request.{request_of, read, statement_in, table_in, table_named};
-ghost use Rattle.machine_model.specs.Rows.{row_numbers};
-ghost use Rattle.machine_model.specs.View.{is_held, key_of_table, keys_held, plain_view};
-ghost use Rattle.machine_model.specs.Views.{AreOnce, IsPointOf, IsViewOf, key_id, key_order};
+ghost use Rattle.server_words.specs.Request.{request_of, read, statement_in, table_in, table_named};
+ghost use Rattle.server_words.specs.Rows.{row_numbers};
+ghost use Rattle.server_words.specs.View.{is_held, key_of_table, keys_held, plain_view};
+ghost use Rattle.server_words.specs.Views.{AreOnce, IsPointOf, IsViewOf, key_id, key_order};
 ghost use Rattle.machine_model.specs.Inside.Views.{rows_held};
 
-use crate::holds::Others;
-use crate::session::{HeldKey, Savepoint, Session};
-use desk_schema::{Rights, Schema};
-use desk_values::{
-    Call, Copied, Image, Images, List, Memory, Same, Txt, Value, Values, kind_then_value,
-};
+use desk_schema::Schema;
+use desk_values::{Call, Copied, Image, Images, List, Memory, Txt, Value, Values, kind_then_value};
+use machine_stores::Others;
+use server_words::{HeldKey, KeyId, KeyIds, Point, Points, RowIds, Savepoint, Session, View};
 use sql_reader::{SqlErr, Statement, read_statement};
 use std::alloc::Global;
 use std::cmp::Ordering;
-
-/// Numbers of rows.
-pub type RowIds = List<u64>;
-
-/// A key of a table.
-#[derive(Drop)]
-pub struct KeyId {
-    /// The number of the table.
-    pub table: u32,
-    /// The value of the key.
-    pub key: Value,
-}
-
-impl Copied for KeyId {
-    fn copy(&self) -> Result<KeyId, Memory> {
-        let key = self.key.copy()?;
-        Ok(KeyId {
-            table: self.table,
-            key,
-        })
-    }
-}
-
-impl Same for KeyId {
-    fn same(&self, other: &KeyId) -> bool {
-        self.table == other.table && self.key.same(&other.key)
-    }
-}
-
-/// Keys of tables.
-pub type KeyIds = List<KeyId>;
-
-/// What a transaction had of its own at a savepoint.
-#[derive(Drop)]
-pub struct Point {
-    /// The savepoint's name.
-    pub name: Txt,
-    /// The changes, ascending by row.
-    pub changes: Images,
-    /// The rows that were held, ascending.
-    pub held_rows: RowIds,
-    /// The keys that were held, by table and then as rows are sorted.
-    pub held_keys: KeyIds,
-}
-
-/// Savepoints, the oldest first.
-pub type Points = List<Point>;
-
-/// What a call of a session can depend on, beside the schema and the counters: nothing else of the server changes its answer.
-#[derive(Drop)]
-pub struct View {
-    /// The session's rights, `None` where it is not connected.
-    pub rights: Option<Rights>,
-    /// Whether its transaction only reads.
-    pub read_only: bool,
-    /// Its own changes, ascending by row.
-    pub changes: Images,
-    /// The rows that it holds, ascending.
-    pub held_rows: RowIds,
-    /// The keys that it holds, by table and then as rows are sorted.
-    pub held_keys: KeyIds,
-    /// Its savepoints, the oldest first.
-    pub points: Points,
-    /// Where the call is a statement on a table, that table's rows as the session sees them, ascending.
-    pub rows: Images,
-    /// Those of them that another session holds, ascending.
-    pub others_rows: RowIds,
-    /// The keys of that table that another session holds, as rows are sorted.
-    pub others_keys: Values,
-}
 
 /// The view of a session whose call is a statement on no table.
 pub fn view_without_table(alloc: Global, session: &Session) -> Result<View, Memory>

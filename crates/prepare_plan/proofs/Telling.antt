@@ -10,9 +10,9 @@ use Rattle.desk_schema.specs.Schema.{SchemaView, place_ignoring_case, table_name
 use Rattle.sql_tree.specs.Plain.{Name, Plan, set_read_only}
 use Rattle.sql_eval.specs.Check.{check_of, first_fault}
 use Rattle.sql_eval.specs.SchemaNames.{numbered, table_of}
-use Rattle.machine_model.specs.Request.{checked, table_in, table_named}
-use Rattle.machine_model.proofs.Handing.{checked_table}
-use Rattle.machine_model.proofs.SoundPlans.{told_ok}
+use Rattle.server_words.specs.Request.{checked, table_in, table_named}
+use Rattle.server_words.proofs.Handing.{checked_table}
+use Rattle.server_words.proofs.SoundPlans.{told_ok}
 use Rattle.captured_calls.specs.Facts.{only_table, refs_of_statement}
 use Rattle.prepare_plan.specs.Inside.{refs_of_plan}
 use Rattle.prepare_plan.proofs.Places.{place_within}

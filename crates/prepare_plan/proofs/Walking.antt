@@ -10,8 +10,8 @@ use Rattle.captured_calls.specs.declared.refusal.Refusal.TheVariants.{Number, Ti
 use Rattle.captured_calls.specs.Tests.{unless, bad_number, bad_times, right_number, asked, bad_reply, right_reply}
 use Rattle.desk_values.specs.declared.call.Reply.{Reply}
 use Rattle.desk_schema.specs.Start.{StartView}
-use Rattle.machine_model.specs.State.{State, opening}
-use Rattle.machine_model.specs.Step.{reply_in, run, step}
+use Rattle.server_words.specs.State.{State, opening}
+use Rattle.server_words.specs.Step.{reply_in, run, step}
 use Rattle.captured_calls.specs.Same.{same_reply}
 use Rattle.captured_calls.proofs.Scanning.{taken}
 use Rattle.captured_calls.proofs.Legality.{run_more}

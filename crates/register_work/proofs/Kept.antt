@@ -5,10 +5,14 @@ use Rattle.replay_history.specs.declared.report.Report.{Report}
 use Rattle.report_format.specs.ReportFile.{IsReport}
 use Rattle.run_register.specs.Register.{DivergenceSet, RunMap}
 use Rattle.register_work.specs.Errand.{Finds, IsRun}
-use Rattle.register_work.specs.Keeping.{KeepsAll, keeping}
+use Rattle.register_work.specs.Keeping.{KeepsAll, Keeping}
 
-module _ (r0 r1 r2 : Option RunMap) (d0 d1 d2 : Option DivergenceSet) (f0 f1 f2 : ℕ) (first : KeepsAll (keeping r0 r1 d0 d1 f0 f1) Answered) where
-  pub keeps_on : (ending : Ending) → KeepsAll (keeping r1 r2 d1 d2 f1 f2) ending → KeepsAll (keeping r0 r2 d0 d2 f0 f2) ending
+-- what becomes of a keeper, by its parts
+abbrev pub keeping_of : Option RunMap → Option RunMap → Option DivergenceSet → Option DivergenceSet → ℕ → ℕ → Keeping
+keeping_of rb ra db da fb fa = record { runs_before = rb; runs_after = ra; divergences_before = db; divergences_after = da; faults_before = fb; faults_after = fa }
+
+module _ (r0 r1 r2 : Option RunMap) (d0 d1 d2 : Option DivergenceSet) (f0 f1 f2 : ℕ) (first : KeepsAll (keeping_of r0 r1 d0 d1 f0 f1) Answered) where
+  pub keeps_on : (ending : Ending) → KeepsAll (keeping_of r1 r2 d1 d2 f1 f2) ending → KeepsAll (keeping_of r0 r2 d0 d2 f0 f2) ending
   keeps_on ending second = record {
     runs = second.runs ∙ first.runs;
     divergences = second.divergences ∙ first.divergences;

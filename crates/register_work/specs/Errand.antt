@@ -3,7 +3,7 @@ use Rattle.std.specs.Prelude.{◌≡◌, ◌≢◌, ℕ, ◌<◌, ◌≤◌, ◌
 use Rattle.std.specs.List.{list_any}
 use Rattle.std.specs.Option.{option_map}
 use Rattle.std.specs.FinMap.{entries, get}
-use Rattle.desk_files.specs.Outside.{Answered, DeviceFailed, MemoryShort, Told}
+use Rattle.desk_files.specs.Outside.{Answered, Counts, DeviceFailed, Ending, MemoryShort, Told}
 use Rattle.replay_history.specs.declared.report.Class.{Class}
 use Rattle.replay_history.specs.declared.report.Line.{Line}
 use Rattle.replay_history.specs.declared.report.Report.{Report}
@@ -158,3 +158,15 @@ abbrev pub IsNotDone : Errand → Keeping → ErrandErr → Type 0
 IsNotDone errand k (NotDone cause) = IsCause errand k.runs_before cause × KeepsAll k Answered
 IsNotDone errand k Failed = KeepsAll k DeviceFailed
 IsNotDone errand k Memory = KeepsAll k MemoryShort
+
+-- ---- a keeper that could not be closed
+
+-- what becomes of a keeper, but for the faults behind what it answered
+abbrev pub unfailed : Keeping → Keeping
+unfailed k = record k { faults_after = k.faults_before }
+
+-- an errand was answered, and then the keeper could not be closed
+pub record IsUnclosed (errand : Errand) (k : Keeping) (ending : Ending) : Type 0 where
+  pub answer : Answer
+  pub answered : IsAnswered errand (unfailed k) answer
+  pub faults : Counts ending k.faults_before k.faults_after

@@ -1,7 +1,7 @@
 -- A keeper before and after it was asked, as far as it tells.
 use Rattle.std.specs.Prelude.{◌≡◌, ℕ, Option}
 use Rattle.desk_files.specs.Outside.{Counts, Ending}
-use Rattle.run_register.specs.Register.{DivergenceSet, RunMap}
+use Rattle.run_register.specs.Register.{DivergenceSet, KeeperAccount, RunMap}
 
 -- the runs, the accepted divergences, and the count of faults
 pub record Keeping : Type 0 where
@@ -12,8 +12,8 @@ pub record Keeping : Type 0 where
   pub faults_before : ℕ
   pub faults_after : ℕ
 
-abbrev pub keeping : Option RunMap → Option RunMap → Option DivergenceSet → Option DivergenceSet → ℕ → ℕ → Keeping
-keeping rb ra db da fb fa = record { runs_before = rb; runs_after = ra; divergences_before = db; divergences_after = da; faults_before = fb; faults_after = fa }
+abbrev pub keeping : KeeperAccount → KeeperAccount → Keeping
+keeping before after = record { runs_before = before.runs; runs_after = after.runs; divergences_before = before.divergences; divergences_after = after.divergences; faults_before = before.faults; faults_after = after.faults }
 
 -- all that is told is as before, and the count of faults goes as at this ending
 pub record KeepsAll (k : Keeping) (ending : Ending) : Type 0 where

@@ -25,8 +25,9 @@ pub fn do_errand<K: Keeper>(
     errand: &Errand,
     keeper: &mut K,
 ) -> Result<Answer, ErrandErr>
-    ensures done { IfOk result (IsAnswered errand.now (keeping (K.runs keeper.old) (K.runs keeper.new) (K.divergences keeper.old) (K.divergences keeper.new) (K.faults keeper.old) (K.faults keeper.new))) }
-    ensures fails { IfErr result (IsNotDone errand.now (keeping (K.runs keeper.old) (K.runs keeper.new) (K.divergences keeper.old) (K.divergences keeper.new) (K.faults keeper.old) (K.faults keeper.new))) }
+    ensures done { IfOk result (IsAnswered errand.now (keeping (K.account keeper.old) (K.account keeper.new))) }
+    ensures fails { IfErr result (IsNotDone errand.now (keeping (K.account keeper.old) (K.account keeper.new))) }
+    ensures closes { (K.account keeper.new).closes ≡ (K.account keeper.old).closes }
 {
     match errand {
         Errand::Register(name, bytes, report) => keep_run(alloc, name, bytes, report, keeper),
@@ -44,8 +45,9 @@ fn keep_run<K: Keeper>(
     report: &Report,
     keeper: &mut K,
 ) -> Result<Answer, ErrandErr>
-    ensures done { IfOk result (IsRegistered name.now bytes.now report.now (keeping (K.runs keeper.old) (K.runs keeper.new) (K.divergences keeper.old) (K.divergences keeper.new) (K.faults keeper.old) (K.faults keeper.new))) }
-    ensures fails { IfErr result (IsNotDone (Register name.now bytes.now report.now) (keeping (K.runs keeper.old) (K.runs keeper.new) (K.divergences keeper.old) (K.divergences keeper.new) (K.faults keeper.old) (K.faults keeper.new))) }
+    ensures done { IfOk result (IsRegistered name.now bytes.now report.now (keeping (K.account keeper.old) (K.account keeper.new))) }
+    ensures fails { IfErr result (IsNotDone (Register name.now bytes.now report.now) (keeping (K.account keeper.old) (K.account keeper.new))) }
+    ensures closes { (K.account keeper.new).closes ≡ (K.account keeper.old).closes }
 {
     let text = registered_line(alloc, name, report)?;
     match register(keeper, name, bytes.as_slice()) {
@@ -57,8 +59,9 @@ fn keep_run<K: Keeper>(
 }
 
 fn list_runs<K: Keeper>(alloc: Global, keeper: &mut K) -> Result<Answer, ErrandErr>
-    ensures done { IfOk result (IsListed (keeping (K.runs keeper.old) (K.runs keeper.new) (K.divergences keeper.old) (K.divergences keeper.new) (K.faults keeper.old) (K.faults keeper.new))) }
-    ensures fails { IfErr result (IsNotDone Runs (keeping (K.runs keeper.old) (K.runs keeper.new) (K.divergences keeper.old) (K.divergences keeper.new) (K.faults keeper.old) (K.faults keeper.new))) }
+    ensures done { IfOk result (IsListed (keeping (K.account keeper.old) (K.account keeper.new))) }
+    ensures fails { IfErr result (IsNotDone Runs (keeping (K.account keeper.old) (K.account keeper.new))) }
+    ensures closes { (K.account keeper.new).closes ≡ (K.account keeper.old).closes }
 {
     let runs = keeper.all()?;
     let text = runs_text(alloc, runs.as_slice())?;
@@ -73,8 +76,9 @@ fn accept_one<K: Keeper>(
     class: Class,
     keeper: &mut K,
 ) -> Result<Answer, ErrandErr>
-    ensures done { IfOk result (IsAccepted name.now stamp class (keeping (K.runs keeper.old) (K.runs keeper.new) (K.divergences keeper.old) (K.divergences keeper.new) (K.faults keeper.old) (K.faults keeper.new))) }
-    ensures fails { IfErr result (IsNotDone (Accept name.now stamp class) (keeping (K.runs keeper.old) (K.runs keeper.new) (K.divergences keeper.old) (K.divergences keeper.new) (K.faults keeper.old) (K.faults keeper.new))) }
+    ensures done { IfOk result (IsAccepted name.now stamp class (keeping (K.account keeper.old) (K.account keeper.new))) }
+    ensures fails { IfErr result (IsNotDone (Accept name.now stamp class) (keeping (K.account keeper.old) (K.account keeper.new))) }
+    ensures closes { (K.account keeper.new).closes ≡ (K.account keeper.old).closes }
 {
     let bytes = bytes_of(name, keeper)?;
     let report = report_of(alloc, name, bytes.as_slice())?;
@@ -92,8 +96,9 @@ fn compare_runs<K: Keeper>(
     b: &Txt,
     keeper: &mut K,
 ) -> Result<Answer, ErrandErr>
-    ensures done { IfOk result (IsCompared a.now b.now (keeping (K.runs keeper.old) (K.runs keeper.new) (K.divergences keeper.old) (K.divergences keeper.new) (K.faults keeper.old) (K.faults keeper.new))) }
-    ensures fails { IfErr result (IsNotDone (Compare a.now b.now) (keeping (K.runs keeper.old) (K.runs keeper.new) (K.divergences keeper.old) (K.divergences keeper.new) (K.faults keeper.old) (K.faults keeper.new))) }
+    ensures done { IfOk result (IsCompared a.now b.now (keeping (K.account keeper.old) (K.account keeper.new))) }
+    ensures fails { IfErr result (IsNotDone (Compare a.now b.now) (keeping (K.account keeper.old) (K.account keeper.new))) }
+    ensures closes { (K.account keeper.new).closes ≡ (K.account keeper.old).closes }
 {
     let first_bytes = bytes_of(a, keeper)?;
     let second_bytes = bytes_of(b, keeper)?;

@@ -1,6 +1,6 @@
 //! Runs that are asked for, and their reports.
 
-ghost use Rattle.std.specs.Prelude.{IfErr, IfOk, OnOk, Some, map};
+ghost use Rattle.std.specs.Prelude.{◌≡◌, IfErr, IfOk, OnOk, Some, map};
 ghost use Rattle.run_register.specs.Register.{entry_of};
 ghost use Rattle.report_format.specs.ReportFile.{IsReport};
 ghost use Rattle.register_work.specs.Errand.{Finds};
@@ -20,9 +20,10 @@ use std::alloc::Global;
 
 /// The bytes of the report of the run of this name.
 pub(crate) fn bytes_of<K: Keeper>(name: &Txt, keeper: &mut K) -> Result<Bytes, ErrandErr>
-    ensures found { IfOk result (λ bytes. Finds (K.runs keeper.old) name.now (Some bytes)) }
-    ensures stops { IfErr result (Stops (IsMissing (K.runs keeper.old) name.now)) }
-    ensures keeps { KeepsAll (keeping (K.runs keeper.old) (K.runs keeper.new) (K.divergences keeper.old) (K.divergences keeper.new) (K.faults keeper.old) (K.faults keeper.new)) (ending result) }
+    ensures found { IfOk result (λ bytes. Finds (K.account keeper.old).runs name.now (Some bytes)) }
+    ensures stops { IfErr result (Stops (IsMissing (K.account keeper.old).runs name.now)) }
+    ensures keeps { KeepsAll (keeping (K.account keeper.old) (K.account keeper.new)) (ending result) }
+    ensures closes { (K.account keeper.new).closes ≡ (K.account keeper.old).closes }
 {
     match keeper.get(name)? {
         Some(bytes) => Ok(bytes),

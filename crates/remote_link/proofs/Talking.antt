@@ -1,10 +1,10 @@
 -- What the bytes that were left give, by what is held of them.
-use Rattle.std.proofs.Common.{◌≡◌, ℕ, ◌+◌, List, [], ◌++◌, take, drop, slice_range, Option, None, Some, Result, Ok, Err, IfOk, ◌⊎◌, refl, sym, ap, ◌∙◌, inl, inr, append_assoc, append-nil}
+use Rattle.std.proofs.Common.{◌≡◌, ℕ, ◌+◌, List, [], ◌++◌, take, drop, slice_range, Option, None, Some, Result, Ok, Err, IfOk, rules, ◌⊎◌, refl, sym, ap, ◌∙◌, inl, inr, append_assoc, append-nil}
 use Rattle.std.proofs.lemmas.List.{take-append-drop}
 use Rattle.std.specs.Prelude.{IsErrOf}
 use Rattle.desk_values.specs.declared.call.Call.{Call}
 use Rattle.desk_values.specs.declared.call.Reply.{Reply}
-use Rattle.desk_files.specs.Outside.{Appends, HasRisen, Told}
+use Rattle.desk_files.specs.Outside.{Appends, AppendsPart, HasRisen, Told}
 use Rattle.http_answers.specs.declared.answer.Answer.{Answer}
 use Rattle.http_answers.specs.Answers.{IsAnswer, IsUnfinished, IsWholeAt, NeverAnswers}
 use Rattle.http_answers.proofs.Answering.{agree}
@@ -60,6 +60,13 @@ mute_on before held (Some x) (Some y) answer keeps whole mute =
     let n = answer.head + answer.body in
     let parts : before ++ x ≡ take n held ++ (drop n held ++ y) = keeps ∙ ap (λ (l : List ℕ). l ++ y) (sym (take-append-drop n held)) ∙ append_assoc (take n held) (drop n held) y in
     mute_gives_none (take n held) (drop n held ++ y) answer.status (slice_range held answer.head n) (before ++ x) parts whole.is mute
+
+-- ---- what was sent
+
+-- where nothing was written
+pub nothing_sent : (bytes : List ℕ) (written : Option (List ℕ)) → AppendsPart bytes written written
+nothing_sent bytes None = tt
+nothing_sent bytes (Some told) = (0, search rules)
 
 -- ---- how a call ends
 

@@ -34,16 +34,18 @@ is_failing fails number = list_any (λ n. n == number) fails
 abbrev pub next_reply : MemoryLine → Option Reply
 next_reply line = if is_failing line.fails line.made then None else slice_get line.replies line.given
 
--- the counts of a dial: how many calls failed, here or on a line that was given back, how often it was dialled, and how often a line
--- was given back, whatever came of it
+-- the counts of a dial in memory, or of the network: how many calls failed, here or on a line that was given back, how often it was
+-- dialled, how often that failed, and how often a line was given back, whatever came of it; and the port that was asked for last
 pub record DialCounts : Type 0 where
   pub faults : ℕ
+  pub port : Option ℕ
   pub dials : ℕ
+  pub failed : ℕ
   pub backs : ℕ
 
 -- before any call
 abbrev pub no_dials : DialCounts
-no_dials = record { faults = 0; dials = 0; backs = 0 }
+no_dials = record { faults = 0; port = None; dials = 0; failed = 0; backs = 0 }
 
 -- a dial in memory: the scripts that are left, which dials are to fail, its counts, and the lines that were given back
 pub record MemoryDial : Type 0 where

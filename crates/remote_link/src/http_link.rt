@@ -1,10 +1,10 @@
 ghost use Rattle.std.specs.Prelude.{◌≡◌, ◌⊎◌, [], IfOk, IsErrOf, None};
-ghost use Rattle.desk_files.specs.Outside.{HasRisen, Told, counted};
+ghost use Rattle.desk_files.specs.Outside.{AppendsPart, HasRisen, Told, counted};
 ghost use Rattle.desk_values.specs.Good.{IsGoodReply};
 ghost use Rattle.remote_link.specs.declared.link_err.LinkErr.TheVariants.{Failed as LineFailed};
 ghost use Rattle.remote_link.specs.Heard.{link_ending};
 ghost use Rattle.remote_link.specs.Inside.{Reads};
-ghost use Rattle.remote_link.specs.Talk.{Converses, GivesNone, left_of, never_given};
+ghost use Rattle.remote_link.specs.Talk.{Converses, GivesNone, left_of, never_given, request_text};
 
 use crate::inbox::Inbox;
 use crate::link::Link;
@@ -49,15 +49,16 @@ impl<I: Source + Drop, O: Sink + Drop> HttpLink<I, O> {
         }
     }
 
-    // Sends the request of a call by one write, and takes its answer.
+    // Sends the request of a call by one write, and takes its answer. Whatever comes of it, no more is sent than the one request.
     fn ask(&mut self, call: &Call) -> Result<Reply, LinkErr>
         ensures good { IfOk result IsGoodReply }
         ensures ok { IfOk result (λ reply. Converses call.now reply
-            (left_of self.old.held (I.content self.old.input)) (left_of self.new.held (I.content self.new.input))
-            (O.content self.old.output) (O.content self.new.output)) }
-        ensures failed { IsErrOf result LineFailed → HasRisen (I.faults self.old.input) (I.faults self.new.input)
-            ⊎ HasRisen (O.faults self.old.output) (O.faults self.new.output)
-            ⊎ Told (left_of self.old.held (I.content self.old.input)) GivesNone }
+            (left_of self.old.held (I.account self.old.input).content) (left_of self.new.held (I.account self.new.input).content)
+            (O.account self.old.output).content (O.account self.new.output).content) }
+        ensures failed { IsErrOf result LineFailed → HasRisen (I.account self.old.input).faults (I.account self.new.input).faults
+            ⊎ HasRisen (O.account self.old.output).faults (O.account self.new.output).faults
+            ⊎ Told (left_of self.old.held (I.account self.old.input).content) GivesNone }
+        ensures sent { AppendsPart (request_text call.now) (O.account self.old.output).content (O.account self.new.output).content }
         ensures count { self.new.faults ≡ self.old.faults }
     {
         let request = request_of(self.alloc, call)?;
@@ -71,18 +72,17 @@ impl<I: Source + Drop, O: Sink + Drop> HttpLink<I, O> {
 }
 
 impl<I: Source + Drop, O: Sink + Drop> Link for HttpLink<I, O> {
-    ghost content = { λ _. None };
-
-    ghost fault_count = { λ s. s.faults };
+    ghost account = { λ s. record { content = None; faults = s.faults } };
 
     fn call(&mut self, call: &Call) -> Result<Reply, LinkErr>
         ensures good { IfOk result IsGoodReply }
         ensures ok { IfOk result (λ reply. Converses call.now reply
-            (left_of self.old.held (I.content self.old.input)) (left_of self.new.held (I.content self.new.input))
-            (O.content self.old.output) (O.content self.new.output)) }
-        ensures failed { IsErrOf result LineFailed → HasRisen (I.faults self.old.input) (I.faults self.new.input)
-            ⊎ HasRisen (O.faults self.old.output) (O.faults self.new.output)
-            ⊎ Told (left_of self.old.held (I.content self.old.input)) GivesNone }
+            (left_of self.old.held (I.account self.old.input).content) (left_of self.new.held (I.account self.new.input).content)
+            (O.account self.old.output).content (O.account self.new.output).content) }
+        ensures failed { IsErrOf result LineFailed → HasRisen (I.account self.old.input).faults (I.account self.new.input).faults
+            ⊎ HasRisen (O.account self.old.output).faults (O.account self.new.output).faults
+            ⊎ Told (left_of self.old.held (I.account self.old.input).content) GivesNone }
+        ensures sent { AppendsPart (request_text call.now) (O.account self.old.output).content (O.account self.new.output).content }
         ensures count { self.new.faults ≡ counted (link_ending result) self.old.faults }
     {
         let reply = self.ask(call);

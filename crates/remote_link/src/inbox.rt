@@ -55,9 +55,9 @@ impl Inbox {
     /// Reads until a whole answer is held. `Failed` where the input fails or ends before, or what came is the front of none.
     #[tactic(auto, using(crate::proofs::Keeping::loses_trans, crate::proofs::Keeping::stops_later))]
     pub(crate) fn next_answer<I: Source>(&mut self, input: &mut I) -> Result<Answer, LinkErr>
-        ensures kept { LosesNothing self.old (I.content input.old) self.new (I.content input.new) }
-        ensures counts { I.faults input.old ≤ I.faults input.new }
-        ensures came { AnswerCame result self.new (I.content input.old) (I.content input.new) (I.faults input.old) (I.faults input.new) }
+        ensures kept { LosesNothing self.old (I.account input.old).content self.new (I.account input.new).content }
+        ensures counts { (I.account input.old).faults ≤ (I.account input.new).faults }
+        ensures came { AnswerCame result self.new (I.account input.old).content (I.account input.new).content (I.account input.old).faults (I.account input.new).faults }
     {
         let answer = self.read_head(input)?;
         self.read_body(input, &answer)?;
@@ -67,10 +67,10 @@ impl Inbox {
     // Reads until the head of an answer begins what is held.
     #[tactic(auto, using(crate::proofs::Keeping::loses_refl, crate::proofs::Keeping::loses_trans, crate::proofs::Keeping::came_stops, crate::proofs::Keeping::ended_hopeless))]
     fn read_head<I: Source>(&mut self, input: &mut I) -> Result<Answer, LinkErr>
-        ensures kept { LosesNothing self.old (I.content input.old) self.new (I.content input.new) }
-        ensures counts { I.faults input.old ≤ I.faults input.new }
-        ensures same { OnOk result (I.faults input.new ≡ I.faults input.old) }
-        ensures came { HeadCame result self.new (I.content input.old) (I.content input.new) (I.faults input.old) (I.faults input.new) }
+        ensures kept { LosesNothing self.old (I.account input.old).content self.new (I.account input.new).content }
+        ensures counts { (I.account input.old).faults ≤ (I.account input.new).faults }
+        ensures same { OnOk result ((I.account input.new).faults ≡ (I.account input.old).faults) }
+        ensures came { HeadCame result self.new (I.account input.old).content (I.account input.new).content (I.account input.old).faults (I.account input.new).faults }
     {
         loop {
             match front_of(self.bytes()) {
@@ -88,9 +88,9 @@ impl Inbox {
     #[tactic(auto, using(crate::proofs::Keeping::loses_refl, crate::proofs::Keeping::loses_trans, crate::proofs::Keeping::begins_later, crate::proofs::Keeping::came_stops, crate::proofs::Keeping::ended_hopeless, http_answers::proofs::Fronts::short_unfinished))]
     fn read_body<I: Source>(&mut self, input: &mut I, answer: &Answer) -> Result<(), LinkErr>
         requires begins { Begins self.old answer.now }
-        ensures kept { LosesNothing self.old (I.content input.old) self.new (I.content input.new) }
-        ensures counts { I.faults input.old ≤ I.faults input.new }
-        ensures came { BodyCame result answer.now self.new (I.content input.old) (I.content input.new) (I.faults input.old) (I.faults input.new) }
+        ensures kept { LosesNothing self.old (I.account input.old).content self.new (I.account input.new).content }
+        ensures counts { (I.account input.old).faults ≤ (I.account input.new).faults }
+        ensures came { BodyCame result answer.now self.new (I.account input.old).content (I.account input.new).content (I.account input.old).faults (I.account input.new).faults }
     {
         while !answer.is_whole(self.bytes()) {
             if self.read_more(input)? == 0 {
@@ -103,10 +103,10 @@ impl Inbox {
     // Reads bytes behind those that are held, and says how many. The room for them is taken first.
     #[tactic(auto, using(crate::proofs::Keeping::read_keeps, crate::proofs::Keeping::came_so))]
     fn read_more<I: Source>(&mut self, input: &mut I) -> Result<usize, LinkErr>
-        ensures kept { LosesNothing self.old (I.content input.old) self.new (I.content input.new) }
-        ensures counts { I.faults input.old ≤ I.faults input.new }
-        ensures same { OnOk result (I.faults input.new ≡ I.faults input.old) }
-        ensures came { Came result self.old self.new (I.content input.old) (I.content input.new) (I.faults input.old) (I.faults input.new) }
+        ensures kept { LosesNothing self.old (I.account input.old).content self.new (I.account input.new).content }
+        ensures counts { (I.account input.old).faults ≤ (I.account input.new).faults }
+        ensures same { OnOk result ((I.account input.new).faults ≡ (I.account input.old).faults) }
+        ensures came { Came result self.old self.new (I.account input.old).content (I.account input.new).content (I.account input.old).faults (I.account input.new).faults }
     {
         let mut chunk = [0; READ_LIMIT];
         if self.held.reserve(READ_LIMIT).is_err() {

@@ -17,14 +17,16 @@ pub type MemScripts = List<MemScript>;
 
 /// A dial in memory, which tells what was said on the lines that were given back. It gives one line for each script. Its dials are
 /// numbered from 0; those whose numbers were given to [`MemDial::new`] fail, and so do those past the scripts. A dial that fails
-/// changes nothing but two of its counts.
+/// changes nothing but three of its counts and the port that it was asked for.
 #[derive(Drop)]
 pub struct MemDial {
     alloc: Global,
     scripts: Vec<MemScript>,
     fails: Stamps,
     faults: u64,
+    port: Option<u16>,
     dials: u64,
+    failed: u64,
     backs: u64,
     returned: Vec<MemLine>,
 }
@@ -37,7 +39,7 @@ impl Model for MemDial {
     ghost view = { λ a. record {
       scripts = a.scripts.items;
       fails = a.fails;
-      counts = record { faults = a.faults; dials = a.dials; backs = a.backs };
+      counts = record { faults = a.faults; port = a.port; dials = a.dials; failed = a.failed; backs = a.backs };
       returned = a.returned.items;
     } };
 }
@@ -52,7 +54,9 @@ impl MemDial {
             scripts: scripts.into_vec(),
             fails,
             faults: 0,
+            port: None,
             dials: 0,
+            failed: 0,
             backs: 0,
             returned: Vec::new(alloc),
         }
@@ -75,21 +79,26 @@ impl MemDial {
 impl Dial for MemDial {
     type Line = MemLine;
 
-    ghost content = { λ s. Some (said_on s) };
+    ghost account = { λ s. record { content = Some (said_on s); faults = s.counts.faults; port = s.counts.port; dials = s.counts.dials; failed = s.counts.failed; backs = s.counts.backs } };
 
-    ghost counts = { λ s. s.counts };
-
-    fn dial(&mut self, _port: u16) -> Result<MemLine, Failed>
+    fn dial(&mut self, port: u16) -> Result<MemLine, Failed>
         ensures ok { IfOk result (λ line. (script : Script) × (line ≡ line_of script) × (self.old.scripts ≡ script ∷ self.new.scripts)
-            × (self.new ≡ record self.old { scripts = self.new.scripts; counts = record self.old.counts { dials = raised self.old.counts.dials } })) }
+            × (self.new ≡ record self.old { scripts = self.new.scripts; counts = record self.old.counts { port = Some port; dials = raised self.old.counts.dials } })) }
         ensures err { OnErr result (self.new ≡ record self.old {
-          counts = record self.old.counts { faults = raised self.old.counts.faults; dials = raised self.old.counts.dials };
+          counts = record self.old.counts {
+            faults = raised self.old.counts.faults;
+            port = Some port;
+            dials = raised self.old.counts.dials;
+            failed = raised self.old.counts.failed;
+          };
         }) }
         ensures failed { IsErr result ↔ ((is_failing self.old.fails self.old.counts.dials ≡ true) ⊎ (self.old.scripts ≡ [])) }
     {
         let failing = is_failing(&self.fails, self.dials);
         self.dials = self.dials.saturating_add(1);
+        self.port = Some(port);
         if failing || self.scripts.is_empty() {
+            self.failed = self.failed.saturating_add(1);
             self.count_fault();
             return Err(Failed);
         }

@@ -129,9 +129,7 @@ impl MemLine {
 }
 
 impl Link for MemLine {
-    ghost content = { λ s. Some s.said };
-
-    ghost fault_count = { λ s. s.faults };
+    ghost account = { λ s. record { content = Some s.said; faults = s.faults } };
 
     fn call(&mut self, call: &Call) -> Result<Reply, LinkErr>
         ensures good { IfOk result IsGoodReply }

@@ -1,6 +1,7 @@
-ghost use Rattle.std.specs.Prelude.{◌≡◌, None, IfOk, IsOk, nat_lt, if◌then◌else◌};
+ghost use Rattle.std.specs.Prelude.{◌≡◌, None, Some, IfOk, IsOk, nat_lt, if◌then◌else◌};
 ghost use Rattle.desk_files.specs.Hosts.{accept_ending};
 ghost use Rattle.desk_files.specs.Outside.{counted, raised};
+ghost use Rattle.remote_link.specs.Dials.{failed_by};
 ghost use Rattle.remote_link.specs.Lines.{no_dials};
 
 use crate::dial::Dial;
@@ -19,7 +20,9 @@ pub struct RealDial<'a, R> {
     alloc: Global,
     system: &'a R,
     faults: u64,
+    port: Option<u16>,
     dials: u64,
+    failed: u64,
     backs: u64,
 }
 
@@ -28,7 +31,7 @@ impl<'a, R> Model for RealDial<'a, R> {
 
     ghost Value = { DialCounts };
 
-    ghost view = { λ a. record { faults = a.faults; dials = a.dials; backs = a.backs } };
+    ghost view = { λ a. record { faults = a.faults; port = a.port; dials = a.dials; failed = a.failed; backs = a.backs } };
 }
 
 impl<'a, R> RealDial<'a, R> {
@@ -40,7 +43,9 @@ impl<'a, R> RealDial<'a, R> {
             alloc,
             system,
             faults: 0,
+            port: None,
             dials: 0,
+            failed: 0,
             backs: 0,
         }
     }
@@ -55,9 +60,7 @@ impl<'a, R> RealDial<'a, R> {
 impl<R: Net<Stream = TcpStream>> Dial for RealDial<'_, R> {
     type Line = HttpLink<RealSource<TcpStream>, RealSink<TcpStream>>;
 
-    ghost content = { λ _. None };
-
-    ghost counts = { λ s. s };
+    ghost account = { λ s. record { content = None; faults = s.faults; port = s.port; dials = s.dials; failed = s.failed; backs = s.backs } };
 
     fn dial(
         &mut self,
@@ -66,12 +69,16 @@ impl<R: Net<Stream = TcpStream>> Dial for RealDial<'_, R> {
         ensures fresh { IfOk result (λ line. line.faults ≡ 0) }
         ensures count { self.new.faults ≡ counted (accept_ending result) self.old.faults }
         ensures dialled { self.new.dials ≡ raised self.old.dials }
+        ensures failed { self.new.failed ≡ failed_by result self.old.failed }
+        ensures port { self.new.port ≡ Some port }
         ensures backs { self.new.backs ≡ self.old.backs }
     {
         self.dials = self.dials.saturating_add(1);
+        self.port = Some(port);
         match ends(self.system, port) {
             Ok((input, output)) => Ok(HttpLink::new(self.alloc, input, output)),
             Err(_) => {
+                self.failed = self.failed.saturating_add(1);
                 self.count_fault();
                 Err(Failed)
             }
@@ -86,6 +93,8 @@ impl<R: Net<Stream = TcpStream>> Dial for RealDial<'_, R> {
         ensures ok { IsOk result }
         ensures count { self.new.faults ≡ (if nat_lt 0 line.faults then raised self.old.faults else self.old.faults) }
         ensures dialled { self.new.dials ≡ self.old.dials }
+        ensures failed { self.new.failed ≡ self.old.failed }
+        ensures port { self.new.port ≡ self.old.port }
         ensures backs { self.new.backs ≡ raised self.old.backs }
     {
         self.backs = self.backs.saturating_add(1);

@@ -1,25 +1,25 @@
 -- How often it was dialled, by how a replay ends.
 use Rattle.std.proofs.Common.{◌≡◌, ◌∙◌, ℕ, ◌+◌, ◌≤◌, List, [], ◌++◌, inl, inr, length, map, Option, None, Some, Result, Ok, Err, refl, sym, ap, subst, append-nil, add-one, arith}
 use Rattle.std.proofs.lemmas.List.{length-map}
-use Rattle.desk_files.specs.Outside.{HasRisen, Told, raised}
+use Rattle.desk_files.specs.Outside.{HasRisen, Told, raised, risen_by}
 use Rattle.desk_files.proofs.WriteLaws.{told}
 use Rattle.desk_values.specs.declared.memory.Memory.{Memory as NoMemory}
 use Rattle.desk_values.specs.declared.capture.Captured.{Captured}
 use Rattle.remote_link.specs.declared.heard.Heard.{Heard}
-use Rattle.remote_link.specs.Lines.{DialCounts}
+use Rattle.remote_link.specs.Dials.{DialAccount}
 use Rattle.replay_lanes.specs.Sessions.{sessions}
 use Rattle.remote_desk.specs.Desk.{RemoteView}
 use Rattle.remote_target.specs.declared.line.Line.{Line}
 use Rattle.remote_target.specs.declared.remote_err.RemoteErr.{RemoteErr}
 use Rattle.remote_target.specs.declared.remote_err.RemoteErr.TheVariants.{Link, OtherJob, Mismatch, Memory}
-use Rattle.remote_target.specs.Dialled.{AreTold, DialsOnce, IsCutShort, IsOnceEach, risen_by}
+use Rattle.remote_target.specs.Dialled.{AreTold, DialsOnce, IsCutShort, IsHandedBack, IsOnceEach, asked_for}
 use Rattle.remote_target.specs.Inside.{GivesLines, IsReturned, SaidView, said_on, session_on}
 use Rattle.remote_target.proofs.Giving.{as_many}
 
-pub risen_more : (k n : ℕ) → risen_by (k + 1) n ≡ raised (risen_by k n)
-risen_more k n = rw add-one refl
+pub asked_more : (k port : ℕ) (last : Option ℕ) → asked_for (k + 1) port last ≡ Some port
+asked_more k port last = rw add-one refl
 
-module _ (calls : List Captured) (before after : Option (List (List Heard))) (old new : DialCounts) where
+module _ (calls : List Captured) (before after : Option (List (List Heard))) (old new : DialAccount) where
   abbrev dials_so : Result RemoteView RemoteErr → Type 0
   dials_so result = DialsOnce calls result before after old new
 
@@ -91,5 +91,31 @@ none_told : (before : Option (List (List Heard))) → Told before (λ told. (lis
 none_told None = tt
 none_told (Some lists) = ([], omega arith, ap (λ (all : List (List Heard)). Some all) (sym (append-nil lists)))
 
-pub none_once : (calls : List Captured) (before : Option (List (List Heard))) (counts : DialCounts) → DialsOnce calls (Err Memory) before before counts counts
+pub none_once : (calls : List Captured) (before : Option (List (List Heard))) (counts : DialAccount) → DialsOnce calls (Err Memory) before before counts counts
 none_once calls before counts = record { dials = 0; lines = 0; counted = refl; returned = refl; once = inl (refl, omega arith); given = none_told before }
+
+-- ---- what was had, and given back
+
+-- nothing was asked
+pub none_handed : (calls : List Captured) (port : ℕ) (account : DialAccount) → IsHandedBack calls port account account
+none_handed calls port account = record { lines = 0; failed = 0; few = omega arith; dialled = refl; refused = refl; returned = refl; asked = refl }
+
+module _ (calls : List Captured) (port n : ℕ) (old new : DialAccount) (returned : new.backs ≡ risen_by n old.backs) where
+  -- each dial gave a line
+  pub all_handed : n ≡ length (sessions calls) → new.dials ≡ risen_by n old.dials → new.failed ≡ old.failed → new.port ≡ asked_for n port old.port → IsHandedBack calls port old new
+  all_handed same dialled refused asked =
+      let own : n ≡ n + 0 = omega arith in
+      record {
+        lines = n;
+        failed = 0;
+        few = omega (arith, same);
+        dialled = dialled ∙ ap (λ (k : ℕ). risen_by k old.dials) own;
+        refused = refused;
+        returned = returned;
+        asked = asked ∙ ap (λ (k : ℕ). asked_for k port old.port) own;
+      }
+
+  -- the last one failed
+  pub but_one_handed : n + 1 ≤ length (sessions calls) → new.dials ≡ risen_by (n + 1) old.dials → new.failed ≡ raised old.failed → new.port ≡ Some port → IsHandedBack calls port old new
+  but_one_handed few dialled refused asked =
+      record { lines = n; failed = 1; few = few; dialled = dialled; refused = refused; returned = returned; asked = asked ∙ sym (asked_more n port old.port) }

@@ -9,7 +9,8 @@ use Rattle.remote_link.specs.declared.link_err.LinkErr.{LinkErr}
 use Rattle.remote_link.specs.declared.link_err.LinkErr.TheVariants as refusal
 use Rattle.remote_link.specs.Dials.{CountsBack, GivesBack}
 use Rattle.remote_target.specs.Inside.{AreToldOf, CountsLines, GivesLines, IsToldOf, SaidView}
-use Rattle.remote_target.specs.Spoken.{IsSpoken}
+use Rattle.remote_target.specs.Ends.{AddsUnbroken}
+use Rattle.remote_target.specs.Spoken.{IsSpoken, IsUnbroken}
 use Rattle.remote_target.proofs.Giving.{as_many}
 use Rattle.remote_target.proofs.Unbroken.{unbroken_of}
 
@@ -59,6 +60,28 @@ given_more saids said faults line (Ok done) false None middle after spoken gave 
 given_more saids said faults line (Err memory) true None middle after spoken gave gives = tt
 given_more saids said faults line (Err memory) false None middle after spoken gave gives = tt
 given_more saids said faults line result whole (Some told) middle after spoken gave gives = one_given saids said faults told line result whole middle after spoken gave gives
+
+-- ---- lists without a break
+
+pub none_unbroken : (before : Option (List (List Heard))) → AddsUnbroken before before
+none_unbroken None = tt
+none_unbroken (Some told) = ([], tt, ap (λ (lists : List (List Heard)). Some lists) (sym (append-nil told)))
+
+all_and : (lists : List (List Heard)) (list : List Heard) → AllByRecursion IsUnbroken lists → IsUnbroken list → AllByRecursion IsUnbroken (lists ++ list ∷ [])
+all_and [] list all is = (is, tt)
+all_and (one ∷ lists) list all is = (all.0, all_and lists list all.1 is)
+
+unbroken_line : (told lists : List (List Heard)) (line : Option (List Heard)) (faults : ℕ) (heard : List Heard) (r : Option LinkErr) (result : Result (Unit {0}) NoMemory) (after : Option (List (List Heard)))
+    → IsSpoken line faults heard r → AllByRecursion IsUnbroken lists → GivesBack line result (Some (told ++ lists)) after → AddsUnbroken (Some told) after
+unbroken_line told lists None faults heard r (Ok done) after spoken all gives = absurd gives
+unbroken_line told lists (Some list) faults heard r (Ok done) after spoken all gives =
+    (lists ++ list ∷ [], all_and lists list all (unbroken_of heard list r spoken.replies spoken.own), gives ∙ ap (λ (each : List (List Heard)). Some each) (append_assoc told lists (list ∷ [])))
+unbroken_line told lists line faults heard r (Err memory) after spoken all gives = (lists, all, gives)
+
+pub unbroken_more : (line : Option (List Heard)) (faults : ℕ) (heard : List Heard) (r : Option LinkErr) (result : Result (Unit {0}) NoMemory) (before middle after : Option (List (List Heard)))
+    → IsSpoken line faults heard r → AddsUnbroken before middle → GivesBack line result middle after → AddsUnbroken before after
+unbroken_more line faults heard r result None middle after spoken adds gives = tt
+unbroken_more line faults heard r result (Some told) middle after spoken adds gives = unbroken_line told adds.0 line faults heard r result after spoken adds.1 (rw adds.2 at gives)
 
 -- ---- the count
 

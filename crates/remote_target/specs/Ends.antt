@@ -46,6 +46,10 @@ GaveAs job (Err Memory) lists = length lists ≤ length (sessions job.calls)
 abbrev pub GaveBack : JobView → Result RemoteView RemoteErr → Option (List (List Heard)) → Option (List (List Heard)) → Type 0
 GaveBack job result before after = Told before (λ told. (lists : List (List Heard)) × GaveAs job result lists × (after ≡ Some (told ++ lists)))
 
+-- and whatever the replay came to, each of them has a reply to each call, but for the last one at most
+abbrev pub AddsUnbroken : Option (List (List Heard)) → Option (List (List Heard)) → Type 0
+AddsUnbroken before after = Told before (λ told. (lists : List (List Heard)) × AllByRecursion IsUnbroken lists × (after ≡ Some (told ++ lists)))
+
 -- the dial counts no fault in a replay to its end, a failure of the link comes only where it counted one, and its count never falls
 abbrev pub EndsSo : Result RemoteView RemoteErr → ℕ → ℕ → Type 0
 EndsSo (Ok desk) before after = after ≡ before

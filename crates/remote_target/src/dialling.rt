@@ -1,11 +1,12 @@
 //! Lines as they are dialled, and as they are given back.
 
-ghost use Rattle.std.specs.Prelude.{◌≡◌, ◌≤◌, ◌+◌, ◌&&◌, [], is_ok, length, map, take, IfOk, OnOk, OnErr};
+ghost use Rattle.std.specs.Prelude.{◌≡◌, ◌≤◌, ◌+◌, ◌&&◌, [], is_ok, length, map, take, IfOk, OnOk, OnErr, Some};
 ghost use Rattle.std.specs.Vec.{vec_capacity};
 ghost use Rattle.std.specs.List.{AllByRecursion};
-ghost use Rattle.desk_files.specs.Outside.{Counts};
+ghost use Rattle.desk_files.specs.Outside.{Counts, raised, risen_by};
 ghost use Rattle.desk_files.specs.Hosts.{accept_ending};
-ghost use Rattle.remote_target.specs.Dialled.{risen_by};
+ghost use Rattle.remote_target.specs.Dialled.{asked_for};
+ghost use Rattle.remote_target.specs.Ends.{AddsUnbroken};
 ghost use Rattle.remote_target.specs.Inside.{CountsLines, GivesLines, IsFresh, refusal_on, said_on, session_on};
 
 use crate::line::Line;
@@ -37,12 +38,16 @@ pub(crate) fn dial_each<D: Dial>(
     ensures sessions { map session_on lines.new.items ≡ take (length lines.new.items) sessions.now }
     ensures all { OnOk result (map session_on lines.new.items ≡ sessions.now) }
     ensures fresh { AllByRecursion IsFresh (map said_on lines.new.items) }
-    ensures content { D.content dial.new ≡ D.content dial.old }
-    ensures counts { Counts (accept_ending result) (D.counts dial.old).faults (D.counts dial.new).faults }
-    ensures dialled { OnOk result ((D.counts dial.new).dials ≡ risen_by (length sessions.now) (D.counts dial.old).dials) }
+    ensures content { (D.account dial.new).content ≡ (D.account dial.old).content }
+    ensures counts { Counts (accept_ending result) (D.account dial.old).faults (D.account dial.new).faults }
+    ensures dialled { OnOk result ((D.account dial.new).dials ≡ risen_by (length sessions.now) (D.account dial.old).dials) }
     ensures few { OnErr result (length lines.new.items + 1 ≤ length sessions.now) }
-    ensures failed { OnErr result ((D.counts dial.new).dials ≡ risen_by (length lines.new.items + 1) (D.counts dial.old).dials) }
-    ensures backs { (D.counts dial.new).backs ≡ (D.counts dial.old).backs }
+    ensures failed { OnErr result ((D.account dial.new).dials ≡ risen_by (length lines.new.items + 1) (D.account dial.old).dials) }
+    ensures backs { (D.account dial.new).backs ≡ (D.account dial.old).backs }
+    ensures unrefused { OnOk result ((D.account dial.new).failed ≡ (D.account dial.old).failed) }
+    ensures refused { OnErr result ((D.account dial.new).failed ≡ raised (D.account dial.old).failed) }
+    ensures asked { OnOk result ((D.account dial.new).port ≡ asked_for (length sessions.now) port (D.account dial.old).port) }
+    ensures port { OnErr result ((D.account dial.new).port ≡ Some port) }
 {
     for session in sessions {
         let line = dial.dial(port)?;
@@ -55,10 +60,13 @@ pub(crate) fn dial_each<D: Dial>(
 
 /// Gives each line back, in order, also where memory was short for one before it.
 pub(crate) fn give_back<D: Dial>(dial: &mut D, lines: Vec<Line<D::Line>>) -> Result<(), Memory>
-    ensures gives { GivesLines (map said_on lines.items) result (D.content dial.old) (D.content dial.new) }
-    ensures counts { CountsLines (map refusal_on lines.items) (D.counts dial.old).faults (D.counts dial.new).faults }
-    ensures dialled { (D.counts dial.new).dials ≡ (D.counts dial.old).dials }
-    ensures backs { (D.counts dial.new).backs ≡ risen_by (length lines.items) (D.counts dial.old).backs }
+    ensures gives { GivesLines (map said_on lines.items) result (D.account dial.old).content (D.account dial.new).content }
+    ensures unbroken { AddsUnbroken (D.account dial.old).content (D.account dial.new).content }
+    ensures counts { CountsLines (map refusal_on lines.items) (D.account dial.old).faults (D.account dial.new).faults }
+    ensures dialled { (D.account dial.new).dials ≡ (D.account dial.old).dials }
+    ensures backs { (D.account dial.new).backs ≡ risen_by (length lines.items) (D.account dial.old).backs }
+    ensures failed { (D.account dial.new).failed ≡ (D.account dial.old).failed }
+    ensures port { (D.account dial.new).port ≡ (D.account dial.old).port }
 {
     let mut whole = true;
     for line in lines {

@@ -7,8 +7,9 @@ ghost use Rattle.replay_job.specs.Job.{IsReplayable, seen};
 ghost use Rattle.replay_lanes.specs.Sessions.{sessions};
 ghost use Rattle.remote_desk.specs.History.{plain};
 ghost use Rattle.remote_target.specs.Agreement.{heard_on};
-ghost use Rattle.remote_target.specs.Dialled.{DialsOnce, risen_by};
-ghost use Rattle.remote_target.specs.Ends.{EndsSo, GaveBack, IsDifference};
+ghost use Rattle.remote_target.specs.Dialled.{DialsOnce, IsHandedBack};
+ghost use Rattle.desk_files.specs.Outside.{risen_by};
+ghost use Rattle.remote_target.specs.Ends.{AddsUnbroken, EndsSo, GaveBack, IsDifference};
 ghost use Rattle.remote_target.specs.Inside.{AreAgreed, CountsLines, IsJudged, IsOutcome, IsRefused, IsReturned, refusal_on, said_on, session_on, told};
 
 use crate::comparing::compare;
@@ -45,9 +46,11 @@ pub fn run_remote<R: Clock + Wait + Threads + Sync, D: Door, L: Dial>(
     requires job { IsReplayable (seen job) }
     ensures job { IfOk result (λ desk. desk.job ≡ seen job) }
     ensures all { IfOk result (λ desk. AnswersAll desk.job.calls (plain desk.events)) }
-    ensures back { GaveBack (seen job) result (L.content dial.old) (L.content dial.new) }
-    ensures once { DialsOnce (seen job).calls result (L.content dial.old) (L.content dial.new) (L.counts dial.old) (L.counts dial.new) }
-    ensures ends { EndsSo result (L.counts dial.old).faults (L.counts dial.new).faults }
+    ensures back { GaveBack (seen job) result (L.account dial.old).content (L.account dial.new).content }
+    ensures unbroken { AddsUnbroken (L.account dial.old).content (L.account dial.new).content }
+    ensures once { DialsOnce (seen job).calls result (L.account dial.old).content (L.account dial.new).content (L.account dial.old) (L.account dial.new) }
+    ensures handed { IsHandedBack (seen job).calls port (L.account dial.old) (L.account dial.new) }
+    ensures ends { EndsSo result (L.account dial.old).faults (L.account dial.new).faults }
     ensures differs { IfErr result (IsDifference (seen job)) }
 {
     run_by(rt, alloc, &job, door, dial, port, lanes)
@@ -67,9 +70,11 @@ fn run_by<R: Clock + Wait + Threads + Sync, D: Door, L: Dial>(
     requires job { IsReplayable (seen job.now) }
     ensures job { IfOk result (λ desk. desk.job ≡ seen job.now) }
     ensures all { IfOk result (λ desk. AnswersAll desk.job.calls (plain desk.events)) }
-    ensures back { GaveBack (seen job.now) result (L.content dial.old) (L.content dial.new) }
-    ensures once { DialsOnce (seen job.now).calls result (L.content dial.old) (L.content dial.new) (L.counts dial.old) (L.counts dial.new) }
-    ensures ends { EndsSo result (L.counts dial.old).faults (L.counts dial.new).faults }
+    ensures back { GaveBack (seen job.now) result (L.account dial.old).content (L.account dial.new).content }
+    ensures unbroken { AddsUnbroken (L.account dial.old).content (L.account dial.new).content }
+    ensures once { DialsOnce (seen job.now).calls result (L.account dial.old).content (L.account dial.new).content (L.account dial.old) (L.account dial.new) }
+    ensures handed { IsHandedBack (seen job.now).calls port (L.account dial.old) (L.account dial.new) }
+    ensures ends { EndsSo result (L.account dial.old).faults (L.account dial.new).faults }
     ensures differs { IfErr result (IsDifference (seen job.now)) }
 {
     let sessions = sessions_of(alloc, job.calls.as_slice())?;
@@ -89,10 +94,13 @@ fn returned<L: Dial>(
     lines: Vec<Line<L::Line>>,
     outcome: Result<RemoteDesk, RemoteErr>,
 ) -> Result<RemoteDesk, RemoteErr>
-    ensures returns { IsReturned outcome (map said_on lines.items) result (L.content dial.old) (L.content dial.new) }
-    ensures counts { CountsLines (map refusal_on lines.items) (L.counts dial.old).faults (L.counts dial.new).faults }
-    ensures dialled { (L.counts dial.new).dials ≡ (L.counts dial.old).dials }
-    ensures backs { (L.counts dial.new).backs ≡ risen_by (length lines.items) (L.counts dial.old).backs }
+    ensures returns { IsReturned outcome (map said_on lines.items) result (L.account dial.old).content (L.account dial.new).content }
+    ensures unbroken { AddsUnbroken (L.account dial.old).content (L.account dial.new).content }
+    ensures counts { CountsLines (map refusal_on lines.items) (L.account dial.old).faults (L.account dial.new).faults }
+    ensures dialled { (L.account dial.new).dials ≡ (L.account dial.old).dials }
+    ensures backs { (L.account dial.new).backs ≡ risen_by (length lines.items) (L.account dial.old).backs }
+    ensures failed { (L.account dial.new).failed ≡ (L.account dial.old).failed }
+    ensures port { (L.account dial.new).port ≡ (L.account dial.old).port }
 {
     match give_back(dial, lines) {
         Ok(()) => outcome,

@@ -29,13 +29,13 @@ impl<L: Link + Drop> Model for Spoken<L> {
 
     ghost view = { λ a. record { line = a.line; heard = a.heard.items; spare = a.heard.spare; refusal = a.refusal } };
 
-    ghost invariant = { λ a. IsSpoken (L.content a.line) (L.fault_count a.line) a.heard.items a.refusal };
+    ghost invariant = { λ a. IsSpoken (L.account a.line).content (L.account a.line).faults a.heard.items a.refusal };
 }
 
 impl<L: Link + Drop> Spoken<L> {
     /// A line on which nothing was said.
     pub fn new(alloc: Global, line: L) -> Spoken<L>
-        requires { IsNew (L.content line) (L.fault_count line) }
+        requires { IsNew (L.account line).content (L.account line).faults }
         ensures line { result.line ≡ line }
         ensures heard { result.heard ≡ [] }
         ensures refusal { result.refusal ≡ None }
@@ -65,7 +65,7 @@ impl<L: Link + Drop> Spoken<L> {
     /// The line.
     pub fn into_line(self) -> L
         ensures line { result ≡ self.line }
-        ensures spoken { IsSpoken (L.content result) (L.fault_count result) self.heard self.refusal }
+        ensures spoken { IsSpoken (L.account result).content (L.account result).faults self.heard self.refusal }
     {
         self.line
     }

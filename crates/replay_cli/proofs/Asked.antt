@@ -38,7 +38,7 @@ module _ (h : Hosting) (untouched : IsKeeperUntouched h) (undialled : IsDialUnas
   serve_faults (Err OutOfMemory) faults = (faults, untouched.faults)
 
 -- an errand that is done meets no fault
-no_fault : (errand : Errand) (k : Keeping) (answer : Answer) → IsAnswered errand k answer → k.faults_after ≡ k.faults_before
+pub no_fault : (errand : Errand) (k : Keeping) (answer : Answer) → IsAnswered errand k answer → k.faults_after ≡ k.faults_before
 no_fault (Register name bytes report) k answer is = is.faults
 no_fault Runs k answer is = is.keeps.faults
 no_fault (Accept name stamp class) k answer is = is.faults
@@ -51,8 +51,10 @@ module _ (h : Hosting) (unasked : IsHostUnasked h) (undialled : IsDialUnasked h)
   keep_fails (Differs finding) fails = absurd fails
   keep_fails (NotDone cause) fails = (fails.0, (unasked, fails.1, undialled))
   keep_fails (NotSent cause) fails = absurd fails
-  keep_fails DeviceFault fails = ((fails.runs, fails.divergences), tt)
-  keep_fails OutOfMemory fails = ((fails.runs, fails.divergences), tt)
+  keep_fails DeviceFault (inl fails) = (inl (fails.runs, fails.divergences), tt)
+  keep_fails DeviceFault (inr left) = (inr left, tt)
+  keep_fails OutOfMemory (inl fails) = (inl (fails.runs, fails.divergences), tt)
+  keep_fails OutOfMemory (inr left) = (inr left, tt)
 
   pub keep_faults : (done : Result Plan Failure) → IfOk done (IsKept errand h.keeper) → IfErr done (KeepFails errand h.keeper) → WorkFaults done h
   keep_faults (Ok plan) kept fails = (unasked.1, no_fault errand h.keeper _ kept.0)
@@ -61,8 +63,10 @@ module _ (h : Hosting) (unasked : IsHostUnasked h) (undialled : IsDialUnasked h)
   keep_faults (Err (Differs finding)) kept fails = absurd fails
   keep_faults (Err (NotDone cause)) kept fails = (unasked.1, fails.1.faults)
   keep_faults (Err (NotSent cause)) kept fails = absurd fails
-  keep_faults (Err DeviceFault) kept fails = inr (unasked.1, fails.faults)
-  keep_faults (Err OutOfMemory) kept fails = (unasked.1, fails.faults)
+  keep_faults (Err DeviceFault) kept (inl fails) = inr (unasked.1, fails.faults)
+  keep_faults (Err DeviceFault) kept (inr left) = inr (unasked.1, left.faults)
+  keep_faults (Err OutOfMemory) kept (inl fails) = (unasked.1, fails.faults)
+  keep_faults (Err OutOfMemory) kept (inr left) = (unasked.1, left.faults)
 
 -- ---- a replay against another server
 

@@ -1,16 +1,16 @@
 -- A server is dialled no more often than there are sessions with a call, and each line is given back, however a replay against it ends.
-use Rattle.std.proofs.Common.{◌≡◌, ◌≤◌, ◌∙◌, ◌++◌, ℕ, List, [], ◌∷◌, length, Option, None, Some, Result, Ok, Err, inl, inr, refl, sym, ap, arith}
+use Rattle.std.proofs.Common.{◌≡◌, ◌≤◌, ◌∙◌, ◌++◌, ℕ, List, [], length, Option, None, Some, Ok, Err, inl, inr, refl, sym, ap, arith}
 use Rattle.std.proofs.lemmas.List.{append-nil}
 use Rattle.desk_values.specs.declared.capture.Captured.{Captured}
 use Rattle.desk_files.proofs.WriteLaws.{told}
 use Rattle.desk_files.specs.Outside.{Told}
 use Rattle.replay_lanes.specs.Sessions.{sessions}
 use Rattle.remote_link.specs.declared.heard.Heard.{Heard}
-use Rattle.remote_link.specs.Lines.{DialCounts}
+use Rattle.remote_link.specs.Dials.{DialAccount}
 use Rattle.remote_desk.specs.Desk.{RemoteView}
 use Rattle.remote_target.specs.declared.remote_err.RemoteErr.{RemoteErr}
 use Rattle.remote_target.specs.declared.remote_err.RemoteErr.TheVariants as remote
-use Rattle.remote_target.specs.Dialled.{AreAllOnce, AreTold, DialsOnce, IsCutShort, IsOnceEach}
+use Rattle.remote_target.specs.Dialled.{AreAllOnce, AreTold, DialsOnce, IsOnceEach}
 use Rattle.replay_cli.specs.Decision.{Task, ToKeep, ToMake, ToReplay, ToSend, ToServe, ToTell, ToTry}
 use Rattle.replay_cli.specs.Ending.{HasDialled}
 use Rattle.replay_cli.specs.Hosting.{Dialling}
@@ -21,7 +21,7 @@ all_short calls dials lines all = (all.1, omega (arith, all.0))
 as_few : (n m : ℕ) → n ≡ m → n ≤ m
 as_few n m same = omega (arith, same)
 
-module _ (calls : List Captured) (before after : Option (List (List Heard))) (old new : DialCounts) where
+module _ (calls : List Captured) (before after : Option (List (List Heard))) (old new : DialAccount) where
   short_once : (error : RemoteErr) (dials lines : ℕ) → IsOnceEach calls (Err error) dials lines old.faults new.faults → IsOnceEach calls (Err remote.Memory) dials lines old.faults new.faults
   short_once remote.Link dials lines (inl all) = inl (all_short calls dials lines all)
   short_once remote.Link dials lines (inr cut) = inr cut
@@ -62,12 +62,12 @@ none_told : (before after : Option (List (List Heard))) → after ≡ before →
 none_told None after same = tt
 none_told (Some lists) after same = ([], omega arith, same ∙ ap (λ (all : List (List Heard)). Some all) (sym (append-nil lists)))
 
-none_dialled : (calls : List Captured) (before after : Option (List (List Heard))) (old new : DialCounts) → after ≡ before → new ≡ old → DialsOnce calls (Err remote.Memory) before after old new
+none_dialled : (calls : List Captured) (before after : Option (List (List Heard))) (old new : DialAccount) → after ≡ before → new ≡ old → DialsOnce calls (Err remote.Memory) before after old new
 none_dialled calls before after old new same stands = record {
   dials = 0;
   lines = 0;
-  counted = ap (λ (counts : DialCounts). counts.dials) stands;
-  returned = ap (λ (counts : DialCounts). counts.backs) stands;
+  counted = ap (λ (counts : DialAccount). counts.dials) stands;
+  returned = ap (λ (counts : DialAccount). counts.backs) stands;
   once = inl (refl, omega arith);
   given = none_told before after same;
 }

@@ -6,7 +6,7 @@ use Rattle.desk_files.specs.declared.fault.WriteErr.{WriteErr}
 use Rattle.desk_files.specs.declared.fault.WriteErr.TheVariants.{Failed, Memory}
 use Rattle.desk_files.specs.declared.writes.Write.{Write}
 use Rattle.desk_files.specs.Answers.{write_ending}
-use Rattle.desk_files.specs.Outside.{Appends, Counts, FileMap, Told, HasRisen}
+use Rattle.desk_files.specs.Outside.{Appends, Counts, DeviceFailed, Ending, FileMap, MemoryShort, Told, HasRisen}
 use Rattle.desk_files.specs.Writes.{LeavesOfWrites, with_all}
 use Rattle.replay_cli.specs.declared.failure.Refusal.{Refusal}
 use Rattle.replay_cli.specs.declared.failure.Refusal.TheVariants.{Missing, TooLong, BadLine, BadReport, BadRemap, BadChange, NotLegal}
@@ -26,7 +26,7 @@ use Rattle.replay_cli.specs.Decision.{Decides, Task, ToKeep, ToMake, ToReplay, T
 use Rattle.replay_cli.specs.Done.{IsDone}
 use Rattle.replay_cli.specs.Inside.Steps.{FailedAt, Step, Stops}
 use Rattle.replay_cli.specs.Hosting.{Dialling, HasKept, HasNoFault, Hosting, IsUnasked}
-use Rattle.replay_cli.specs.Ending.{Causes, Ends, EndsSo, HasDialled, IsCauseOf, IsFoundOf, IsOutside, IsUnsentOf, Reports, Stands, line_of, moves, status_of}
+use Rattle.replay_cli.specs.Ending.{Causes, Ends, EndsSo, HasDialled, KeptAs, IsCauseOf, IsEndingOf, IsFoundOf, IsOutside, IsUnsentOf, Reports, Stands, line_of, moves, status_of}
 use Rattle.replay_cli.specs.Inside.Ending.{LeftOver, OneRose, RunFaults, RunSays}
 use Rattle.replay_cli.specs.Inside.Serving.{DialFaults, PlanFails, WorkFaults}
 use Rattle.replay_cli.proofs.Dialled.{few_dialled, undialled}
@@ -118,14 +118,20 @@ own_or_outside done result b a s0 s1 (inl own) = inl (own.0, own.1)
 own_or_outside done result b a s0 s1 (inr (inl short)) = inr (inr short.0)
 own_or_outside done result b a s0 s1 (inr (inr fault)) = inr (inl fault.0)
 
+-- a fault is told by the status of one
+five_of : (result : ℕ) (b a : Option (List ℕ)) (s0 s1 : ℕ) → Reports (Err DeviceFault) result b a s0 s1 → result ≡ 5
+five_of result b a s0 s1 (inl own) = own.0
+five_of result b a s0 s1 (inr (inl short)) = absurd (short.3 refl)
+five_of result b a s0 s1 (inr (inr fault)) = fault.0
+
 module _ (h : Hosting) where
-  left_ends : (wanted : Result Task Failure → Type 0) (files after : FileMap) (f0 f1 result : ℕ) (b a : Option (List ℕ)) → LeftOver wanted files after f0 f1 h → IsOutside result → EndsSo wanted files after f0 f1 h result b a
-  left_ends wanted files after f0 f1 result b a (inl same) is = inr (is, same.0, same.1)
-  left_ends wanted files after f0 f1 result b a (inr left) is = inl (Ok left.0, left.1, inr (inr (inr (inr (is, left.2)))))
+  left_ends : (wanted : Result Task Failure → Type 0) (ending : Ending) (files after : FileMap) (f0 f1 result : ℕ) (b a : Option (List ℕ)) → LeftOver wanted ending files after f0 f1 h → IsOutside result → IsEndingOf ending result → EndsSo wanted files after f0 f1 h result b a
+  left_ends wanted ending files after f0 f1 result b a (inl same) is of = inr (is, same.0, same.1)
+  left_ends wanted ending files after f0 f1 result b a (inr left) is of = inl (Ok left.0, left.1, inr (inr (inr (inr (is, (ending, of, left.2))))))
 
   -- the keeper tells what it did where something is found to differ, where an errand is not done, and where a replay against another
   -- server comes to no end
-  kept_found : (task : Task) (finding : Finding) → IsFoundOf task finding h → HasKept h × HasDialled task h.dial
+  kept_found : (task : Task) (finding : Finding) → IsFoundOf task finding h → KeptAs task MemoryShort h × HasDialled task h.dial
   kept_found (ToServe out start most port) finding found = ((found.2.runs, found.2.divergences), tt)
   kept_found (ToReplay out job) finding found = absurd found
   kept_found (ToSend out job port) finding found = absurd found
@@ -134,8 +140,8 @@ module _ (h : Hosting) where
   kept_found (ToTry n) finding found = absurd found
   kept_found (ToKeep errand) finding found = absurd found
 
-  kept_caused : (task : Task) (cause : Unkept) → IsCauseOf task cause h → HasKept h × HasDialled task h.dial
-  kept_caused (ToKeep errand) cause caused = ((caused.1.1.runs, caused.1.1.divergences), tt)
+  kept_caused : (task : Task) (cause : Unkept) → IsCauseOf task cause h → KeptAs task MemoryShort h × HasDialled task h.dial
+  kept_caused (ToKeep errand) cause caused = (inl (caused.1.1.runs, caused.1.1.divergences), tt)
   kept_caused (ToServe out start most port) cause caused = absurd caused
   kept_caused (ToReplay out job) cause caused = absurd caused
   kept_caused (ToSend out job port) cause caused = absurd caused
@@ -143,7 +149,7 @@ module _ (h : Hosting) where
   kept_caused (ToMake n out) cause caused = absurd caused
   kept_caused (ToTry n) cause caused = absurd caused
 
-  kept_unsent : (task : Task) (cause : Unsent) → IsUnsentOf task cause h → HasKept h × HasDialled task h.dial
+  kept_unsent : (task : Task) (cause : Unsent) → IsUnsentOf task cause h → KeptAs task MemoryShort h × HasDialled task h.dial
   kept_unsent (ToSend out job port) cause sent =
       ((sent.2.runs, sent.2.divergences), few_dialled job.calls h.dial.before h.dial.after h.dial.counts_before h.dial.counts_after sent.0.error sent.0.once)
   kept_unsent (ToReplay out job) cause sent = absurd sent
@@ -156,33 +162,44 @@ module _ (h : Hosting) where
   pub ends : (wanted : Result Task Failure → Type 0) (files after : FileMap) (f0 f1 : ℕ) (done : Result Plan Failure) (result : ℕ) (b a : Option (List ℕ)) (s0 s1 : ℕ) → RunSays wanted files after f0 f1 h done → Reports done result b a s0 s1 → EndsSo wanted files after f0 f1 h result b a
   ends wanted files after f0 f1 (Ok plan) result b a s0 s1 says reports = elim (own_or_outside (Ok plan) result b a s0 s1 reports) [
     | inl own ↦ inl (Ok says.0, says.1, inl (plan, says.2, says.4, own.0, own.1))
-    | inr is ↦ inl (Ok says.0, says.1, inr (inr (inr (inr (is, inr (plan, says.2, says.3, inl (length plan.writes, says.4 ∙ ap (λ ws. with_all ws files) (sym (take-length plan.writes)))))))))
+    | inr is ↦ inl (Ok says.0, says.1, inr (inr (inr (inr (is, (MemoryShort, is, inr (plan, says.2, says.3, inl (length plan.writes, says.4 ∙ ap (λ ws. with_all ws files) (sym (take-length plan.writes))))))))))
   ]
   ends wanted files after f0 f1 (Err BadCommand) result b a s0 s1 says reports = inl (Err BadCommand, says.0, (says.1, says.2, own_or_outside (Err BadCommand) result b a s0 s1 reports))
   ends wanted files after f0 f1 (Err (Refused refusal)) result b a s0 s1 says reports = inl (Err (Refused refusal), says.0, (says.1, says.2, own_or_outside (Err (Refused refusal)) result b a s0 s1 reports))
   ends wanted files after f0 f1 (Err (Differs finding)) result b a s0 s1 says reports = elim (own_or_outside (Err (Differs finding)) result b a s0 s1 reports) [
     | inl own ↦ inl (Ok says.0, says.1, inr (inl (finding, says.2, says.3, own.0, own.1)))
-    | inr is ↦ let kept = kept_found says.0 finding says.2 in inl (Ok says.0, says.1, inr (inr (inr (inr (is, inl (says.3, kept.0, kept.1))))))
+    | inr is ↦ let kept = kept_found says.0 finding says.2 in inl (Ok says.0, says.1, inr (inr (inr (inr (is, (MemoryShort, is, inl (says.3, kept.0, kept.1)))))))
   ]
   ends wanted files after f0 f1 (Err (NotDone cause)) result b a s0 s1 says reports = elim (own_or_outside (Err (NotDone cause)) result b a s0 s1 reports) [
     | inl own ↦ inl (Ok says.0, says.1, inr (inr (inl (cause, says.2, says.3, own.0, own.1))))
-    | inr is ↦ let kept = kept_caused says.0 cause says.2 in inl (Ok says.0, says.1, inr (inr (inr (inr (is, inl (says.3, kept.0, kept.1))))))
+    | inr is ↦ let kept = kept_caused says.0 cause says.2 in inl (Ok says.0, says.1, inr (inr (inr (inr (is, (MemoryShort, is, inl (says.3, kept.0, kept.1)))))))
   ]
   ends wanted files after f0 f1 (Err (NotSent cause)) result b a s0 s1 says reports = elim (own_or_outside (Err (NotSent cause)) result b a s0 s1 reports) [
     | inl own ↦ inl (Ok says.0, says.1, inr (inr (inr (inl (cause, says.2, says.3, own.0, own.1)))))
-    | inr is ↦ let kept = kept_unsent says.0 cause says.2 in inl (Ok says.0, says.1, inr (inr (inr (inr (is, inl (says.3, kept.0, kept.1))))))
+    | inr is ↦ let kept = kept_unsent says.0 cause says.2 in inl (Ok says.0, says.1, inr (inr (inr (inr (is, (MemoryShort, is, inl (says.3, kept.0, kept.1)))))))
   ]
-  ends wanted files after f0 f1 (Err DeviceFault) result b a s0 s1 says reports = left_ends wanted files after f0 f1 result b a says (outside (Err DeviceFault) result b a s0 s1 reports (inl refl))
-  ends wanted files after f0 f1 (Err OutOfMemory) result b a s0 s1 says reports = left_ends wanted files after f0 f1 result b a says (outside (Err OutOfMemory) result b a s0 s1 reports (inr refl))
+  ends wanted files after f0 f1 (Err DeviceFault) result b a s0 s1 says reports =
+      let five = five_of result b a s0 s1 reports in left_ends wanted DeviceFailed files after f0 f1 result b a says (inl five) five
+  ends wanted files after f0 f1 (Err OutOfMemory) result b a s0 s1 says reports =
+      let is = outside (Err OutOfMemory) result b a s0 s1 reports (inr refl) in left_ends wanted MemoryShort files after f0 f1 result b a says is is
 
   pub told_ends : (c0 c1 : Option FileMap) (words : List (List ℕ)) (f0 f1 : ℕ) (done : Result Plan Failure) (result : ℕ) (b a : Option (List ℕ)) (s0 s1 : ℕ) → Told c0 (λ files. IsSomeAnd c1 (λ after. RunSays (Verdict words files) files after f0 f1 h done)) → Reports done result b a s0 s1
       → Told c0 (λ files. IsSomeAnd c1 (λ after. EndsSo (Verdict words files) files after f0 f1 h result b a))
   told_ends c0 c1 words f0 f1 done result b a s0 s1 says reports = told c0 (λ files some. some_and c1 (λ after s. ends (Verdict words files) files after f0 f1 done result b a s0 s1 s reports) some) says
 
+  kept_as : (task : Task) → HasKept h → KeptAs task MemoryShort h
+  kept_as (ToKeep errand) kept = inl kept
+  kept_as (ToServe out start most port) kept = kept
+  kept_as (ToReplay out job) kept = kept
+  kept_as (ToSend out job port) kept = kept
+  kept_as (ToTell out facts) kept = kept
+  kept_as (ToMake n out) kept = kept
+  kept_as (ToTry n) kept = kept
+
   -- it ends so with each verdict, since there is one
   each_end : (words : List (List ℕ)) (files after : FileMap) (f0 f1 result : ℕ) (b a : Option (List ℕ)) → EndsSo (Verdict words files) files after f0 f1 h result b a → (verdict : Result Task Failure) → Verdict words files verdict → Ends verdict files after f0 f1 h result b a
   each_end words files after f0 f1 result b a (inl some) verdict is = subst (λ (v : Result Task Failure). Ends v files after f0 f1 h result b a) (verdict_one words files some.0 verdict some.1 is) some.2
-  each_end words files after f0 f1 result b a (inr none) (Ok task) is = inr (inr (inr (inr (none.0, inl (none.1, (none.2.1.runs, none.2.1.divergences), undialled task h.dial none.2.2.0 none.2.2.1)))))
+  each_end words files after f0 f1 result b a (inr none) (Ok task) is = inr (inr (inr (inr (none.0, (MemoryShort, none.0, inl (none.1, kept_as task (none.2.1.runs, none.2.1.divergences), undialled task h.dial none.2.2.0 none.2.2.1))))))
   each_end words files after f0 f1 result b a (inr none) (Err failure) is = (none.1, none.2, inr none.0)
 
   pub told_each : (c0 c1 : Option FileMap) (words : List (List ℕ)) (f0 f1 result : ℕ) (b a : Option (List ℕ)) → Told c0 (λ files. IsSomeAnd c1 (λ after. EndsSo (Verdict words files) files after f0 f1 h result b a))

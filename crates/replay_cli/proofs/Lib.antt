@@ -16,3 +16,5 @@ pub mod Asked
 pub mod Unwritten
 pub mod Runs
 pub mod Sent
+pub mod Parts
+pub mod Closings

@@ -1,12 +1,13 @@
 -- How reading and testing the files of a command may fail, by the words alone.
 use Rattle.std.proofs.Common.{◌≡◌, ℕ, zero, suc, ◌<◌, ◌≤◌, ◌⊎◌, inl, inr, List, [], ◌∷◌, ◌++◌, length, get_or, Option, None, Some, Result, Ok, Err, refl, sym, ap, subst, ◌∙◌, arith}
-use Rattle.std.specs.Prelude.{IsErrOf, IsNone}
+use Rattle.std.specs.Prelude.{IfOk, IsErrOf, IsNone}
 use Rattle.std.proofs.Math.ListN.{get_or-append}
 use Rattle.std.proofs.Math.Seq.{get_or-append_seam}
 use Rattle.desk_values.specs.declared.capture.Captured.{Captured}
 use Rattle.desk_values.specs.Limits.{session_limit}
 use Rattle.desk_schema.specs.Schema.{IsVersion}
 use Rattle.desk_schema.specs.Start.{StartView}
+use Rattle.capture_format.specs.declared.start.StartFile.{StartFile}
 use Rattle.captured_calls.specs.declared.refusal.Refusal.{Refusal as Illegal}
 use Rattle.captured_calls.specs.Verdict.{Preparation as Planned, verdict}
 use Rattle.replay_cli.specs.declared.failure.Refusal.{Refusal}
@@ -15,12 +16,12 @@ use Rattle.replay_cli.specs.declared.failure.Failure.{Failure}
 use Rattle.replay_cli.specs.declared.failure.Failure.TheVariants.{BadCommand, Refused, Differs, NotDone, NotSent, DeviceFault, OutOfMemory}
 use Rattle.replay_cli.specs.declared.plan.Plan.{Plan}
 use Rattle.desk_words.specs.declared.words.Command.{Command}
-use Rattle.replay_cli.specs.Decision.{IsFileIn, MayRefuseCapture, MayRefuseReport, MayRefuseStart, ReportOf, SessionOf, StartOf, legal_from}
+use Rattle.replay_cli.specs.Decision.{IsFileIn, IsSpelled, MayRefuseCapture, MayRefuseReport, MayRefuseStart, ReportOf, SessionOf, StartOf, legal_from}
 use Rattle.replay_cli.specs.Hosting.{Hosting}
 use Rattle.replay_cli.specs.Ending.{MayComeTo}
 use Rattle.replay_cli.specs.FileNames.{session_name, session_names, start_name}
 use Rattle.replay_cli.specs.Steps.{Is}
-use Rattle.replay_cli.specs.Inside.Steps.{IsAmong, IsUntaken, MayFail, RefusesOne, Stops}
+use Rattle.replay_cli.specs.Inside.Steps.{Answered, IsAmong, IsUntaken, MayFail, RefusesOne, Stops}
 use Rattle.replay_cli.proofs.Sessions.{count_names}
 
 pub fails_weaker : (may more : Refusal → Type 0) → ((refusal : Refusal) → may refusal → more refusal) → (failure : Failure) → MayFail may failure → MayFail more failure
@@ -165,3 +166,9 @@ only_no_command (Some command) h (Err (NotDone cause)) may is = absurd (cc is)
 only_no_command (Some command) h (Err (NotSent cause)) may is = absurd (cc is)
 only_no_command (Some command) h (Err DeviceFault) may is = absurd (cc is)
 only_no_command (Some command) h (Err OutOfMemory) may is = absurd (cc is)
+
+-- ---- the start that a file spells
+
+pub spelled_start : (name bytes : List ℕ) (result : Result StartFile Failure) → Answered (StartOf name bytes) result → IfOk result (λ file. IsSpelled file.start)
+spelled_start name bytes (Ok file) says = (bytes, file.sessions, says)
+spelled_start name bytes (Err failure) says = tt

@@ -1,18 +1,17 @@
 -- What a replay against another server comes to, by how it ended.
-use Rattle.std.proofs.Common.{◌≡◌, ◌≤◌, ◌∙◌, ◌++◌, ℕ, List, Option, Some, Result, Err, Ok, map, refl, sym, ap, subst, arith}
+use Rattle.std.proofs.Common.{◌≡◌, ◌≤◌, ◌∙◌, ◌++◌, ℕ, List, Some, Result, Err, Ok, refl, sym, ap, subst, arith}
 use Rattle.std.specs.Prelude.{IfErr, IfOk}
 use Rattle.desk_values.specs.declared.memory.Memory.{Memory as NoMemory}
 use Rattle.desk_files.proofs.WriteLaws.{told}
 use Rattle.replay_history.specs.History.{AnswersAll}
 use Rattle.replay_job.specs.Job.{JobView}
-use Rattle.replay_lanes.specs.Sessions.{sessions}
 use Rattle.remote_link.specs.declared.heard.Heard.{Heard}
 use Rattle.remote_desk.specs.Desk.{IsKept, RemoteView}
 use Rattle.remote_desk.specs.History.{plain}
-use Rattle.remote_desk.specs.Said.{said_in}
 use Rattle.remote_target.specs.declared.remote_err.RemoteErr.{RemoteErr}
 use Rattle.remote_target.specs.declared.remote_err.RemoteErr.TheVariants as remote
-use Rattle.remote_target.specs.Dialled.{DialsOnce, risen_by}
+use Rattle.remote_target.specs.Dialled.{DialsOnce}
+use Rattle.desk_files.specs.Outside.{risen_by}
 use Rattle.remote_target.specs.Ends.{EndsSo, GaveBack, IsDifference}
 use Rattle.replay_cli.specs.declared.plan.Plan.{Plan}
 use Rattle.replay_cli.specs.declared.failure.Failure.{Failure}

@@ -79,7 +79,7 @@ well_read files capture read is =
 
 -- ---- the job
 
-legal_planned : (start : StartView) (answer : Result Planned Illegal) (legal : Legal) → legal_from start answer ≡ Ok legal → (planned : Planned) × (answer ≡ Ok planned) × (record { start = start; calls = planned.calls; facts = planned.facts } ≡ legal)
+pub legal_planned : (start : StartView) (answer : Result Planned Illegal) (legal : Legal) → legal_from start answer ≡ Ok legal → (planned : Planned) × (answer ≡ Ok planned) × (record { start = start; calls = planned.calls; facts = planned.facts } ≡ legal)
 legal_planned start (Ok planned) legal e = (planned, refl, cc (e))
 legal_planned start (Err cause) legal e = absurd (cc e)
 

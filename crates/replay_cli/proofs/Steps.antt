@@ -1,13 +1,14 @@
--- The steps of a run and of a preparation.
-use Rattle.std.proofs.Common.{ℕ, List, Option, Result, Ok, Err}
+-- The steps of a run, of a preparation and of a service.
+use Rattle.std.proofs.Common.{ℕ, List, Option, Result, Ok, Err, refl}
 use Rattle.desk_files.specs.Outside.{FileMap}
+use Rattle.capture_format.specs.declared.start.StartFile.{StartFile}
 use Rattle.captured_calls.specs.Verdict.{verdict}
 use Rattle.remap_ids.specs.Services.{ServicePair}
 use Rattle.replay_cli.specs.declared.failure.Failure.{Failure}
 use Rattle.replay_cli.specs.declared.failure.Refusal.{Refusal}
 use Rattle.desk_words.specs.declared.ways.Ways.{Ways}
 use Rattle.desk_schema.specs.Start.{StartView}
-use Rattle.replay_cli.specs.Decision.{PrepareIn, Read, ReadIn, RemapIn, RunIn, TargetIn, Task, ToTell, legal_from, run_job, run_task}
+use Rattle.replay_cli.specs.Decision.{PrepareIn, Read, ReadIn, RemapIn, RunIn, ServeIn, StartIn, TargetIn, Task, ToServe, ToTell, legal_from, run_job, run_task}
 use Rattle.replay_cli.specs.Steps.{Is, Then}
 use Rattle.replay_cli.specs.Inside.Steps.{Answered, FaultFree, Step}
 use Rattle.replay_cli.proofs.StepLaws.{step_pure, step_stops, step_then}
@@ -45,3 +46,10 @@ module _ (capture out : List ℕ) (read : Read) (c0 c1 : Option FileMap) (f0 f1 
           step_then Remapped _ _ _ _ _ _ read answer reads
           (step_then (λ files. Changed files read) _ _ _ _ _ _ remap answer remaps
           (step_then (λ files. Tested read remap) _ _ _ _ _ _ target answer changes (step_pure (λ files. Tested read remap target) _ _ answer (λ files. says) free)))
+
+-- the start that was read is served
+pub served_from : (capture start : List ℕ) (connections port : ℕ) (c0 c1 : Option FileMap) (f0 f1 : ℕ) (file : StartFile) → Step (λ files. StartIn files start) c0 c1 f0 f1 (Ok file)
+    → Step (λ files. ServeIn files capture start connections port) c0 c1 f0 f1 (Ok (ToServe capture file.start connections port))
+served_from capture start connections port c0 c1 f0 f1 file reads =
+    let task : Result Task Failure = Ok (ToServe capture file.start connections port) in
+    step_then (λ files served. Is (Ok (ToServe capture served.start connections port))) _ _ _ _ _ _ file task reads (step_pure (λ files. Is (Ok (ToServe capture file.start connections port))) _ _ task (λ files. refl) tt)

@@ -267,12 +267,16 @@ MayBeTaken legal = (start : StartView) × (lists : List (List Captured)) × (leg
 abbrev pub IsRunOf : Ways → JobView → Type 0
 IsRunOf ways job = (legal : Legal) × (target : StartView) × (remap : List ServicePair) × MayBeTaken legal × MayRunOn ways.change legal.start target × MaySend ways.remap remap × (job ≡ run_job legal target remap ways)
 
+-- some start file spells this start
+abbrev pub IsSpelled : StartView → Type 0
+IsSpelled start = (bytes : List ℕ) × (sessions : ℕ) × IsStartFile bytes (record { start = start; sessions = sessions })
+
 -- the task is one of this command: such a replay, into this folder, and so on
 abbrev pub IsTaskOf : Command → Task → Type 0
 IsTaskOf (Run capture out ways) (ToReplay folder job) = (folder ≡ out) × (ways.target ≡ None) × IsRunOf ways job
 IsTaskOf (Run capture out ways) (ToSend folder job port) = (folder ≡ out) × (ways.target ≡ Some port) × IsRunOf ways job
 IsTaskOf (Prepare capture out) (ToTell folder facts) = (folder ≡ out) × ((legal : Legal) × MayBeTaken legal × (facts ≡ legal.facts))
-IsTaskOf (Serve capture start connections port) (ToServe folder begins most door) = (folder ≡ capture) × (most ≡ connections) × (door ≡ port)
+IsTaskOf (Serve capture start connections port) (ToServe folder begins most door) = (folder ≡ capture) × (most ≡ connections) × (door ≡ port) × IsSpelled begins
 IsTaskOf (Generate n out) (ToMake calls folder) = (calls ≡ n) × (folder ≡ out)
 IsTaskOf (Trial n) (ToTry calls) = calls ≡ n
 IsTaskOf (Register out run) (ToKeep asked) = IsErrandOf (Register out run) asked

@@ -30,15 +30,15 @@ use Rattle.replay_cli.specs.declared.plan.Plan.{Plan}
 use Rattle.replay_cli.specs.declared.told.Told.{Told}
 use Rattle.replay_cli.specs.Decision.{Task, ToReplay, ToSend, ToTell, ToServe, ToMake, ToTry, ToKeep}
 use Rattle.desk_files.specs.Hosts.{Connections}
-use Rattle.desk_files.specs.Outside.{Told as WhereTold}
+use Rattle.desk_files.specs.Outside.{Told as WhereTold, raised, risen_by}
 use Rattle.remap_ids.specs.IdMap.{start_pairs}
 use Rattle.replay_history.specs.History.{AnswersAll}
 use Rattle.replay_lanes.specs.Sessions.{sessions}
 use Rattle.remote_desk.specs.declared.event.RemoteEvent.{RemoteEvent}
 use Rattle.remote_desk.specs.History.{IsRemoteHistory, pairs_behind, plain}
 use Rattle.remote_desk.specs.Said.{said_in}
-use Rattle.remote_target.specs.Dialled.{risen_by}
-use Rattle.capture_serve.specs.Service.{AreReadFrom, CaptureView, IsService}
+use Rattle.capture_serve.specs.Service.{AreReadFrom, CaptureView, IsHandedBack as IsServedBack, IsService}
+use Rattle.remote_target.specs.Dialled.{IsHandedBack as IsSentBack}
 use Rattle.replay_cli.specs.Lines.{generated_line, prepared_line, replayed_line, served_line, trial_line}
 use Rattle.register_work.specs.declared.errand.Errand.{Errand}
 use Rattle.register_work.specs.Errand.{IsAnswered}
@@ -192,6 +192,14 @@ IsDoneAlone (ToMake n out) plan = (plan.line ≡ generated_line n) × IsQuiet pl
 IsDoneAlone (ToTry n) plan =
     (plan.line ≡ trial_line n (length (made_calls n)) (commits_in (made_calls n)))
     × IsTried (made_start n) (made_calls n) × IsQuiet plan × (plan.writes ≡ [])
+
+-- What a task had of the host and of the dial it gave back, the port that it asked for last is its own, and the keeper that it asked was
+-- closed once, whatever came of it; one that it did not ask was not closed. The two counts are those of closing.
+abbrev pub HandsBack : Task → Hosting → ℕ → ℕ → Type 0
+HandsBack (ToServe out start most port) h closes closes' = IsServedBack most port h.handed_before h.handed_after × (closes' ≡ closes)
+HandsBack (ToSend out job port) h closes closes' = IsSentBack job.calls port h.dial.counts_before h.dial.counts_after × (closes' ≡ closes)
+HandsBack (ToKeep errand) h closes closes' = closes' ≡ raised closes
+HandsBack other h closes closes' = closes' ≡ closes
 
 -- the files and the line that a task may end with, and what it leaves of the host, of the keeper and of the dial
 abbrev pub IsDone : Task → Plan → Hosting → Type 0

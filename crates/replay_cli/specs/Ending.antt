@@ -1,6 +1,6 @@
 -- How a command ends: its status, its line and its files.
 use Rattle.std.specs.Prelude.{◌≡◌, ◌≢◌, ℕ, ◌≤◌, ◌⊎◌, List, Option, None, Some, IsErr, IsErrOf, IsNone, Result, Ok, Err, ⊤}
-use Rattle.desk_files.specs.Outside.{Appends, AppendsPart, FileMap, HasRisen}
+use Rattle.desk_files.specs.Outside.{Answered, Appends, AppendsPart, DeviceFailed, Ending, FileMap, HasRisen, MemoryShort}
 use Rattle.desk_files.specs.Writes.{CutShort, WrittenSoFar, with_all}
 use Rattle.desk_schema.specs.Start.{StartView}
 use Rattle.desk_words.specs.declared.words.Command.{Command}
@@ -14,11 +14,11 @@ use Rattle.replay_cli.specs.declared.failure.Failure.TheVariants.{BadCommand, Re
 use Rattle.replay_cli.specs.declared.plan.Plan.{Plan}
 use Rattle.register_work.specs.declared.errand.Errand.{Errand}
 use Rattle.register_work.specs.declared.unkept.Unkept.{Unkept}
-use Rattle.register_work.specs.Errand.{IsCause}
+use Rattle.register_work.specs.Errand.{IsCause, IsUnclosed}
 use Rattle.register_work.specs.Lines.{unkept_line, unkept_status}
-use Rattle.replay_cli.specs.Decision.{IsErrandOf, IsTaskOf, MayBeRefused, Task, ToKeep, ToSend, ToServe}
+use Rattle.replay_cli.specs.Decision.{IsErrandOf, IsSpelled, IsTaskOf, MayBeRefused, Task, ToKeep, ToSend, ToServe}
 use Rattle.replay_cli.specs.Hosting.{Dialling, HasKept, HasNoFault, Hosting, IsDialUnasked, IsHostUnasked, IsKeeperUntouched, IsUnasked}
-use Rattle.replay_cli.specs.Done.{IsDone}
+use Rattle.replay_cli.specs.Done.{HandsBack, IsDone}
 use Rattle.replay_cli.specs.Lines.{done_status, failure_line, failure_status, finding_line, unsent_line, unsent_status}
 use Rattle.replay_job.specs.Job.{JobView}
 use Rattle.remote_target.specs.declared.remote_err.RemoteErr.{RemoteErr}
@@ -40,6 +40,29 @@ MayAsk (Some (Accept run stamp class)) h = IsHostUnasked h × IsDialUnasked h
 MayAsk (Some (Compare base other)) h = IsHostUnasked h × IsDialUnasked h
 MayAsk other h = IsUnasked h
 
+-- ---- what is given back
+
+-- nothing was asked of the host, the keeper and the dial, and the keeper was not closed
+abbrev pub IsNothingAsked : Hosting → ℕ → ℕ → Type 0
+IsNothingAsked h closes closes' = IsUnasked h × (closes' ≡ closes)
+
+-- what some task of the command had of them was given back
+abbrev pub SomeHandsBack : Command → Hosting → ℕ → ℕ → Type 0
+SomeHandsBack command h closes closes' = (task : Task) × IsTaskOf command task × HandsBack task h closes closes'
+
+-- by what the words came to, whatever the files tell: where they are no command or a file is refused nothing was asked; a task that was done,
+-- or came to no end, gave back what it had; and so did one where a device failed or memory was short, or nothing was asked so far
+abbrev pub GivesAllBack : Option Command → Hosting → ℕ → ℕ → Result Plan Failure → Type 0
+GivesAllBack None h closes closes' done = IsNothingAsked h closes closes'
+GivesAllBack (Some command) h closes closes' (Ok plan) = SomeHandsBack command h closes closes'
+GivesAllBack (Some command) h closes closes' (Err BadCommand) = IsNothingAsked h closes closes'
+GivesAllBack (Some command) h closes closes' (Err (Refused refusal)) = IsNothingAsked h closes closes'
+GivesAllBack (Some command) h closes closes' (Err (Differs finding)) = SomeHandsBack command h closes closes'
+GivesAllBack (Some command) h closes closes' (Err (NotDone cause)) = SomeHandsBack command h closes closes'
+GivesAllBack (Some command) h closes closes' (Err (NotSent cause)) = SomeHandsBack command h closes closes'
+GivesAllBack (Some command) h closes closes' (Err DeviceFault) = IsNothingAsked h closes closes' ⊎ SomeHandsBack command h closes closes'
+GivesAllBack (Some command) h closes closes' (Err OutOfMemory) = IsNothingAsked h closes closes' ⊎ SomeHandsBack command h closes closes'
+
 -- ---- doing the work
 
 -- what was written of a plan, where not all of it was; a file is cut short only where the count of faults rose
@@ -53,11 +76,16 @@ abbrev pub HasDialled : Task → Dialling → Type 0
 HasDialled (ToSend out job port) dial = DialsOnce job.calls (Err remote.Memory) dial.before dial.after dial.counts_before dial.counts_after
 HasDialled other dial = ⊤
 
--- what is left of a task that was not done, or not told; nothing is written where the host failed, and nothing kept where the
--- keeper did
-abbrev pub LeftOf : Task → FileMap → FileMap → ℕ → ℕ → Hosting → Type 0
-LeftOf task before after faults_before faults_after h =
-    ((after ≡ before) × HasKept h × HasDialled task h.dial) ⊎ ((plan : Plan) × IsDone task plan h × HasNoFault h × WrittenInPart plan before after faults_before faults_after)
+-- the keeper tells what it did; or the errand of the task was answered, and then closing the keeper ended so
+abbrev pub KeptAs : Task → Ending → Hosting → Type 0
+KeptAs (ToKeep errand) ending h = HasKept h ⊎ IsUnclosed errand h.keeper ending
+KeptAs other ending h = HasKept h
+
+-- what is left of a task that was not done, or not told, where a device failed or memory was short; nothing is written where the host
+-- failed, and nothing kept where the keeper did before it was closed
+abbrev pub LeftOf : Task → Ending → FileMap → FileMap → ℕ → ℕ → Hosting → Type 0
+LeftOf task ending before after faults_before faults_after h =
+    ((after ≡ before) × KeptAs task ending h × HasDialled task h.dial) ⊎ ((plan : Plan) × IsDone task plan h × HasNoFault h × WrittenInPart plan before after faults_before faults_after)
 
 -- ---- what was served and differs
 
@@ -66,9 +94,10 @@ abbrev pub IsFoundOf : Task → Finding → Hosting → Type 0
 IsFoundOf (ToServe out start most port) finding h = IsFinding start finding × HasGivenBackAll most h.before h.after × IsKeeperUntouched h × IsDialUnasked h
 IsFoundOf other finding h = ⊥
 
--- this command is one that serves, this may be found in what is served from some start, and all connections were given back
+-- this command is one that serves, this may be found in what is served from a start that some start file spells, and all connections were
+-- given back
 abbrev pub MayDiffer : Command → Finding → Hosting → Type 0
-MayDiffer (Serve capture start connections port) finding h = ((begins : StartView) × IsFinding begins finding) × HasGivenBackAll connections h.before h.after × IsKeeperUntouched h × IsDialUnasked h
+MayDiffer (Serve capture start connections port) finding h = ((begins : StartView) × IsSpelled begins × IsFinding begins finding) × HasGivenBackAll connections h.before h.after × IsKeeperUntouched h × IsDialUnasked h
 MayDiffer other finding h = ⊥
 
 -- ---- what is not done of runs
@@ -135,6 +164,12 @@ Reports done result before after faults_before faults_after =
 abbrev pub IsOutside : ℕ → Type 0
 IsOutside result = (result ≡ 5) ⊎ (result ≡ 6)
 
+-- what a status outside of a verdict comes of: with 6 memory was short; with 5 a device failed, or memory was short and the output failed
+abbrev pub IsEndingOf : Ending → ℕ → Type 0
+IsEndingOf DeviceFailed result = result ≡ 5
+IsEndingOf MemoryShort result = IsOutside result
+IsEndingOf Answered result = ⊥
+
 -- a task that is done has status 0, or 1 where calls differ or a comparison found something new or changed, its line and its files
 abbrev pub EndsDone : Task → FileMap → FileMap → Hosting → ℕ → Option (List ℕ) → Option (List ℕ) → Type 0
 EndsDone task files files_after h result before after =
@@ -166,7 +201,7 @@ Ends (Ok task) files files_after fb fa h result before after =
     ⊎ (EndsFound task files files_after h result before after
     ⊎ (EndsNotDone task files files_after h result before after
     ⊎ (EndsUnsent task files files_after h result before after
-    ⊎ (IsOutside result × LeftOf task files files_after fb fa h))))
+    ⊎ (IsOutside result × ((ending : Ending) × IsEndingOf ending result × LeftOf task ending files files_after fb fa h)))))
 
 -- the end that some verdict has; or a device failed or memory was short before there was one
 abbrev pub EndsSo : (Result Task Failure → Type 0) → FileMap → FileMap → ℕ → ℕ → Hosting → ℕ → Option (List ℕ) → Option (List ℕ) → Type 0
@@ -174,9 +209,15 @@ EndsSo wanted files files_after fb fa h result before after =
     ((verdict : Result Task Failure) × wanted verdict × Ends verdict files files_after fb fa h result before after)
     ⊎ (IsOutside result × (files_after ≡ files) × IsUnasked h)
 
+-- where a device failed or memory was short: the keeper tells what it did, or an errand of the command was answered, and then closing the
+-- keeper ended so
+abbrev pub MayHaveKept : Command → Ending → Hosting → Type 0
+MayHaveKept command ending h = HasKept h ⊎ ((errand : Errand) × IsErrandOf command errand × IsUnclosed errand h.keeper ending)
+
 -- what words may come to, whatever the files are: where they are no command, that; where they are one, a task of it that is done, what may
 -- differ of what it serves, a cause why its errand is not done, or a failure that it may have; and memory may be short. Where a device
--- failed or memory was short, nothing is kept that was not kept before.
+-- failed or memory was short, nothing is kept that was not kept before, or its errand was answered and the keeper could not be closed: for
+-- a device that failed, where one did, and for want of memory, where that was short.
 abbrev pub MayComeTo : Option Command → Hosting → Result Plan Failure → Type 0
 MayComeTo None h done = (IsErrOf done BadCommand ⊎ IsErrOf done OutOfMemory) × IsUnasked h
 MayComeTo (Some command) h (Ok plan) = (task : Task) × IsTaskOf command task × IsDone task plan h
@@ -185,13 +226,14 @@ MayComeTo (Some command) h (Err (Refused refusal)) = MayBeRefused command refusa
 MayComeTo (Some command) h (Err (Differs finding)) = MayDiffer command finding h
 MayComeTo (Some command) h (Err (NotDone cause)) = (errand : Errand) × IsErrandOf command errand × IsCauseOf (ToKeep errand) cause h
 MayComeTo (Some command) h (Err (NotSent cause)) = MayBeUnsent command cause h
-MayComeTo (Some command) h (Err DeviceFault) = HasKept h
-MayComeTo (Some command) h (Err OutOfMemory) = HasKept h
+MayComeTo (Some command) h (Err DeviceFault) = MayHaveKept command DeviceFailed h
+MayComeTo (Some command) h (Err OutOfMemory) = MayHaveKept command MemoryShort h
 
--- what is printed, also where the files are not told: the line of what the words may come to
-abbrev pub PrintsLine : List (List ℕ) → Hosting → ℕ → Option (List ℕ) → Option (List ℕ) → ℕ → ℕ → Type 0
-PrintsLine words h result before after faults_before faults_after =
-    (done : Result Plan Failure) × MayComeTo (command_of words) h done × Reports done result before after faults_before faults_after
+-- what is printed, also where the files are not told: the line of what the words may come to; and what was had is given back, and the keeper
+-- closed, before that
+abbrev pub PrintsLine : List (List ℕ) → Hosting → ℕ → ℕ → ℕ → Option (List ℕ) → Option (List ℕ) → ℕ → ℕ → Type 0
+PrintsLine words h closes closes' result before after faults_before faults_after =
+    (done : Result Plan Failure) × MayComeTo (command_of words) h done × Reports done result before after faults_before faults_after × GivesAllBack (command_of words) h closes closes' done
 
 -- how the counts of faults move: of the files, of the host, of the keeper, of the dial and of the sink
 pub record Moves : Type 0 where

@@ -1,33 +1,37 @@
 -- What becomes in a command of the host, of the keeper and of the dial, as far as they tell.
 use Rattle.std.specs.Prelude.{◌≡◌, ℕ, List, Option}
 use Rattle.desk_files.specs.Outside.{Answered}
-use Rattle.desk_files.specs.Hosts.{Connections}
-use Rattle.register_work.specs.Keeping.{KeepsAll, Keeping}
+use Rattle.desk_files.specs.Hosts.{Connections, Handed, HostAccount}
+use Rattle.run_register.specs.Register.{KeeperAccount}
+use Rattle.register_work.specs.Keeping.{KeepsAll, Keeping, keeping}
 use Rattle.remote_link.specs.declared.heard.Heard.{Heard}
-use Rattle.remote_link.specs.Lines.{DialCounts}
+use Rattle.remote_link.specs.Dials.{DialAccount}
 
--- what was said on the lines that a dial was given back, and its counts
+-- what was said on the lines that a dial was given back, and all that it gives account of
 pub record Dialling : Type 0 where
   pub before : Option (List (List Heard))
   pub after : Option (List (List Heard))
-  pub counts_before : DialCounts
-  pub counts_after : DialCounts
+  pub counts_before : DialAccount
+  pub counts_after : DialAccount
 
-abbrev pub dialling : Option (List (List Heard)) → Option (List (List Heard)) → DialCounts → DialCounts → Dialling
-dialling before after counts_before counts_after = record { before = before; after = after; counts_before = counts_before; counts_after = counts_after }
+abbrev pub dialling : DialAccount → DialAccount → Dialling
+dialling before after = record { before = before.content; after = after.content; counts_before = before; counts_after = after }
 
--- the connections of the host, its count of faults, the keeper and the dial
+-- the connections of the host, its count of faults, what it handed out, the keeper and the dial
 pub record Hosting : Type 0 where
   pub before : Option Connections
   pub after : Option Connections
   pub faults_before : ℕ
   pub faults_after : ℕ
+  pub handed_before : Handed
+  pub handed_after : Handed
   pub keeper : Keeping
   pub dial : Dialling
 
-abbrev pub hosting : Option Connections → Option Connections → ℕ → ℕ → Keeping → Dialling → Hosting
-hosting before after faults_before faults_after keeper dial =
-    record { before = before; after = after; faults_before = faults_before; faults_after = faults_after; keeper = keeper; dial = dial }
+-- by what they give account of before and after
+abbrev pub hosting : HostAccount → HostAccount → KeeperAccount → KeeperAccount → DialAccount → DialAccount → Hosting
+hosting host host' keeper keeper' dial dial' =
+    record { before = host.content; after = host'.content; faults_before = host.faults; faults_after = host'.faults; handed_before = host.handed; handed_after = host'.handed; keeper = keeping keeper keeper'; dial = dialling dial dial' }
 
 -- no call of the host or of the keeper failed
 abbrev pub HasNoFault : Hosting → Type 0
@@ -35,7 +39,7 @@ HasNoFault h = (h.faults_after ≡ h.faults_before) × (h.keeper.faults_after �
 
 -- the host was not asked
 abbrev pub IsHostUnasked : Hosting → Type 0
-IsHostUnasked h = (h.after ≡ h.before) × (h.faults_after ≡ h.faults_before)
+IsHostUnasked h = (h.after ≡ h.before) × (h.faults_after ≡ h.faults_before) × (h.handed_after ≡ h.handed_before)
 
 -- what the keeper tells is as before, and no call of it failed
 abbrev pub IsKeeperUntouched : Hosting → Type 0

@@ -6,5 +6,6 @@ pub mod Decision
 pub mod Hosting
 pub mod Done
 pub mod Ending
+pub mod Outside
 pub mod Called
 pub mod Inside

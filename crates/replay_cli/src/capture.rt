@@ -58,8 +58,8 @@ pub struct Read {
 pub fn read_capture<F: Files>(alloc: Global, capture: &Txt, files: &mut F) -> Result<Read, Failure>
     requires { length capture.now ≤ 900 }
     ensures step { Step (λ map. ReadIn map capture.now)
-        (F.content files.old) (F.content files.new)
-        (F.faults files.old) (F.faults files.new) (seen_as read_of result) }
+        (F.account files.old).content (F.account files.new).content
+        (F.account files.old).faults (F.account files.new).faults (seen_as read_of result) }
     ensures count { IfOk result (λ read. length read.sessions ≤ 64) }
     ensures lists { IfOk result (λ read. AreSessionsFrom 0 (lists_of read.sessions)) }
     ensures kind { IfErr result (MayFail (MayRefuseCapture capture.now)) }
@@ -76,8 +76,8 @@ pub fn read_capture<F: Files>(alloc: Global, capture: &Txt, files: &mut F) -> Re
 fn open<F: Files>(alloc: Global, capture: &Txt, files: &mut F) -> Result<Opened, Failure>
     requires { length capture.now ≤ 900 }
     ensures step { Step (λ map. OpenedIn map capture.now)
-        (F.content files.old) (F.content files.new)
-        (F.faults files.old) (F.faults files.new) result }
+        (F.account files.old).content (F.account files.new).content
+        (F.account files.old).faults (F.account files.new).faults result }
     ensures sessions { IfOk result (λ opened. opened.file.sessions ≤ session_limit) }
     ensures kind { IfErr result (MayFail (MayRefuseCapture capture.now)) }
 {
@@ -102,8 +102,8 @@ fn load_sessions<F: Files>(
     ensures step { Step
         (λ map. Reading (SessionOf opened.now.file.start.schema.version) map opened.now.left 0
         (session_names capture.now opened.now.file.sessions))
-        (F.content files.old) (F.content files.new)
-        (F.faults files.old) (F.faults files.new) (seen_as lists_of result) }
+        (F.account files.old).content (F.account files.new).content
+        (F.account files.old).faults (F.account files.new).faults (seen_as lists_of result) }
     ensures count { IfOk result (λ sessions. length sessions ≤ 64) }
     ensures lists { IfOk result (λ sessions. AreSessionsFrom 0 (lists_of sessions)) }
     ensures kind { IfErr result (MayFail (MayRefuseCapture capture.now)) }

@@ -1,15 +1,10 @@
 //! The one call that the program makes.
 
-ghost use Rattle.std.specs.Prelude.{◌≡◌, ◌≢◌, ◌≤◌, Result, IsSomeAnd, Ok, Err};
-ghost use Rattle.desk_files.specs.Outside.{Told};
-ghost use Rattle.desk_words.specs.Command.{command_of};
-ghost use Rattle.replay_cli.specs.declared.failure.Failure.{Failure as Outcome};
+ghost use Rattle.std.specs.Prelude.{◌≢◌, ◌≤◌, Err};
 ghost use Rattle.replay_cli.specs.declared.failure.Failure.TheVariants.{DeviceFault, OutOfMemory};
-ghost use Rattle.replay_cli.specs.Decision.{Task, Verdict};
 ghost use Rattle.replay_cli.specs.Lines.{failure_line};
-ghost use Rattle.register_work.specs.Keeping.{keeping};
-ghost use Rattle.replay_cli.specs.Ending.{Causes, Ends, EndsSo, MayAsk, Prints, PrintsLine, Reports, moves};
-ghost use Rattle.replay_cli.specs.Hosting.{dialling, hosting};
+ghost use Rattle.replay_cli.specs.Ending.{Prints, Reports};
+ghost use Rattle.replay_cli.specs.Outside.{AsksFew, EndsAsEach, EndsAsSome, HasCauses, TellsLine, outside};
 
 use crate::failure::Failure;
 use crate::plan::Plan;
@@ -67,7 +62,8 @@ use std::time::Clock;
 /// | 15 | the two runs have different numbers of calls | `other capture: A N, B M` |
 ///
 /// What the words and the files come to is their verdict, of which there is at most one: `ends` says that the call ends as some
-/// verdict does, or outside of it by 5 or 6, and `each` that it ends so with whatever verdict there is.
+/// verdict does, or outside of it by 5 or 6, and `each` that it ends so with whatever verdict there is. What a command has of the host and of
+/// the dial it gives back, and the keeper that it asked is closed before anything is printed, also where the files are not told (`line`).
 pub fn replay_main<
     R: Clock + Wait + Threads + Sync,
     F: Files,
@@ -87,32 +83,21 @@ pub fn replay_main<
     dial: &mut L,
     out: &mut S,
 ) -> u8
-    ensures ends { Told (F.content files.old) (λ before. IsSomeAnd (F.content files.new) (λ after.
-        EndsSo (Verdict words.now before) before after
-        (F.faults files.old) (F.faults files.new)
-        (hosting (H.content host.old) (H.content host.new) (H.faults host.old) (H.faults host.new)
-        (keeping (K.runs keeper.old) (K.runs keeper.new) (K.divergences keeper.old) (K.divergences keeper.new) (K.faults keeper.old) (K.faults keeper.new))
-        (dialling (L.content dial.old) (L.content dial.new) (L.counts dial.old) (L.counts dial.new)))
-        result (S.content out.old) (S.content out.new))) }
-    ensures each { Told (F.content files.old) (λ before. IsSomeAnd (F.content files.new) (λ after.
-        (verdict : Result Task Outcome) → Verdict words.now before verdict
-        → Ends verdict before after
-        (F.faults files.old) (F.faults files.new)
-        (hosting (H.content host.old) (H.content host.new) (H.faults host.old) (H.faults host.new)
-        (keeping (K.runs keeper.old) (K.runs keeper.new) (K.divergences keeper.old) (K.divergences keeper.new) (K.faults keeper.old) (K.faults keeper.new))
-        (dialling (L.content dial.old) (L.content dial.new) (L.counts dial.old) (L.counts dial.new)))
-        result (S.content out.old) (S.content out.new))) }
-    ensures line { PrintsLine words.now
-        (hosting (H.content host.old) (H.content host.new) (H.faults host.old) (H.faults host.new)
-        (keeping (K.runs keeper.old) (K.runs keeper.new) (K.divergences keeper.old) (K.divergences keeper.new) (K.faults keeper.old) (K.faults keeper.new))
-        (dialling (L.content dial.old) (L.content dial.new) (L.counts dial.old) (L.counts dial.new)))
-        result (S.content out.old) (S.content out.new) (S.faults out.old) (S.faults out.new) }
-    ensures asks { MayAsk (command_of words.now) (hosting (H.content host.old) (H.content host.new) (H.faults host.old) (H.faults host.new)
-        (keeping (K.runs keeper.old) (K.runs keeper.new) (K.divergences keeper.old) (K.divergences keeper.new) (K.faults keeper.old) (K.faults keeper.new))
-        (dialling (L.content dial.old) (L.content dial.new) (L.counts dial.old) (L.counts dial.new))) }
-    ensures causes { Causes words.now result
-        (moves (F.faults files.old) (F.faults files.new) (H.faults host.old) (H.faults host.new)
-        (K.faults keeper.old) (K.faults keeper.new) (L.counts dial.old).faults (L.counts dial.new).faults (S.faults out.old) (S.faults out.new)) }
+    ensures ends { EndsAsSome words.now
+        (outside (F.account files.old) (H.account host.old) (K.account keeper.old) (L.account dial.old) (S.account out.old))
+        (outside (F.account files.new) (H.account host.new) (K.account keeper.new) (L.account dial.new) (S.account out.new)) result }
+    ensures each { EndsAsEach words.now
+        (outside (F.account files.old) (H.account host.old) (K.account keeper.old) (L.account dial.old) (S.account out.old))
+        (outside (F.account files.new) (H.account host.new) (K.account keeper.new) (L.account dial.new) (S.account out.new)) result }
+    ensures line { TellsLine words.now
+        (outside (F.account files.old) (H.account host.old) (K.account keeper.old) (L.account dial.old) (S.account out.old))
+        (outside (F.account files.new) (H.account host.new) (K.account keeper.new) (L.account dial.new) (S.account out.new)) result }
+    ensures asks { AsksFew words.now
+        (outside (F.account files.old) (H.account host.old) (K.account keeper.old) (L.account dial.old) (S.account out.old))
+        (outside (F.account files.new) (H.account host.new) (K.account keeper.new) (L.account dial.new) (S.account out.new)) }
+    ensures causes { HasCauses words.now
+        (outside (F.account files.old) (H.account host.old) (K.account keeper.old) (L.account dial.old) (S.account out.old))
+        (outside (F.account files.new) (H.account host.new) (K.account keeper.new) (L.account dial.new) (S.account out.new)) result }
 {
     let done = run(rt, alloc, words, files, host, door, keeper, dial);
     report(alloc, &done, out)
@@ -120,8 +105,8 @@ pub fn replay_main<
 
 /// Appends the line of what the work came to, and gives the status.
 fn report<S: Sink>(alloc: Global, done: &Result<Plan, Failure>, out: &mut S) -> u8
-    ensures says { Reports done.now result (S.content out.old) (S.content out.new) (S.faults out.old) (S.faults out.new) }
-    ensures count { S.faults out.old ≤ S.faults out.new }
+    ensures says { Reports done.now result (S.account out.old).content (S.account out.new).content (S.account out.old).faults (S.account out.new).faults }
+    ensures count { (S.account out.old).faults ≤ (S.account out.new).faults }
 {
     match done {
         Ok(plan) => print(plan.line.as_slice(), plan.status(), out),
@@ -130,8 +115,8 @@ fn report<S: Sink>(alloc: Global, done: &Result<Plan, Failure>, out: &mut S) -> 
 }
 
 fn report_failure<S: Sink>(alloc: Global, failure: &Failure, out: &mut S) -> u8
-    ensures says { Reports (Err failure.now) result (S.content out.old) (S.content out.new) (S.faults out.old) (S.faults out.new) }
-    ensures count { S.faults out.old ≤ S.faults out.new }
+    ensures says { Reports (Err failure.now) result (S.account out.old).content (S.account out.new).content (S.account out.old).faults (S.account out.new).faults }
+    ensures count { (S.account out.old).faults ≤ (S.account out.new).faults }
 {
     match failure {
         Failure::DeviceFault => report_fault(out),
@@ -147,8 +132,8 @@ fn report_failure<S: Sink>(alloc: Global, failure: &Failure, out: &mut S) -> u8
 /// Makes the line of a failure and prints it.
 fn report_refusal<S: Sink>(alloc: Global, failure: &Failure, out: &mut S) -> u8
     requires { failure.now ≢ DeviceFault }
-    ensures says { Reports (Err failure.now) result (S.content out.old) (S.content out.new) (S.faults out.old) (S.faults out.new) }
-    ensures count { S.faults out.old ≤ S.faults out.new }
+    ensures says { Reports (Err failure.now) result (S.account out.old).content (S.account out.new).content (S.account out.old).faults (S.account out.new).faults }
+    ensures count { (S.account out.old).faults ≤ (S.account out.new).faults }
 {
     match failure.line(alloc) {
         Ok(line) => print(line.as_slice(), failure.status(), out),
@@ -160,8 +145,8 @@ fn report_refusal<S: Sink>(alloc: Global, failure: &Failure, out: &mut S) -> u8
 /// want of it.
 fn report_fault<S: Sink>(out: &mut S) -> u8
     ensures says { Prints (failure_line DeviceFault) 5 result
-        (S.content out.old) (S.content out.new) (S.faults out.old) (S.faults out.new) }
-    ensures count { S.faults out.old ≤ S.faults out.new }
+        (S.account out.old).content (S.account out.new).content (S.account out.old).faults (S.account out.new).faults }
+    ensures count { (S.account out.old).faults ≤ (S.account out.new).faults }
 {
     print(b"device fault\n", Failure::DeviceFault.status(), out)
 }
@@ -170,8 +155,8 @@ fn report_fault<S: Sink>(out: &mut S) -> u8
 /// memory.
 pub fn report_want_of_memory<S: Sink>(out: &mut S) -> u8
     ensures says { Prints (failure_line OutOfMemory) 6 result
-        (S.content out.old) (S.content out.new) (S.faults out.old) (S.faults out.new) }
-    ensures count { S.faults out.old ≤ S.faults out.new }
+        (S.account out.old).content (S.account out.new).content (S.account out.old).faults (S.account out.new).faults }
+    ensures count { (S.account out.old).faults ≤ (S.account out.new).faults }
 {
     print(b"out of memory\n", Failure::OutOfMemory.status(), out)
 }
@@ -179,8 +164,8 @@ pub fn report_want_of_memory<S: Sink>(out: &mut S) -> u8
 /// Appends a line. The status is this one, or that of a fault where the line was not printed, or in part.
 fn print<S: Sink>(line: &[u8], status: u8, out: &mut S) -> u8
     ensures says { Prints line.now status result
-        (S.content out.old) (S.content out.new) (S.faults out.old) (S.faults out.new) }
-    ensures count { S.faults out.old ≤ S.faults out.new }
+        (S.account out.old).content (S.account out.new).content (S.account out.old).faults (S.account out.new).faults }
+    ensures count { (S.account out.old).faults ≤ (S.account out.new).faults }
 {
     match out.write(line) {
         Ok(()) => status,

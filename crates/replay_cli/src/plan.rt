@@ -10,8 +10,7 @@ ghost use Rattle.captured_calls.specs.Sessions.{AreSessionsFrom};
 ghost use Rattle.prepare_plan.specs.Lists.{lists_of};
 ghost use Rattle.desk_words.specs.Within.{IsCallCount, IsLaneCount};
 ghost use Rattle.replay_cli.specs.Decision.{ToMake, ToReplay, ToTell, ToTry};
-ghost use Rattle.replay_cli.specs.Done.{IsDone, IsDoneAlone, IsQuiet, IsTried, IsWritten, capture_files, history_files, made_calls, made_lists, made_start, session_files};
-ghost use Rattle.register_work.specs.Keeping.{keeping};
+ghost use Rattle.replay_cli.specs.Done.{HandsBack, IsDone, IsDoneAlone, IsQuiet, IsTried, IsWritten, capture_files, history_files, made_calls, made_lists, made_start, session_files};
 ghost use Rattle.replay_cli.specs.Hosting.{dialling, hosting};
 ghost use Rattle.replay_cli.specs.Inside.Serving.{AsksFor, DialFaults, PlanFails, WorkFaults};
 ghost use Rattle.replay_cli.specs.Inside.Work.{IsWork, task_of};
@@ -82,22 +81,17 @@ pub fn plan_of<R: Clock + Wait + Threads + Sync, H: Host, D: Door, K: Keeper, L:
 ) -> Result<Plan, Failure>
     requires { IsWork work }
     ensures done { IfOk result (λ plan. IsDone (task_of work) plan
-        (hosting (H.content host.old) (H.content host.new) (H.faults host.old) (H.faults host.new)
-        (keeping (K.runs keeper.old) (K.runs keeper.new) (K.divergences keeper.old) (K.divergences keeper.new) (K.faults keeper.old) (K.faults keeper.new))
-        (dialling (L.content dial.old) (L.content dial.new) (L.counts dial.old) (L.counts dial.new)))) }
+        (hosting (H.account host.old) (H.account host.new) (K.account keeper.old) (K.account keeper.new) (L.account dial.old) (L.account dial.new))) }
     ensures fails { IfErr result (PlanFails (task_of work)
-        (hosting (H.content host.old) (H.content host.new) (H.faults host.old) (H.faults host.new)
-        (keeping (K.runs keeper.old) (K.runs keeper.new) (K.divergences keeper.old) (K.divergences keeper.new) (K.faults keeper.old) (K.faults keeper.new))
-        (dialling (L.content dial.old) (L.content dial.new) (L.counts dial.old) (L.counts dial.new)))) }
+        (hosting (H.account host.old) (H.account host.new) (K.account keeper.old) (K.account keeper.new) (L.account dial.old) (L.account dial.new))) }
     ensures faults { WorkFaults result
-        (hosting (H.content host.old) (H.content host.new) (H.faults host.old) (H.faults host.new)
-        (keeping (K.runs keeper.old) (K.runs keeper.new) (K.divergences keeper.old) (K.divergences keeper.new) (K.faults keeper.old) (K.faults keeper.new))
-        (dialling (L.content dial.old) (L.content dial.new) (L.counts dial.old) (L.counts dial.new))) }
-    ensures dial { DialFaults result (dialling (L.content dial.old) (L.content dial.new) (L.counts dial.old) (L.counts dial.new)) }
+        (hosting (H.account host.old) (H.account host.new) (K.account keeper.old) (K.account keeper.new) (L.account dial.old) (L.account dial.new)) }
+    ensures dial { DialFaults result (dialling (L.account dial.old) (L.account dial.new)) }
+    ensures handed { HandsBack (task_of work)
+        (hosting (H.account host.old) (H.account host.new) (K.account keeper.old) (K.account keeper.new) (L.account dial.old) (L.account dial.new))
+        (K.account keeper.old).closes (K.account keeper.new).closes }
     ensures asks { AsksFor (task_of work)
-        (hosting (H.content host.old) (H.content host.new) (H.faults host.old) (H.faults host.new)
-        (keeping (K.runs keeper.old) (K.runs keeper.new) (K.divergences keeper.old) (K.divergences keeper.new) (K.faults keeper.old) (K.faults keeper.new))
-        (dialling (L.content dial.old) (L.content dial.new) (L.counts dial.old) (L.counts dial.new))) }
+        (hosting (H.account host.old) (H.account host.new) (K.account keeper.old) (K.account keeper.new) (L.account dial.old) (L.account dial.new)) }
 {
     match work {
         Work::Replaying(out, job, lanes) => Ok(replaying(rt, alloc, &out, job, door, lanes)?),

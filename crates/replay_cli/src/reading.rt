@@ -6,7 +6,7 @@ ghost use Rattle.desk_schema.specs.Schema.{IsVersion};
 ghost use Rattle.captured_calls.specs.Sessions.{AreSessionsFrom};
 ghost use Rattle.prepare_plan.specs.Lists.{lists_of};
 ghost use Rattle.remap_ids.specs.Services.{services_of};
-ghost use Rattle.replay_cli.specs.Decision.{MayRefuseChange, MayRefuseRemap, MayRefuseStart, MayRunOn, MaySend, RemapIn, ReportOf, SessionOf, StartIn, StartOf, TargetIn, TargetOf, remap_of};
+ghost use Rattle.replay_cli.specs.Decision.{IsSpelled, MayRefuseChange, MayRefuseRemap, MayRefuseStart, MayRunOn, MaySend, RemapIn, ReportOf, SessionOf, StartIn, StartOf, TargetIn, TargetOf, remap_of};
 ghost use Rattle.replay_cli.specs.Inside.Steps.{Answered, FaultFree, IsUntaken, MayFail, RefusesOne, Step, seen_as};
 ghost use Rattle.replay_cli.specs.Steps.{Is, Reading, file_in};
 
@@ -23,8 +23,8 @@ use std::alloc::Global;
 /// The bytes of a file, of which at most `room` are taken.
 pub fn read_file<F: Files>(name: &Txt, room: usize, files: &mut F) -> Result<Bytes, Failure>
     ensures step { Step (λ map. Is (file_in map room name.now))
-        (F.content files.old) (F.content files.new)
-        (F.faults files.old) (F.faults files.new) result }
+        (F.account files.old).content (F.account files.new).content
+        (F.account files.old).faults (F.account files.new).faults result }
     ensures room { IfOk result (λ bytes. length bytes ≤ room) }
     ensures kind { IfErr result (MayFail (IsUntaken name.now)) }
 {
@@ -57,8 +57,9 @@ pub fn read_start_file<F: Files>(
     files: &mut F,
 ) -> Result<StartFile, Failure>
     ensures step { Step (λ map. StartIn map name.now)
-        (F.content files.old) (F.content files.new)
-        (F.faults files.old) (F.faults files.new) result }
+        (F.account files.old).content (F.account files.new).content
+        (F.account files.old).faults (F.account files.new).faults result }
+    ensures spelled { IfOk result (λ file. IsSpelled file.start) }
     ensures kind { IfErr result (MayFail (MayRefuseStart name.now)) }
 {
     let bytes = read_file(name, FILE_LIMIT, files)?;
@@ -103,8 +104,8 @@ pub fn read_remap<F: Files>(
     files: &mut F,
 ) -> Result<Remap, Failure>
     ensures step { Step (λ map. RemapIn map name.now)
-        (F.content files.old) (F.content files.new)
-        (F.faults files.old) (F.faults files.new) result }
+        (F.account files.old).content (F.account files.new).content
+        (F.account files.old).faults (F.account files.new).faults result }
     ensures may { IfOk result (MaySend name.now) }
     ensures kind { IfErr result (MayFail (MayRefuseRemap name.now)) }
 {
@@ -137,8 +138,8 @@ pub fn read_target<F: Files>(
     files: &mut F,
 ) -> Result<Start, Failure>
     ensures step { Step (λ map. TargetIn map start.now name.now)
-        (F.content files.old) (F.content files.new)
-        (F.faults files.old) (F.faults files.new) result }
+        (F.account files.old).content (F.account files.new).content
+        (F.account files.old).faults (F.account files.new).faults result }
     ensures may { IfOk result (MayRunOn name.now start.now) }
     ensures kind { IfErr result (MayFail (MayRefuseChange name.now)) }
 {
@@ -175,8 +176,8 @@ pub fn read_sessions<F: Files>(
     requires names { length names.now ≤ 64 }
     requires version { IsVersion version }
     ensures step { Step (λ map. Reading (SessionOf version) map room 0 names.now)
-        (F.content files.old) (F.content files.new)
-        (F.faults files.old) (F.faults files.new) (seen_as lists_of result) }
+        (F.account files.old).content (F.account files.new).content
+        (F.account files.old).faults (F.account files.new).faults (seen_as lists_of result) }
     ensures count { IfOk result (λ sessions. length sessions ≡ length names.now) }
     ensures lists { IfOk result (λ sessions. AreSessionsFrom 0 (lists_of sessions)) }
     ensures kind { IfErr result (MayFail (RefusesOne names.now)) }

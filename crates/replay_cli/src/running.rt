@@ -6,8 +6,7 @@ ghost use Rattle.desk_files.specs.Outside.{Counts, Told};
 ghost use Rattle.desk_files.specs.Writes.{LeavesOfWrites};
 ghost use Rattle.desk_words.specs.Command.{command_of};
 ghost use Rattle.replay_cli.specs.Decision.{Verdict};
-ghost use Rattle.register_work.specs.Keeping.{keeping};
-ghost use Rattle.replay_cli.specs.Ending.{MayAsk, MayComeTo};
+ghost use Rattle.replay_cli.specs.Ending.{GivesAllBack, MayAsk, MayComeTo};
 ghost use Rattle.replay_cli.specs.Hosting.{dialling, hosting};
 ghost use Rattle.replay_cli.specs.Inside.Ending.{RunFaults, RunSays};
 ghost use Rattle.replay_cli.specs.Inside.Serving.{DialFaults};
@@ -36,24 +35,19 @@ pub fn run<R: Clock + Wait + Threads + Sync, F: Files, H: Host, D: Door, K: Keep
     keeper: &mut K,
     dial: &mut L,
 ) -> Result<Plan, Failure>
-    ensures says { Told (F.content files.old) (λ before. IsSomeAnd (F.content files.new) (λ after.
+    ensures says { Told (F.account files.old).content (λ before. IsSomeAnd (F.account files.new).content (λ after.
         RunSays (Verdict words.now before) before after
-        (F.faults files.old) (F.faults files.new)
-        (hosting (H.content host.old) (H.content host.new) (H.faults host.old) (H.faults host.new)
-        (keeping (K.runs keeper.old) (K.runs keeper.new) (K.divergences keeper.old) (K.divergences keeper.new) (K.faults keeper.old) (K.faults keeper.new))
-        (dialling (L.content dial.old) (L.content dial.new) (L.counts dial.old) (L.counts dial.new))) result)) }
-    ensures faults { RunFaults result (F.faults files.old) (F.faults files.new)
-        (hosting (H.content host.old) (H.content host.new) (H.faults host.old) (H.faults host.new)
-        (keeping (K.runs keeper.old) (K.runs keeper.new) (K.divergences keeper.old) (K.divergences keeper.new) (K.faults keeper.old) (K.faults keeper.new))
-        (dialling (L.content dial.old) (L.content dial.new) (L.counts dial.old) (L.counts dial.new))) }
-    ensures dial { DialFaults result (dialling (L.content dial.old) (L.content dial.new) (L.counts dial.old) (L.counts dial.new)) }
-    ensures asks { MayAsk (command_of words.now) (hosting (H.content host.old) (H.content host.new) (H.faults host.old) (H.faults host.new)
-        (keeping (K.runs keeper.old) (K.runs keeper.new) (K.divergences keeper.old) (K.divergences keeper.new) (K.faults keeper.old) (K.faults keeper.new))
-        (dialling (L.content dial.old) (L.content dial.new) (L.counts dial.old) (L.counts dial.new))) }
+        (F.account files.old).faults (F.account files.new).faults
+        (hosting (H.account host.old) (H.account host.new) (K.account keeper.old) (K.account keeper.new) (L.account dial.old) (L.account dial.new)) result)) }
+    ensures faults { RunFaults result (F.account files.old).faults (F.account files.new).faults
+        (hosting (H.account host.old) (H.account host.new) (K.account keeper.old) (K.account keeper.new) (L.account dial.old) (L.account dial.new)) }
+    ensures dial { DialFaults result (dialling (L.account dial.old) (L.account dial.new)) }
+    ensures asks { MayAsk (command_of words.now) (hosting (H.account host.old) (H.account host.new) (K.account keeper.old) (K.account keeper.new) (L.account dial.old) (L.account dial.new)) }
+    ensures handed { GivesAllBack (command_of words.now)
+        (hosting (H.account host.old) (H.account host.new) (K.account keeper.old) (K.account keeper.new) (L.account dial.old) (L.account dial.new))
+        (K.account keeper.old).closes (K.account keeper.new).closes result }
     ensures told { MayComeTo (command_of words.now)
-        (hosting (H.content host.old) (H.content host.new) (H.faults host.old) (H.faults host.new)
-        (keeping (K.runs keeper.old) (K.runs keeper.new) (K.divergences keeper.old) (K.divergences keeper.new) (K.faults keeper.old) (K.faults keeper.new))
-        (dialling (L.content dial.old) (L.content dial.new) (L.counts dial.old) (L.counts dial.new))) result }
+        (hosting (H.account host.old) (H.account host.new) (K.account keeper.old) (K.account keeper.new) (L.account dial.old) (L.account dial.new)) result }
 {
     let Some(command) = command_of(alloc, words)? else {
         return Err(Failure::BadCommand);
@@ -69,8 +63,8 @@ pub fn run<R: Clock + Wait + Threads + Sync, F: Files, H: Host, D: Door, K: Keep
 
 /// Writes these files. Where there is none, nothing is asked, so nothing fails.
 fn written<F: Files>(writes: &[Write], files: &mut F) -> Result<(), WriteErr>
-    ensures left { Told (F.content files.old) (λ before. IsSomeAnd (F.content files.new) (LeavesOfWrites writes.now before result)) }
-    ensures faults { Counts (write_ending result) (F.faults files.old) (F.faults files.new) }
+    ensures left { Told (F.account files.old).content (λ before. IsSomeAnd (F.account files.new).content (LeavesOfWrites writes.now before result)) }
+    ensures faults { Counts (write_ending result) (F.account files.old).faults (F.account files.new).faults }
     ensures none { writes.now ≡ [] → IsOk result }
 {
     if writes.is_empty() {

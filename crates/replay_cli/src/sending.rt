@@ -8,6 +8,7 @@ ghost use Rattle.replay_report.specs.Report.{heard_report_in};
 ghost use Rattle.desk_words.specs.Within.{IsLaneCount};
 ghost use Rattle.remote_desk.specs.Desk.{IsKept};
 ghost use Rattle.remote_desk.specs.History.{plain};
+ghost use Rattle.remote_target.specs.Dialled.{IsHandedBack};
 ghost use Rattle.replay_cli.specs.declared.failure.Failure.TheVariants.{OutOfMemory};
 ghost use Rattle.replay_cli.specs.Done.{IsSent, sent_files};
 ghost use Rattle.replay_cli.specs.Hosting.{dialling};
@@ -44,9 +45,10 @@ pub(crate) fn sending<R: Clock + Wait + Threads + Sync, D: Door, L: Dial>(
     requires out { length out.now ≤ 900 }
     requires job { IsSoundJob (seen job) }
     requires lanes { IsLaneCount lanes }
-    ensures done { IfOk result (λ plan. IsSent out.now (seen job) plan (dialling (L.content dial.old) (L.content dial.new) (L.counts dial.old) (L.counts dial.new))) }
-    ensures dial { DialFaults result (dialling (L.content dial.old) (L.content dial.new) (L.counts dial.old) (L.counts dial.new)) }
-    ensures fails { IfErr result (SendFails (seen job) (dialling (L.content dial.old) (L.content dial.new) (L.counts dial.old) (L.counts dial.new))) }
+    ensures done { IfOk result (λ plan. IsSent out.now (seen job) plan (dialling (L.account dial.old) (L.account dial.new))) }
+    ensures dial { DialFaults result (dialling (L.account dial.old) (L.account dial.new)) }
+    ensures fails { IfErr result (SendFails (seen job) (dialling (L.account dial.old) (L.account dial.new))) }
+    ensures handed { IsHandedBack (seen job).calls port (L.account dial.old) (L.account dial.new) }
 {
     match run_remote(rt, alloc, job, door, dial, port, lanes) {
         Ok(desk) => planned(told_of(alloc, out, desk)),

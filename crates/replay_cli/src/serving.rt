@@ -5,6 +5,7 @@ ghost use Rattle.std.specs.List.{AllByRecursion};
 ghost use Rattle.capture_format.specs.SessionFile.{MayTellAll};
 ghost use Rattle.captured_calls.specs.Sessions.{AreSessionsFrom};
 ghost use Rattle.prepare_plan.specs.Lists.{lists_of};
+ghost use Rattle.capture_serve.specs.Service.{IsHandedBack};
 ghost use Rattle.replay_cli.specs.Done.{IsQuiet, IsServed, capture_files};
 ghost use Rattle.replay_cli.specs.Inside.Serving.{HostFaults, ServeFails};
 ghost use Rattle.replay_cli.specs.Lines.{served_line, short_text};
@@ -33,9 +34,10 @@ pub(crate) fn serving<R: Clock + Wait + Threads + Sync, H: Host, D: Door>(
 ) -> Result<Plan, Failure>
     requires out { length out.now ≤ 900 }
     requires most { most ≤ 64 }
-    ensures done { IfOk result (λ plan. IsServed out.now start.now most plan (H.content host.old) (H.content host.new)) }
-    ensures fails { IfErr result (ServeFails start.now most (H.content host.old) (H.content host.new)) }
-    ensures faults { HostFaults result (H.faults host.old) (H.faults host.new) }
+    ensures done { IfOk result (λ plan. IsServed out.now start.now most plan (H.account host.old).content (H.account host.new).content) }
+    ensures fails { IfErr result (ServeFails start.now most (H.account host.old).content (H.account host.new).content) }
+    ensures faults { HostFaults result (H.account host.old).faults (H.account host.new).faults }
+    ensures handed { IsHandedBack most port (H.account host.old).handed (H.account host.new).handed }
 {
     start.know_rules();
     match serve(rt, alloc, start, host, door, port, most) {

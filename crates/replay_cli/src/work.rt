@@ -53,8 +53,8 @@ pub fn decide<F: Files>(alloc: Global, command: Command, files: &mut F) -> Resul
     ensures task { IfOk result (λ work. IsTaskOf command (task_of work)) }
     ensures refused { IfErr result (MayFail (MayBeRefused command)) }
     ensures step { Step (λ map. Decides command map)
-        (F.content files.old) (F.content files.new)
-        (F.faults files.old) (F.faults files.new) (seen_as task_of result) }
+        (F.account files.old).content (F.account files.new).content
+        (F.account files.old).faults (F.account files.new).faults (seen_as task_of result) }
 {
     match command {
         Command::Run(capture, out, ways) => decide_run(alloc, &capture, out, ways, files),
@@ -87,8 +87,8 @@ fn decide_run<F: Files>(
     ensures task { IfOk result (λ work. IsTaskOf (TheRun capture.now out ways) (task_of work)) }
     ensures refused { IfErr result (MayFail (MayBeRefused (TheRun capture.now out ways))) }
     ensures step { Step (λ map. RunIn map capture.now out ways)
-        (F.content files.old) (F.content files.new)
-        (F.faults files.old) (F.faults files.new) (seen_as task_of result) }
+        (F.account files.old).content (F.account files.new).content
+        (F.account files.old).faults (F.account files.new).faults (seen_as task_of result) }
 {
     let read = read_capture(alloc, capture, files)?;
     let lanes = lanes_of(&ways, read.sessions.len());
@@ -161,8 +161,8 @@ fn decide_prepare<F: Files>(
     ensures task { IfOk result (λ work. IsTaskOf (ThePrepare capture.now out) (task_of work)) }
     ensures refused { IfErr result (MayFail (MayBeRefused (ThePrepare capture.now out))) }
     ensures step { Step (λ map. PrepareIn map capture.now out)
-        (F.content files.old) (F.content files.new)
-        (F.faults files.old) (F.faults files.new) (seen_as task_of result) }
+        (F.account files.old).content (F.account files.new).content
+        (F.account files.old).faults (F.account files.new).faults (seen_as task_of result) }
 {
     let read = read_capture(alloc, capture, files)?;
     let legal = test(alloc, read)?;
@@ -183,8 +183,8 @@ fn decide_serve<F: Files>(
     ensures task { IfOk result (λ work. IsTaskOf (TheServe capture start.now connections port) (task_of work)) }
     ensures refused { IfErr result (MayFail (MayBeRefused (TheServe capture start.now connections port))) }
     ensures step { Step (λ map. ServeIn map capture start.now connections port)
-        (F.content files.old) (F.content files.new)
-        (F.faults files.old) (F.faults files.new) (seen_as task_of result) }
+        (F.account files.old).content (F.account files.new).content
+        (F.account files.old).faults (F.account files.new).faults (seen_as task_of result) }
 {
     let file = read_start_file(alloc, start, files)?;
     Ok(Work::Serving(capture, file.start, connections, port))
@@ -201,8 +201,8 @@ fn decide_register<F: Files>(
     ensures task { IfOk result (λ work. IsTaskOf (TheRegister out.now run) (task_of work)) }
     ensures refused { IfErr result (MayFail (MayBeRefused (TheRegister out.now run))) }
     ensures step { Step (λ map. RegisterIn map out.now run)
-        (F.content files.old) (F.content files.new)
-        (F.faults files.old) (F.faults files.new) (seen_as task_of result) }
+        (F.account files.old).content (F.account files.new).content
+        (F.account files.old).faults (F.account files.new).faults (seen_as task_of result) }
 {
     let name = name_in(alloc, out, "/report.txt")?;
     let bytes = read_file(&name, FILE_LIMIT, files)?;

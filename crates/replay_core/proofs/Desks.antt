@@ -5,8 +5,8 @@ use Rattle.desk_values.specs.declared.call.Call.{Call}
 use Rattle.desk_values.specs.declared.call.Reply.{Reply}
 use Rattle.desk_values.specs.declared.capture.Captured.{Captured}
 use Rattle.desk_values.specs.declared.capture.Event.TheVariants.{Answer}
-use Rattle.machine_model.specs.State.{State}
-use Rattle.machine_model.specs.Step.{Gives}
+use Rattle.server_words.specs.State.{State}
+use Rattle.server_words.specs.Step.{Gives}
 use Rattle.id_pairs.specs.Pairs.{IdPair, learnt}
 use Rattle.remap_ids.specs.Sent.{sent}
 use Rattle.remap_ids.specs.Services.{ServicePair}

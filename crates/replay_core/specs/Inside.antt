@@ -5,9 +5,9 @@ use Rattle.desk_values.specs.declared.call.Reply.{Reply}
 use Rattle.desk_values.specs.declared.capture.Captured.{Captured}
 use Rattle.desk_schema.specs.Sound.{IsSoundStart}
 use Rattle.desk_schema.specs.Start.{StartView}
-use Rattle.machine_model.specs.Machine.{Running}
-use Rattle.machine_model.specs.State.{State, opening}
-use Rattle.machine_model.specs.Step.{Gives}
+use Rattle.server_words.specs.Machine.{Running}
+use Rattle.server_words.specs.State.{State, opening}
+use Rattle.server_words.specs.Step.{Gives}
 use Rattle.replay_history.specs.Gap.{IsCallAt}
 use Rattle.id_pairs.specs.Pairs.{HasNoIdTwice, learnt}
 use Rattle.remap_ids.specs.IdMap.{start_pairs}

@@ -1,8 +1,8 @@
 ghost use Rattle.std.specs.Prelude.{EachIndex, ◌≡◌, ◌<◌, ◌≤◌, ◌↔◌, ◌⊎◌, ◌+◌, ℕ, [], true, false, length, slice_index, IfOk, IfSome, IsTrue, MatchOption, OnErr, OnOk};
 ghost use Rattle.desk_values.specs.Good.{IsGoodReply};
 ghost use Rattle.desk_values.specs.declared.capture.Captured.{Captured};
-ghost use Rattle.machine_model.specs.Sound.{AreStanding};
-ghost use Rattle.machine_model.specs.State.{tables};
+ghost use Rattle.server_words.specs.Sound.{AreStanding};
+ghost use Rattle.server_words.specs.State.{tables};
 ghost use Rattle.replay_history.specs.Gap.{IsCallAt};
 ghost use Rattle.replay_history.specs.History.{AnswersAll, IsWaiting};
 ghost use Rattle.remap_ids.specs.IdMap.{start_pairs};

@@ -1,8 +1,9 @@
 //! What the program tells of the connections that it serves, on a terminal alone: at which port it listens, and each connection
 //! that comes and that has ended.
 
-ghost use Rattle.std.specs.Prelude.{◌≡◌, ℕ, List, Option};
-ghost use Rattle.desk_files.specs.Hosts.{Connections};
+ghost use Rattle.std.specs.Prelude.{◌≡◌, ℕ, List};
+ghost use Rattle.desk_files.specs.Outside.{Account};
+ghost use Rattle.desk_files.specs.Hosts.{HostAccount};
 
 use desk_files::{Failed, Host, Sink, Source};
 use desk_values::Memory;
@@ -49,9 +50,7 @@ impl<S: Drop, E: Eprint> TellingSource<'_, S, E> {
 }
 
 impl<S: Source + Drop, E: Eprint> Source for TellingSource<'_, S, E> {
-    ghost content = { λ s. S.content s.source };
-
-    ghost faults = { λ s. S.faults s.source };
+    ghost account = { λ s. S.account s.source };
 
     fn read(&mut self, buffer: &mut [u8]) -> Result<usize, Failed> {
         let read = self.source.read(buffer);
@@ -73,9 +72,7 @@ impl<'a, H: Host + Drop, E: Eprint + Sync> Host for TellingHost<'a, H, E> {
 
     type Out = H::Out;
 
-    ghost content = { λ s. H.content s.host };
-
-    ghost faults = { λ s. H.faults s.host };
+    ghost account = { λ s. H.account s.host };
 
     fn listen(&mut self, port: u16) -> Result<(), Failed> {
         self.host.listen(port)?;

@@ -3,8 +3,6 @@
 //! a terminal it tells there of the progress.
 #![tactic(auto)]
 
-ghost use Rattle.std.specs.Prelude.{◌≡◌, ◌<◌, ◌≤◌, IsErrOf, IsOk};
-
 mod connections;
 mod progress;
 
@@ -13,7 +11,6 @@ use desk_files::{RealFiles, RealHost, SleepDoor, StdSink};
 use progress::{CountingFiles, ProgressDoor};
 use remote_link::RealDial;
 use replay_cli::{Arguments, arguments_of, replay_main, report_want_of_memory};
-use run_register::KeepErr;
 use sqlite_keeper::{REGISTER_FILE, RegisterFile};
 use std::io::IsTerminal;
 use std::process::ExitCode;
@@ -46,20 +43,5 @@ fn main(rt: HostRuntime) -> ExitCode {
         &mut out,
     );
     told.end(&rt);
-    ExitCode::from(status_after(status, keeper.close()))
-}
-
-// The status to end with once the register is closed. Where that was not done, nothing that was kept is lost, and it lies in two files
-// until the next command: so what was done ends as where a device failed, or memory was short.
-fn status_after(status: u8, closed: Result<(), KeepErr>) -> u8
-    ensures closed { IsOk closed → result ≡ status }
-    ensures other { 1 < status → result ≡ status }
-    ensures failed { IsErrOf closed KeepErr.Failed → status ≤ 1 → result ≡ 5 }
-    ensures short { IsErrOf closed KeepErr.Memory → status ≤ 1 → result ≡ 6 }
-{
-    match closed {
-        Err(KeepErr::Failed) if status <= 1 => 5,
-        Err(KeepErr::Memory) if status <= 1 => 6,
-        _ => status,
-    }
+    ExitCode::from(status)
 }

@@ -2,8 +2,7 @@
 //!
 //! The door counts the calls that pass it, and the files count the lines of calls that are read through them.
 
-ghost use Rattle.std.specs.Prelude.{ℕ, Option};
-ghost use Rattle.desk_files.specs.Outside.{FileMap};
+ghost use Rattle.desk_files.specs.Outside.{Account, FileMap};
 
 use desk_files::{Door, FileErr, Files, WriteErr};
 use desk_values::{Bytes, Txt};
@@ -110,9 +109,7 @@ impl<'a, F: Drop> CountingFiles<'a, F> {
 }
 
 impl<F: Files + Drop> Files for CountingFiles<'_, F> {
-    ghost content = { λ s. F.content s.files };
-
-    ghost faults = { λ s. F.faults s.files };
+    ghost account = { λ s. F.account s.files };
 
     fn read(&mut self, name: &Txt) -> Result<Bytes, FileErr> {
         let bytes = self.files.read(name)?;

@@ -5,8 +5,8 @@ use Rattle.desk_values.specs.Limits.{last_moment}
 use Rattle.desk_schema.specs.Sound.{IsSoundStart}
 use Rattle.desk_schema.specs.Start.{StartView}
 use Rattle.desk_schema.specs.Target.{IsTarget}
-use Rattle.machine_model.specs.State.{opening}
-use Rattle.machine_model.specs.Step.{Gives}
+use Rattle.server_words.specs.State.{opening}
+use Rattle.server_words.specs.Step.{Gives}
 use Rattle.replay_history.specs.declared.mode.Mode.{Mode}
 use Rattle.replay_history.specs.Limits.{percent_limit}
 use Rattle.replay_history.specs.Capture.{IsLegalCapture}

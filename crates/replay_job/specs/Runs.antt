@@ -6,8 +6,8 @@ use Rattle.desk_values.specs.declared.capture.Event.{Event}
 use Rattle.desk_values.specs.declared.capture.Event.TheVariants.{Start, Answer}
 use Rattle.desk_values.specs.declared.call.Reply.{Reply}
 use Rattle.desk_values.specs.declared.value.Image.{Image}
-use Rattle.machine_model.specs.State.{State, opening, tables}
-use Rattle.machine_model.specs.Step.{Gives}
+use Rattle.server_words.specs.State.{State, opening, tables}
+use Rattle.server_words.specs.Step.{Gives}
 use Rattle.replay_history.specs.Gap.{IsCallAt, pause_before}
 use Rattle.replay_history.specs.History.{IsAnswered, IsCompleteRun, IsLegalHistory, IsTruthfulHistory}
 use Rattle.object_depends.specs.Required.{is_required}

@@ -1,3 +1,4 @@
 mod Behind
+mod Counting
 mod Ranges
 mod Seated

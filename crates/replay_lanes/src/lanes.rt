@@ -1,6 +1,8 @@
 //! The threads of a replay, and the one lock that they share.
 
+ghost use Rattle.std.specs.Prelude.{◌≡◌};
 ghost use Rattle.std.specs.Thread.{IsSync};
+ghost use Rattle.replay_lanes.specs.Inside.Seats.{taken_over};
 
 use crate::seats::{home_of, join};
 use crate::target::Target;
@@ -122,7 +124,10 @@ fn start_each<
     joined
 }
 
-fn note(started: bool, joined: &mut [bool; 64], lane: &[u32]) {
+// Notes the sessions of a lane that no thread serves.
+fn note(started: bool, joined: &mut [bool; 64], lane: &[u32])
+    ensures { joined.new ≡ taken_over started joined.old lane.now }
+{
     if !started {
         join(joined, lane);
     }

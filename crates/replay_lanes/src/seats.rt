@@ -2,7 +2,7 @@
 
 ghost use Rattle.std.specs.Prelude.{◌≡◌, ◌≤◌, [], IfOk};
 ghost use Rattle.desk_values.specs.Limits.{session_limit};
-ghost use Rattle.replay_lanes.specs.Inside.Seats.{noted_sessions};
+ghost use Rattle.replay_lanes.specs.Inside.Seats.{noted_sessions, with_lane, with_session};
 ghost use Rattle.replay_lanes.specs.Sessions.{is_seated, lane_sessions, seats, sessions, takes_part};
 
 use desk_values::{Captured, List, Memory, Reserved, SESSION_LIMIT, Stamps};
@@ -61,11 +61,20 @@ fn takes_part(calls: &[Captured], session: u32) -> bool
 }
 
 /// Notes the sessions of a lane.
-pub fn join(noted: &mut [bool; 64], lane: &[u32]) {
+pub fn join(noted: &mut [bool; 64], lane: &[u32])
+    ensures { noted.new ≡ with_lane noted.old lane.now }
+{
     for session in lane {
-        if let Some(flag) = noted.get_mut(*session as usize) {
-            *flag = true;
-        }
+        note(noted, *session as usize);
+    }
+}
+
+// Notes a session, where there is such a one.
+fn note(noted: &mut [bool; 64], session: usize)
+    ensures { noted.new ≡ with_session noted.old session }
+{
+    if session < noted.len() {
+        noted[session] = true;
     }
 }
 

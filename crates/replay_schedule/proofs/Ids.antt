@@ -8,10 +8,10 @@ use Rattle.desk_values.specs.declared.value.Value.TheVariants as value
 use Rattle.desk_values.specs.declared.call.Call.{Call}
 use Rattle.desk_values.specs.declared.call.Call.TheVariants.{Connect, Sql, Disconnect}
 use Rattle.desk_values.specs.declared.capture.Captured.{Captured}
-use Rattle.machine_model.specs.Draws.{drawn_from}
-use Rattle.machine_model.specs.State.{State, opening}
-use Rattle.machine_model.specs.Step.{Gives}
-use Rattle.machine_model.proofs.Members.{each_weaker}
+use Rattle.server_words.specs.Draws.{drawn_from}
+use Rattle.server_words.specs.State.{State, opening}
+use Rattle.server_words.specs.Step.{Gives}
+use Rattle.server_words.proofs.Members.{each_weaker}
 use Rattle.replay_history.specs.Capture.{IsKnown, IsRun, binds_of}
 use Rattle.replay_history.specs.Gap.{IsCallAt}
 use Rattle.law_ids.specs.Counters.{IsBelow}

@@ -93,7 +93,7 @@ within (y ∷ xs) zero i x h = absurd (grind (arith, h))
 within (y ∷ xs) (suc end) zero x h = (h, omega arith, omega arith, refl)
 within (y ∷ xs) (suc end) (suc i) x h = let rest = within xs end i x h in (rest.0, omega (arith, rest.1), omega (arith, rest.2), ap (λ (zs : List _). y ∷ zs) rest.3)
 
-same_row : (row : ℕ) → nat_eq row row ≡ true
+pub same_row : (row : ℕ) → nat_eq row row ≡ true
 same_row row = grind arith
 
 -- of versions that are all over the number none is read
@@ -322,7 +322,7 @@ not_greater a b h = by (nat_lt b a) refl
         let is : nat_cmp a b ≡ Greater = sym (nat_cmp_is a b Greater more) in
         absurd (grind (arith, h, is))
 
-nowhere : (k row : ℕ) (xs : List Version) → last_from k row xs ≡ None → list_any (is_of_row row) (seen_of xs) ≡ false
+pub nowhere : (k row : ℕ) (xs : List Version) → last_from k row xs ≡ None → list_any (is_of_row row) (seen_of xs) ≡ false
 nowhere k row [] h = refl
 nowhere k row (x ∷ xs) h = by (last_from (k + 1) row xs) refl (nat_eq x.image.row row) refl (nowhere (k + 1) row xs)
   where
@@ -331,7 +331,7 @@ nowhere k row (x ∷ xs) h = by (last_from (k + 1) row xs) refl (nat_eq x.image.
     by None e true f rest = absurd (grind (arith, h, e, f))
     by None e false f rest = let none = rest e in grind (arith, none, f)
 
-somewhere : (k row p : ℕ) (xs : List Version) → last_from k row xs ≡ Some p → list_any (is_of_row row) (seen_of xs) ≡ true
+pub somewhere : (k row p : ℕ) (xs : List Version) → last_from k row xs ≡ Some p → list_any (is_of_row row) (seen_of xs) ≡ true
 somewhere k row p [] h = absurd (grind (arith, h))
 somewhere k row p (x ∷ xs) h = by (last_from (k + 1) row xs) refl (nat_eq x.image.row row) refl (λ q. somewhere (k + 1) row q xs)
   where

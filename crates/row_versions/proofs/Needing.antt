@@ -1,16 +1,12 @@
 -- What reads from a number on find, where versions are let go that they do not need.
-use Rattle.std.proofs.Common.{◌≡◌, ◌∙◌, ℕ, ◌≤◌, ◌<◌, Bool, true, false, ◌&&◌, not, if◌then◌else◌, List, [], ◌∷◌, ◌++◌, ◌+◌, length, get_or, drop, Option, None, Some, append_assoc, refl, sym, ap, subst, inl, inr, arith}
+use Rattle.std.proofs.Common.{◌≡◌, ◌∙◌, ℕ, ◌≤◌, ◌<◌, Bool, true, false, ◌&&◌, not, if◌then◌else◌, List, [], ◌∷◌, Option, None, Some, refl, sym, ap, subst, inl, inr, arith}
 use Rattle.std.specs.Prelude.{is_some, nat_eq, nat_le}
 use Rattle.std.specs.Option.{option_map}
 use Rattle.desk_values.specs.declared.value.Value.{Value}
-use Rattle.std.specs.List.{All, AllByRecursion}
-use Rattle.std.proofs.lemmas.List.{drop_more}
-use Rattle.std.proofs.lemmas.List.Elements.{All-from_recursion}
-use denote.Ref.{Bor}
 use Rattle.desk_values.specs.declared.value.Image.{Image}
 use Rattle.row_versions.specs.declared.versions.Version.{Version}
 use Rattle.row_versions.specs.History.{IsPartOf, ReadsStay, Written, is_of_row, is_up_to, left_of, or_else, row_at, seen_of, written_of}
-use Rattle.row_versions.specs.Inside.Links.{Ascends, found_in, has_row, is_needed, needed}
+use Rattle.row_versions.specs.Inside.Links.{Ascends, has_row, is_needed, needed}
 
 -- what the first says of a row
 abbrev own_image : Version → ℕ → ℕ → Option Image
@@ -146,7 +142,7 @@ needed_part n (v ∷ list) = by (is_needed n v list) (needed_part n list)
     by true part = inl (refl, part)
     by false part = left_out (written_of v) (seen_of (needed n list)) (seen_of list) part
 
--- ---- those that stay are put in order
+-- ---- those that stay are in order
 
 ascends_weaker : (low high : ℕ) (list : List Written) → low ≤ high → Ascends high list → Ascends low list
 ascends_weaker low high [] le up = tt
@@ -159,27 +155,6 @@ needed_ascends n low (v ∷ list) up = by (is_needed n v list) (needed_ascends n
     by : (k : Bool) → Ascends v.number (seen_of (needed n list)) → Ascends low (seen_of (if k then v ∷ needed n list else needed n list))
     by true rest = (up.0, rest)
     by false rest = ascends_weaker low v.number (seen_of (needed n list)) up.0 rest
-
-over_low : (low : ℕ) (list : List Written) (w : Written) (rest : List Written) → Ascends low (list ++ w ∷ rest) → low ≤ w.number
-over_low low [] w rest up = up.0
-over_low low (v ∷ list) w rest up = let later = over_low v.number list w rest up.1 in omega (arith, up.0, later)
-
-below_next : (low : ℕ) (list : List Written) (w : Written) (rest : List Written) → Ascends low (list ++ w ∷ rest) → AllByRecursion (λ (v : Written). v.number ≤ w.number) list
-below_next low [] w rest up = tt
-below_next low (v ∷ list) w rest up = (over_low v.number list w rest up.1, below_next v.number list w rest up.1)
-
--- a turn of the loop that puts what was found
-module _ (put : List Written) (found : List (Bor Version)) (i : ℕ) (x : Bor Version) (inside : i < length found) (read : x ≡ get_or found i x) (whole : List Written) (same : put ++ seen_of (found_in (drop i found)) ≡ whole) where
-  next_stands : put ++ written_of x.now ∷ seen_of (found_in (drop (i + 1) found)) ≡ whole
-  next_stands = ap (λ (rest : List (Bor Version)). put ++ seen_of (found_in rest)) (sym (drop_more found i x inside ∙ ap (λ (y : Bor Version). y ∷ drop (i + 1) found) (sym read))) ∙ same
-
-  pub may_put : Ascends 0 whole → All (λ (v : Written). v.number ≤ x.now.number) put
-  may_put up = All-from_recursion (λ (v : Written). v.number ≤ x.now.number) put (below_next 0 put (written_of x.now) (seen_of (found_in (drop (i + 1) found))) (subst (Ascends 0) (sym next_stands) up))
-
-  pub put_more : (after : List Written) (image : Image) → after ≡ put ++ record { number = x.now.number; image = image } ∷ [] → image ≡ x.now.image → after ++ seen_of (found_in (drop (i + 1) found)) ≡ whole
-  put_more after image grown copied =
-      ap (λ (l : List Written). l ++ seen_of (found_in (drop (i + 1) found))) (grown ∙ ap (λ (j : Image). let w : Written = record { number = x.now.number; image = j } in put ++ w ∷ []) copied)
-      ∙ append_assoc put (written_of x.now ∷ []) (seen_of (found_in (drop (i + 1) found))) ∙ next_stands
 
 -- what the pruned versions are read as
 pub pruned_reads : (n : ℕ) (list : List Version) (new : List Written) → Ascends 0 (seen_of list) → new ≡ seen_of (needed n list) → ReadsStay n (seen_of list) new

@@ -1,17 +1,18 @@
 //! Versions of rows in one list, in the order of writing. Each names the place of the one of its row before it, and a map has the
 //! place of each row's last.
 
-ghost use Rattle.std.specs.Prelude.{◌≡◌, ℕ, List, cond, ◌+◌, ◌≤◌, ◌<◌, [], ◌∷◌, ◌++◌, All, Bool, true, false, length, IfOk, OnOk, OnErr};
+ghost use Rattle.std.specs.Prelude.{◌≡◌, ℕ, List, cond, ◌+◌, ◌≤◌, ◌<◌, [], ◌∷◌, ◌++◌, All, Bool, true, false, if◌then◌else◌, is_some, nat_le, nat_lt, ◌&&◌, length, slice_index_or, slice_set, IfOk, OnOk, OnErr};
 ghost use Rattle.std.specs.BTreeMap.{IsOrdered, get, is_at};
-ghost use Rattle.std.specs.Option.{IsSome, option_copied};
+ghost use Rattle.std.specs.List.{filter, list_any};
+ghost use Rattle.std.specs.Option.{IsSome, option_copied, option_map};
 ghost use Rattle.std.specs.Ordering.{nat_cmp};
 ghost use Rattle.row_versions.specs.declared.versions.Version.{Version as AnyVersion};
-ghost use Rattle.row_versions.specs.History.{AreRowsAt, IsNextRow, IsPartOf, ReadsStay, left_of, looked, row_at, seen_of, up_to};
-ghost use Rattle.row_versions.specs.Inside.Links.{AreLinked, Ascends, IsBehind, all_left, found_in, last_place, listed, needed};
+ghost use Rattle.row_versions.specs.History.{AreRowsAt, IsNextRow, IsPartOf, ReadsStay, is_of_row, left_of, looked, row_at, seen_of, up_to};
+ghost use Rattle.row_versions.specs.Inside.Links.{ArePlacedBehind, AreLinked, Ascends, IsBehind, IsLinkedAt, all_left, is_marked, is_unplaced, last_place, listed, marked, places_below};
 
-use desk_values::{Copied, Image, Memory};
+use desk_values::{Image, Memory};
 use std::alloc::Global;
-use std::collections::{BTreeMap, BTreeSet};
+use std::collections::BTreeMap;
 use std::marker::Model;
 use std::ops::Bound;
 
@@ -25,7 +26,9 @@ pub struct Version {
     // Where an earlier one of the row stands, from which a search may go on; its own place where there is none.
     jump: usize,
     // How many of the row there are before it.
-    depth: usize,
+    depth: u32,
+    // Whether reads need it, once that was looked at.
+    is_needed: bool,
 }
 
 /// The versions of rows. Contracts see a list of images in the order of writing, each with the number of the commit that wrote
@@ -94,6 +97,7 @@ impl Versions {
             before,
             jump,
             depth,
+            is_needed: true,
         };
         self.list.push(version).unwrap();
         Ok(())
@@ -128,7 +132,7 @@ impl Versions {
     }
 
     /// Reads go by this number and later ones from now on. Versions that no such read finds are let go, each time that there are twice
-    /// as many as there were left, where there is memory to write the others anew. A row that is gone counts as one without an image.
+    /// as many as there were left. A row that is gone counts as one without an image. Takes no memory: no image is copied.
     #[tactic(auto, using(crate::proofs::Needing::whole_part))]
     pub fn forget_below(&mut self, n: u64)
         requires { self.old.floor ≤ n }
@@ -138,25 +142,24 @@ impl Versions {
     {
         self.floor = n;
         if self.list.len() / 2 >= self.left {
-            if let Ok(versions) = self.pruned() {
-                *self = versions;
-            }
+            self.prune();
+            self.left = self.list.len().max(LEFT_AT_LEAST);
         }
     }
 
-    // Those that reads from the floor on find.
-    fn pruned(&self) -> Result<Versions, Memory>
-        ensures reads { IfOk result (λ versions. ReadsStay self.now.floor self.now.list versions.list) }
-        ensures fewer { IfOk result (λ versions. IsPartOf versions.list self.now.list) }
-        ensures floor { IfOk result (λ versions. versions.floor ≡ self.now.floor) }
+    // Lets go what reads from the floor on do not find. While it is at work the places of rows in the map are set anew.
+    fn prune(&mut self)
+        ensures reads { ReadsStay self.old.floor self.old.list self.new.list }
+        ensures fewer { IsPartOf self.new.list self.old.list }
+        ensures floor { self.new.floor ≡ self.old.floor }
     {
-        let alloc = *self.list.allocator();
-        let found = needed(alloc, &self.list, self.floor)?;
-        let mut versions = Versions::new(alloc);
-        put_all(&mut versions, &found)?;
-        versions.floor = self.floor;
-        versions.left = found.len().max(LEFT_AT_LEAST);
-        Ok(versions)
+        let behind = self.list.len();
+        place_behind(&mut self.last, &self.list, behind);
+        mark(&mut self.list, &mut self.last, self.floor, behind);
+        place_behind(&mut self.last, &self.list, behind);
+        drop_unmarked(&mut self.list);
+        link_all(&mut self.list, &mut self.last, behind);
+        drop_behind(&mut self.last, behind);
     }
 
     /// Takes out each version with a number over this one, which is not below the floor. Takes no memory.
@@ -214,7 +217,7 @@ fn step_back(last: &mut BTreeMap<u64, usize>, row: u64, before: Option<usize>)
 
 // Where a version goes from which a search may go on, and how many there are before it, where the row's last one stands here: as far back as
 // the jumps of the last two went together, where these are of one length, else to the last one. Which place it is costs time at most.
-fn jump_of(list: &[Version], last: Option<usize>) -> (usize, usize) {
+fn jump_of(list: &[Version], last: Option<usize>) -> (usize, u32) {
     let Some(at) = last else {
         return (list.len(), 0);
     };
@@ -305,33 +308,135 @@ fn push_left<'a>(rows: &mut Vec<&'a Image>, image: Option<&'a Image>) -> Result<
     Ok(())
 }
 
-// Puts these behind the others.
-fn put_all(versions: &mut Versions, found: &[&Version]) -> Result<(), Memory>
-    requires { Ascends 0 (versions.old.list ++ seen_of (found_in found.now)) }
-    ensures list { OnOk result (versions.new.list ≡ versions.old.list ++ seen_of (found_in found.now)) }
-    ensures floor { versions.new.floor ≡ versions.old.floor }
+// Each row that has versions is placed behind all of them.
+fn place_behind(last: &mut BTreeMap<u64, usize>, list: &[Version], behind: usize)
+    ensures { (row : ℕ) → get nat_cmp last.new row
+        ≡ (if list_any (is_of_row row) (seen_of list.now) then option_map (λ _. behind) (get nat_cmp last.old row) else get nat_cmp last.old row) }
 {
-    for version in found {
-        versions.put(version.number, version.image.copy()?)?;
+    for version in list {
+        set_place(last, version.image.row, behind);
     }
-    Ok(())
 }
 
-// Those that reads from a number on find.
-fn needed<'a>(alloc: Global, list: &'a [Version], n: u64) -> Result<Vec<&'a Version>, Memory>
-    ensures { IfOk result (λ found. found_in found.items ≡ needed n list.now) }
+// The row has this place, where it has one.
+fn set_place(last: &mut BTreeMap<u64, usize>, row: u64, place: usize)
+    ensures { (other : ℕ) → get nat_cmp last.new other
+        ≡ cond (is_at (nat_cmp row) other) (option_map (λ _. place) (get nat_cmp last.old other)) (get nat_cmp last.old other) }
 {
-    let mut seen = BTreeSet::new(alloc);
-    let mut found = Vec::new(alloc);
-    let mut front = list;
-    while let [rest @ .., version] = front {
-        if version.number > n {
-            found.push(version)?;
-        } else if seen.insert(version.image.row)? && version.image.left.is_some() {
-            found.push(version)?;
-        }
-        front = rest;
+    if let Some(found) = last.get_mut(&row) {
+        *found = place;
     }
-    found.reverse();
-    Ok(found)
+}
+
+// Marks those that reads from a number on need, the last first. A row of which one was met is no more placed behind all.
+fn mark(list: &mut Vec<Version>, last: &mut BTreeMap<u64, usize>, n: u64, behind: usize)
+    requires behind { length list.old.items ≤ behind }
+    requires placed { ArePlacedBehind behind list.old.items last.old }
+    ensures list { list.new.items ≡ marked n list.old.items }
+    ensures rows { (row : ℕ) → is_some (get nat_cmp last.new row) ≡ is_some (get nat_cmp last.old row) }
+{
+    let mut at = list.len();
+    while at > 0 {
+        at -= 1;
+        let is_needed = meet(&list[at], last, n, at, behind);
+        set_mark(list, at, is_needed);
+    }
+}
+
+// Whether reads from a number on need a version, where the rows of those behind it that are up to the number are placed. So is its own then.
+fn meet(
+    version: &Version,
+    last: &mut BTreeMap<u64, usize>,
+    n: u64,
+    at: usize,
+    behind: usize,
+) -> bool
+    ensures needed { result ≡ (if nat_le version.now.number n then is_some version.now.image.left && is_unplaced behind (get nat_cmp last.old version.now.image.row) else true) }
+    ensures last { (row : ℕ) → get nat_cmp last.new row
+        ≡ (if nat_le version.now.number n then cond (is_at (nat_cmp version.now.image.row) row) (option_map (λ _. at) (get nat_cmp last.old row)) (get nat_cmp last.old row) else get nat_cmp last.old row) }
+{
+    if version.number > n {
+        return true;
+    }
+    let is_last = is_unplaced(last, version.image.row, behind);
+    set_place(last, version.image.row, at);
+    version.image.left.is_some() && is_last
+}
+
+// Whether a row is placed behind all versions.
+fn is_unplaced(last: &BTreeMap<u64, usize>, row: u64, behind: usize) -> bool
+    ensures { result ≡ is_unplaced behind (get nat_cmp last.now row) }
+{
+    match last.get(&row) {
+        Some(place) => *place == behind,
+        None => false,
+    }
+}
+
+// Marks a version.
+fn set_mark(list: &mut Vec<Version>, at: usize, is_needed: bool)
+    requires { at < length list.old.items }
+    ensures { (version : AnyVersion) → list.new.items
+        ≡ slice_set list.old.items at (record (slice_index_or list.old.items at version) { is_needed = is_needed }) }
+{
+    let version = &mut list[at];
+    version.is_needed = is_needed;
+}
+
+fn drop_unmarked(list: &mut Vec<Version>)
+    ensures list { list.new.items ≡ filter is_marked list.old.items }
+    ensures len { length list.new.items ≤ length list.old.items }
+{
+    list.retain(|version| version.is_needed);
+}
+
+// Links the versions anew: each to the one of its row before it.
+fn link_all(list: &mut Vec<Version>, last: &mut BTreeMap<u64, usize>, behind: usize)
+    requires behind { length list.old.items ≤ behind }
+    requires placed { ArePlacedBehind behind list.old.items last.old }
+    ensures seen { seen_of list.new.items ≡ seen_of list.old.items }
+    ensures len { length list.new.items ≡ length list.old.items }
+    ensures linked { AreLinked list.new.items }
+    ensures placed { (row : ℕ) → list_any (is_of_row row) (seen_of list.new.items) ≡ true → get nat_cmp last.new row ≡ last_place row list.new.items }
+    ensures others { (row : ℕ) → list_any (is_of_row row) (seen_of list.new.items) ≡ false → get nat_cmp last.new row ≡ get nat_cmp last.old row }
+{
+    for at in 0..list.len() {
+        let row = list[at].image.row;
+        let before = placed(last, row, behind);
+        link(list, at, before);
+        set_place(last, row, at);
+    }
+}
+
+// The place of a row, where it is placed in front of that.
+fn placed(last: &BTreeMap<u64, usize>, row: u64, behind: usize) -> Option<usize>
+    ensures { result ≡ places_below behind (get nat_cmp last.now row) }
+{
+    match last.get(&row) {
+        Some(place) if *place < behind => Some(*place),
+        _ => None,
+    }
+}
+
+// Links a version to the one before it.
+fn link(list: &mut Vec<Version>, at: usize, before: Option<usize>)
+    requires { at < length list.old.items }
+    ensures { (version : AnyVersion) → IsLinkedAt at before version list.old.items list.new.items }
+{
+    let (jump, depth) = jump_of(&list[..at], before);
+    let version = &mut list[at];
+    version.before = before;
+    version.jump = jump;
+    version.depth = depth;
+}
+
+// Rows that are placed behind all versions have none.
+fn drop_behind(last: &mut BTreeMap<u64, usize>, behind: usize)
+    ensures { (row : ℕ) → get nat_cmp last.new row ≡ places_below behind (get nat_cmp last.old row) }
+{
+    last.retain(
+        |_row: &u64, place: &mut usize| -> bool
+            ensures { (result ≡ nat_lt place.old behind) × (place.new ≡ place.old) }
+        { *place < behind },
+    );
 }

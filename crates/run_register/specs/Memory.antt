@@ -8,11 +8,12 @@ use Rattle.run_register.specs.declared.kept.Kept.{Kept}
 use Rattle.run_register.specs.declared.mem_keeper.Accepted.{Accepted}
 use Rattle.run_register.specs.Register.{RunMap, DivergenceSet, Divergence, entry_of, name_cmp}
 
--- the runs, the accepted divergences, and the calls of their device
+-- the runs, the accepted divergences, the calls of their device, and how often it was closed
 pub record MemoryKeeper : Type 0 where
   pub runs : RunMap
   pub divergences : DivergenceSet
   pub calls : Calls
+  pub closes : ℕ
 
 -- no name stands twice, and none before one that is less
 abbrev pub NamesRise : List Kept → Type 0
@@ -38,5 +39,5 @@ abbrev pub divergences_code : Coded DivergenceSet
 divergences_code = set_code (coded× (coded_list coded_ℕ) (coded× coded_ℕ coded_ℕ))
 
 abbrev pub memory_keeper_code : Coded MemoryKeeper
-memory_keeper_code = code_by (RunMap × (DivergenceSet × Calls)) (coded× runs_code (coded× divergences_code calls_code))
-    (λ m. (m.runs, (m.divergences, m.calls))) (λ p. record { runs = p.0; divergences = p.1.0; calls = p.1.1 }) (λ _. refl)
+memory_keeper_code = code_by (RunMap × (DivergenceSet × (Calls × ℕ))) (coded× runs_code (coded× divergences_code (coded× calls_code coded_ℕ)))
+    (λ m. (m.runs, (m.divergences, (m.calls, m.closes)))) (λ p. record { runs = p.0; divergences = p.1.0; calls = p.1.1.0; closes = p.1.1.1 }) (λ _. refl)

@@ -6,7 +6,7 @@ use Rattle.std.specs.Cmp.Lexicographic.{slice_cmp}
 use Rattle.std.specs.declared.cmp.Ordering.{Ordering}
 use Rattle.std.specs.FinMap.{FinMap, empty, contains_key, insert, keys}
 use Rattle.std.specs.FinSet.{FinSet}
-use Rattle.desk_files.specs.Outside.{Ending, Answered, DeviceFailed, MemoryShort}
+use Rattle.desk_files.specs.Outside.{Ending, Answered, DeviceFailed, MemoryShort, counted, raised}
 use Rattle.run_register.specs.declared.kept.Kept.{Kept}
 use Rattle.run_register.specs.declared.kept.Accept.{Accept}
 use Rattle.run_register.specs.declared.kept.KeepErr.{KeepErr}
@@ -54,6 +54,31 @@ accept_of divergence = record { stamp = divergence.1.0; class = divergence.1.1 }
 -- a run's accepted divergences, by stamp, then class
 abbrev pub accepts_of : List ℕ → DivergenceSet → List Accept
 accepts_of name divergences = map accept_of (filter (λ (d : Divergence). eq_by_cmp name_cmp name d.0) (keys divergences))
+
+-- what a keeper gives account of: the reports and the accepted divergences, where it tells them, how many of its calls failed, and
+-- how often it was closed, whatever came of it. Each count stands still at the last value of its counter.
+pub record KeeperAccount : Type 0 where
+  pub runs : Option RunMap
+  pub divergences : Option DivergenceSet
+  pub faults : ℕ
+  pub closes : ℕ
+
+-- the counts of a keeper that tells nothing else
+pub record KeeperCounts : Type 0 where
+  pub faults : ℕ
+  pub closes : ℕ
+
+-- before any call
+abbrev pub no_calls_kept : KeeperCounts
+no_calls_kept = record { faults = 0; closes = 0 }
+
+-- after a call that ended so
+abbrev pub with_call : Ending → KeeperCounts → KeeperCounts
+with_call ending counts = record counts { faults = counted ending counts.faults }
+
+-- after a call that closes it
+abbrev pub with_close : Ending → KeeperCounts → KeeperCounts
+with_close ending counts = record { faults = counted ending counts.faults; closes = raised counts.closes }
 
 -- ---- how a call of a keeper ends, and what it leaves
 

@@ -3,7 +3,7 @@ ghost use Rattle.std.specs.List.{filter, list_any};
 ghost use Rattle.std.specs.Option.{option_copied};
 ghost use Rattle.std.specs.FinMap as finite_map;
 ghost use Rattle.std.specs.Ordering.{eq_by_cmp};
-ghost use Rattle.desk_files.specs.Outside.{is_failed};
+ghost use Rattle.desk_files.specs.Outside.{is_failed, raised};
 ghost use Rattle.desk_files.specs.Memory.{no_calls, fails_now, after_call};
 ghost use Rattle.run_register.specs.Memory.{NamesRise, divergence_of, divergences_of, runs_of};
 ghost use Rattle.run_register.specs.Register.{accept_of, accepts_of, after_accepting, after_adding, divergence_cmp, entry_of, keeper_ending, name_cmp};
@@ -25,6 +25,7 @@ pub struct MemKeeper {
     runs: Vec<Kept>,
     accepted: Vec<Accepted>,
     calls: Calls,
+    closes: u64,
 }
 
 // A divergence that was accepted of a run.
@@ -43,7 +44,7 @@ impl Model for MemKeeper {
 
     ghost coded = { memory_keeper_code };
 
-    ghost view = { λ a. record { runs = runs_of a.runs.items; divergences = divergences_of a.accepted.items; calls = a.calls } };
+    ghost view = { λ a. record { runs = runs_of a.runs.items; divergences = divergences_of a.accepted.items; calls = a.calls; closes = a.closes } };
 
     ghost invariant = { λ a. NamesRise a.runs.items × DivergencesRise a.accepted.items };
 }
@@ -53,13 +54,14 @@ impl MemKeeper {
     #[tactic(auto, using(crate::proofs::Keeping::none_accepted))]
     pub fn new(alloc: Global, runs: KeptList, fails: Stamps) -> MemKeeper
         requires { NamesRise runs }
-        ensures { result ≡ record { runs = runs_of runs; divergences = finite_map.empty; calls = no_calls fails } }
+        ensures { result ≡ record { runs = runs_of runs; divergences = finite_map.empty; calls = no_calls fails; closes = 0 } }
     {
         MemKeeper {
             alloc,
             runs: runs.into_vec(),
             accepted: Vec::new(alloc),
             calls: Calls::new(fails),
+            closes: 0,
         }
     }
 
@@ -115,11 +117,7 @@ impl MemKeeper {
 }
 
 impl Keeper for MemKeeper {
-    ghost runs = { λ s. Some s.runs };
-
-    ghost divergences = { λ s. Some s.divergences };
-
-    ghost faults = { λ s. s.calls.faults };
+    ghost account = { λ s. record { runs = Some s.runs; divergences = Some s.divergences; faults = s.calls.faults; closes = s.closes } };
 
     fn get(&mut self, name: &Txt) -> Result<Option<Bytes>, KeepErr>
         ensures failed { IsErrOf result KeepErr.Failed ↔ IsTrue (fails_now self.old.calls) }
@@ -127,6 +125,7 @@ impl Keeper for MemKeeper {
         ensures runs { self.new.runs ≡ self.old.runs }
         ensures divergences { self.new.divergences ≡ self.old.divergences }
         ensures calls { self.new.calls ≡ after_call self.old.calls (is_failed (keeper_ending result)) }
+        ensures closes { self.new.closes ≡ self.old.closes }
     {
         if self.calls.fails_now() {
             self.calls.count(true);
@@ -145,6 +144,7 @@ impl Keeper for MemKeeper {
         ensures runs { self.new.runs ≡ after_adding (keeper_ending result) (name.now, report.now) self.old.runs }
         ensures divergences { self.new.divergences ≡ self.old.divergences }
         ensures calls { self.new.calls ≡ after_call self.old.calls (is_failed (keeper_ending result)) }
+        ensures closes { self.new.closes ≡ self.old.closes }
     {
         if self.calls.fails_now() {
             self.calls.count(true);
@@ -166,6 +166,7 @@ impl Keeper for MemKeeper {
         ensures runs { self.new.runs ≡ self.old.runs }
         ensures divergences { self.new.divergences ≡ self.old.divergences }
         ensures calls { self.new.calls ≡ after_call self.old.calls (is_failed (keeper_ending result)) }
+        ensures closes { self.new.closes ≡ self.old.closes }
     {
         if self.calls.fails_now() {
             self.calls.count(true);
@@ -182,6 +183,7 @@ impl Keeper for MemKeeper {
         ensures divergences { self.new.divergences
             ≡ after_accepting (keeper_ending result) (name.now, (stamp, class)) self.old.divergences }
         ensures calls { self.new.calls ≡ after_call self.old.calls (is_failed (keeper_ending result)) }
+        ensures closes { self.new.closes ≡ self.old.closes }
     {
         if self.calls.fails_now() {
             self.calls.count(true);
@@ -205,6 +207,7 @@ impl Keeper for MemKeeper {
         ensures runs { self.new.runs ≡ self.old.runs }
         ensures divergences { self.new.divergences ≡ self.old.divergences }
         ensures calls { self.new.calls ≡ after_call self.old.calls (is_failed (keeper_ending result)) }
+        ensures closes { self.new.closes ≡ self.old.closes }
     {
         if self.calls.fails_now() {
             self.calls.count(true);
@@ -212,6 +215,22 @@ impl Keeper for MemKeeper {
         }
         self.calls.count(false);
         Ok(self.accepts(name)?)
+    }
+
+    fn close(&mut self) -> Result<(), KeepErr>
+        ensures failed { IsErrOf result KeepErr.Failed ↔ IsTrue (fails_now self.old.calls) }
+        ensures runs { self.new.runs ≡ self.old.runs }
+        ensures divergences { self.new.divergences ≡ self.old.divergences }
+        ensures calls { self.new.calls ≡ after_call self.old.calls (is_failed (keeper_ending result)) }
+        ensures closes { self.new.closes ≡ raised self.old.closes }
+    {
+        self.closes = self.closes.saturating_add(1);
+        if self.calls.fails_now() {
+            self.calls.count(true);
+            return Err(KeepErr::Failed);
+        }
+        self.calls.count(false);
+        Ok(())
     }
 }
 

@@ -33,10 +33,11 @@ pub enum RegErr {
 
 /// Keeps a report under the name of its run. The first report of a name stays.
 pub fn register<K: Keeper>(keeper: &mut K, name: &Txt, report: &[u8]) -> Result<Registered, RegErr>
-    ensures says { Told (K.runs keeper.old) (λ kept. RegisterSays (runs_by_name.get kept name.now) report.now result) }
-    ensures runs { K.runs keeper.new ≡ option_map (after_adding (register_ending result) (name.now, report.now)) (K.runs keeper.old) }
-    ensures divergences { K.divergences keeper.new ≡ K.divergences keeper.old }
-    ensures faults { Counts (register_ending result) (K.faults keeper.old) (K.faults keeper.new) }
+    ensures says { Told (K.account keeper.old).runs (λ kept. RegisterSays (runs_by_name.get kept name.now) report.now result) }
+    ensures runs { (K.account keeper.new).runs ≡ option_map (after_adding (register_ending result) (name.now, report.now)) (K.account keeper.old).runs }
+    ensures divergences { (K.account keeper.new).divergences ≡ (K.account keeper.old).divergences }
+    ensures faults { Counts (register_ending result) (K.account keeper.old).faults (K.account keeper.new).faults }
+    ensures closes { (K.account keeper.new).closes ≡ (K.account keeper.old).closes }
 {
     match keeper.add(name, report) {
         Ok(None) => Ok(Registered::New),

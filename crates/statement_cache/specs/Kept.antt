@@ -1,9 +1,7 @@
 -- What a text of SQL is to a server, once it is read and checked, and what is kept of texts.
 use Rattle.std.specs.Prelude.{◌≡◌, ℕ, nat_eq, List, Option, None, Some, Result, Ok, Err}
 use Rattle.std.specs.Option.{option_map}
-use Rattle.std.specs.HashMap.{HashMap, get}
-use Rattle.std.specs.declared.hash.BuildHasherDefault.{BuildHasherDefault}
-use Rattle.std.specs.declared.hash.FoldHasher.{FoldHasher}
+use Rattle.std.specs.Map.{lookup}
 use Rattle.desk_values.specs.declared.value.Value.{Value}
 use Rattle.desk_values.specs.declared.fault.Fault.{Fault}
 use Rattle.desk_schema.specs.Schema.{SchemaView}
@@ -13,7 +11,6 @@ use Rattle.sql_eval.specs.Check.{check_of}
 use Rattle.statement_cache.specs.declared.kept.Kept.{Kept}
 use Rattle.statement_cache.specs.declared.kept.Kept.TheVariants.{Checked, Refused, Unreadable}
 use Rattle.statement_cache.specs.declared.statements.Known.{Known}
-use Rattle.statement_cache.specs.declared.statements.Statements.{Statements}
 use Rattle.statement_cache.specs.Kinds.{kinds_of}
 
 -- nothing where it is no statement, else its checked form or the first fault
@@ -30,9 +27,10 @@ outcome_of Unreadable = None
 abbrev pub IsRight : SchemaView → Known → Type 0
 IsRight schema known = (binds : List Value) → kinds_of binds ≡ known.kinds.items → outcome_of_text schema known.text binds ≡ outcome_of known.kept
 
--- and so of all that stand in a map
-abbrev pub HasRight : SchemaView → HashMap ℕ Known (BuildHasherDefault FoldHasher) → Type 0
-HasRight schema all = (print : ℕ) (known : Known) → get nat_eq all print ≡ Some known → IsRight schema known
+-- texts by their prints
+abbrev pub Texts : Type 0
+Texts = List (ℕ × Known)
 
-abbrev pub AreRight : SchemaView → Statements → Type 0
-AreRight schema statements = HasRight schema statements.known
+-- and so of all that stand there
+abbrev pub AreRight : SchemaView → Texts → Type 0
+AreRight schema texts = (print : ℕ) (known : Known) → lookup (nat_eq print) texts ≡ Some known → IsRight schema known

@@ -1,3 +1,6 @@
+pub mod Limits
 pub mod Kinds
 pub mod Kept
+pub mod Count
 pub mod Laws
+pub mod Inside

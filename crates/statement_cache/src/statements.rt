@@ -1,9 +1,12 @@
 //! What is kept of texts, by a print of each text and its binds.
 
-ghost use Rattle.std.specs.Prelude.{◌≡◌, IfOk, IfSome, IsTrue};
+ghost use Rattle.std.specs.Prelude.{◌≡◌, ◌≤◌, ◌+◌, length, IfOk, IfSome, IsTrue};
+ghost use Rattle.desk_values.specs.Limits.{text_limit};
 ghost use Rattle.desk_schema.specs.Schema.{SchemaView};
-ghost use Rattle.statement_cache.specs.Kept.{AreRight, HasRight, IsRight, outcome_of, outcome_of_text};
+ghost use Rattle.statement_cache.specs.Count.{bytes_of, counted};
+ghost use Rattle.statement_cache.specs.Kept.{AreRight, IsRight, outcome_of, outcome_of_text};
 ghost use Rattle.statement_cache.specs.Kinds.{kinds_of};
+ghost use Rattle.statement_cache.specs.Limits.{bytes_limit};
 
 use crate::kept::{Kept, read_kept};
 use crate::kinds::{BindKind, are_of_kinds, kind_of_bind, kinds_of};
@@ -11,8 +14,9 @@ use desk_schema::Schema;
 use desk_values::{Binds, Copied, Memory, Same, Txt};
 use std::alloc::Global;
 use std::collections::HashMap;
+use std::marker::Model;
 
-/// How many bytes of memory may be taken, as they are counted: a text that is put in the place of another counts beside it.
+/// How many bytes may be counted: a text that is put in the place of another counts beside it.
 const BYTES_LIMIT: usize = 16_777_216;
 
 /// How many bytes are counted for each byte of a text: its tree takes no more.
@@ -29,7 +33,8 @@ pub struct Known {
     kept: Kept,
 }
 
-/// Texts that were read and checked. Once they take too much memory all are let go, and each is read anew.
+/// Texts that were read and checked. Once they take too much memory all are let go, and each is read anew. Contracts see what is
+/// known by the prints of texts.
 pub struct Statements {
     alloc: Global,
     known: HashMap<u64, Known>,
@@ -45,6 +50,21 @@ impl Drop for Statements {
             bytes: _bytes,
         } = self;
     }
+}
+
+impl Model for Statements {
+    ghost use Rattle.std.specs.Coded.{coded×, coded_list, coded_ℕ};
+    ghost use Rattle.statement_cache.specs.Kept.{Texts};
+    ghost use Rattle.statement_cache.specs.Inside.{IsCounted};
+    ghost use Rattle.statement_cache.specs.contracts.statements.Known.{the_row};
+
+    ghost Value = { Texts };
+
+    ghost coded = { coded_list (coded× coded_ℕ the_row.coded) };
+
+    ghost view = { λ a. a.known.entries };
+
+    ghost invariant = { λ a. IsCounted a.known.entries a.bytes };
 }
 
 impl Statements {
@@ -82,40 +102,68 @@ impl Statements {
         let _ = self.read(schema, text, binds);
     }
 
+    /// What is kept takes at most 16 MiB, as it is counted. It costs nothing.
+    pub fn know_limit(&self)
+        ensures { counted self.now ≤ bytes_limit }
+    {
+        let _bytes = self.bytes;
+    }
+
     /// Reads and checks a text, and keeps what it is.
     fn read(&mut self, schema: &Schema, text: &Txt, binds: &Binds) -> Result<(), Memory>
         ensures { AreRight schema.now self.old → AreRight schema.now self.new }
     {
         let kept = read_kept(self.alloc, schema, text, binds)?;
         let known = known_of(self.alloc, text, binds, kept)?;
-        self.count(bytes_of(text));
-        keep(&mut self.known, print_of(text, binds), known);
+        self.put(print_of(text, binds), known);
         Ok(())
     }
 
-    /// Counts these bytes. Where they are too many all texts are let go.
-    fn count(&mut self, bytes: usize)
-        ensures { (schema : SchemaView) → AreRight schema self.old → AreRight schema self.new }
+    /// Puts what is known in the place of a print. Where all would take too much the others are let go before.
+    fn put(&mut self, print: u64, known: Known)
+        ensures { (schema : SchemaView) → IsRight schema known → AreRight schema self.old → AreRight schema self.new }
     {
-        if bytes <= BYTES_LIMIT.saturating_sub(self.bytes) {
-            self.bytes = self.bytes.saturating_add(bytes);
-            return;
-        }
-        self.known = no_texts(self.alloc);
-        self.bytes = bytes;
+        let more = bytes_of(&known.text);
+        let bytes = with_room(self.alloc, &mut self.known, self.bytes, more);
+        keep(&mut self.known, print, known);
+        self.bytes = bytes + more;
     }
 }
 
 /// How many bytes are counted for a text.
-fn bytes_of(text: &Txt) -> usize {
-    text.as_str()
-        .len()
-        .saturating_mul(TREE_BYTES)
-        .saturating_add(BYTES_MORE)
+fn bytes_of(text: &Txt) -> usize
+    ensures value { result ≡ bytes_of text.now }
+    ensures limit { result ≤ bytes_limit }
+{
+    length_of(text) * TREE_BYTES + BYTES_MORE
+}
+
+fn length_of(text: &Txt) -> usize
+    ensures value { result ≡ length text.now }
+    ensures limit { result ≤ text_limit }
+{
+    text.as_str().len()
+}
+
+/// Lets all texts go, for which so many bytes are counted, where some more would be too many; and how many are counted then.
+fn with_room(alloc: Global, texts: &mut HashMap<u64, Known>, bytes: usize, more: usize) -> usize
+    requires taken { counted texts.old.entries ≤ bytes }
+    requires limit { bytes ≤ bytes_limit }
+    requires more { more ≤ bytes_limit }
+    ensures right { (schema : SchemaView) → AreRight schema texts.old.entries → AreRight schema texts.new.entries }
+    ensures taken { counted texts.new.entries ≤ result }
+    ensures limit { result + more ≤ bytes_limit }
+{
+    if more <= BYTES_LIMIT - bytes {
+        return bytes;
+    }
+    *texts = no_texts(alloc);
+    0
 }
 
 fn no_texts(alloc: Global) -> HashMap<u64, Known>
-    ensures { (schema : SchemaView) → HasRight schema result }
+    ensures right { (schema : SchemaView) → AreRight schema result.entries }
+    ensures none { counted result.entries ≡ 0 }
 {
     HashMap::new(alloc)
 }
@@ -139,7 +187,8 @@ fn is_of(known: &Known, text: &Txt, binds: &Binds) -> bool
 
 /// Puts what is known in the place of a print. Where memory is short all stays.
 fn keep(all: &mut HashMap<u64, Known>, print: u64, known: Known)
-    ensures { (schema : SchemaView) → IsRight schema known → HasRight schema all.old → HasRight schema all.new }
+    ensures right { (schema : SchemaView) → IsRight schema known → AreRight schema all.old.entries → AreRight schema all.new.entries }
+    ensures taken { counted all.new.entries ≤ counted all.old.entries + bytes_of known.text }
 {
     match all.insert(print, known) {
         Ok(_) => {}

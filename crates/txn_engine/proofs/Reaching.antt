@@ -11,12 +11,12 @@ use Rattle.desk_values.specs.declared.value.Value.TheVariants.{Null}
 use Rattle.desk_values.specs.Comparison.{same_key}
 use Rattle.desk_schema.specs.Rules.{key_in, keys_of}
 use Rattle.desk_schema.specs.Sound.{AreApart}
-use Rattle.machine_model.specs.Apart.{KeysAreApart}
-use Rattle.machine_model.specs.Machine.{Running}
-use Rattle.machine_model.specs.Rows.{row_key}
-use Rattle.machine_model.specs.State.{State, opening}
-use Rattle.machine_model.specs.Step.{Gives, run, step}
-use Rattle.machine_model.specs.Writes.{repeats_key}
+use Rattle.server_words.specs.Apart.{KeysAreApart}
+use Rattle.server_words.specs.Machine.{Running}
+use Rattle.server_words.specs.Rows.{row_key}
+use Rattle.server_words.specs.State.{State, opening}
+use Rattle.server_words.specs.Step.{Gives, run, step}
+use Rattle.server_words.specs.Writes.{repeats_key}
 use Rattle.law_steps.specs.Reading.{rows_in}
 use Rattle.law_keys.specs.Keys.{AfterAnyCalls, HasNonNullKey, KeysAreThere, SeenKeysDiffer}
 use Rattle.law_keys.proofs.Same.{key_is}

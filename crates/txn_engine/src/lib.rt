@@ -3,16 +3,16 @@
 //! Enters: a start, calls of 64 sessions. Leaves: replies, the committed rows, and which ids were given. It touches
 //! nothing but memory.
 //!
-//! Its clauses speak of the state and the step of `machine_model` alone, so that what stands behind them can change. It knows what
+//! Its clauses speak of the state and the step of `server_words` alone, so that what stands behind them can change. It knows what
 //! `law_keys` says of each state that calls lead to, so its machine need not look for keys that stand twice.
 #![tactic(auto)]
 
 ghost use Rattle.std.specs.Prelude.{◌≡◌, ◌+◌, ◌<◌, length, take, IfOk, OnOk, OnErr};
 ghost use Rattle.desk_values.specs.Good.{IsGoodReply};
-ghost use Rattle.machine_model.specs.Clean.{is_clean};
-ghost use Rattle.machine_model.specs.State.{is_connected, is_given, opening, tables};
-ghost use Rattle.machine_model.specs.Step.{Gives};
-ghost use Rattle.machine_model.specs.Sound.{AreStanding};
+ghost use Rattle.server_words.specs.Clean.{is_clean};
+ghost use Rattle.server_words.specs.State.{is_connected, is_given, opening, tables};
+ghost use Rattle.server_words.specs.Step.{Gives};
+ghost use Rattle.server_words.specs.Sound.{AreStanding};
 ghost use Rattle.txn_engine.specs.Reached.{IsReached};
 
 use desk_schema::Start;
@@ -29,7 +29,7 @@ pub struct Engine {
 }
 
 impl Model for Engine {
-    ghost use Rattle.machine_model.specs.Machine.{Running};
+    ghost use Rattle.server_words.specs.Machine.{Running};
     ghost use Rattle.txn_engine.specs.Reached.{IsReached};
 
     ghost Value = { Running };
@@ -59,7 +59,8 @@ impl Engine {
         ensures err { OnErr result (self.new ≡ self.old) }
     {
         no_key_stands_twice();
-        self.machine.step_apart(session, call)
+        self.machine.note_apart();
+        self.machine.step(session, call)
     }
 
     /// The same step, with its reply three times.
@@ -74,7 +75,8 @@ impl Engine {
         ensures err { OnErr result (self.new ≡ self.old) }
     {
         no_key_stands_twice();
-        self.machine.step_copies_apart(session, call)
+        self.machine.note_apart();
+        self.machine.step_copies(session, call)
     }
 
     /// What an engine keeps: calls led to its state, from a start that keeps the rules. So the laws of such states hold of it. It does

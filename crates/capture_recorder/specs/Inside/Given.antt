@@ -3,7 +3,7 @@ use Rattle.std.specs.Prelude.{ℕ, Bool, false, List, Some, slice_get}
 use Rattle.desk_values.specs.declared.value.Value.{Value}
 use Rattle.desk_values.specs.declared.value.Value.TheVariants.{Row, Draw}
 use Rattle.desk_schema.specs.Start.{StartView}
-use Rattle.machine_model.specs.State.{is_between}
+use Rattle.server_words.specs.State.{is_between}
 
 -- the id was given out before the server came to give these numbers out next
 abbrev pub is_later : StartView → ℕ → List ℕ → Value → Bool

@@ -2,7 +2,7 @@
 use Rattle.std.specs.Prelude.{◌≡◌, ℕ, ◌<◌, List, [], length, slice_index_or}
 use Rattle.desk_values.specs.declared.capture.Captured.{Captured}
 use Rattle.replay_history.specs.Capture.{commits_before, session_calls_before}
-use Rattle.machine_model.specs.Machine.{Running}
+use Rattle.server_words.specs.Machine.{Running}
 use Rattle.captured_calls.specs.Moments.{ended_in}
 use Rattle.known_ids.specs.Knowing.{KnowsCalls}
 use Rattle.known_ids.specs.declared.known.KnownIds.{KnownIds}

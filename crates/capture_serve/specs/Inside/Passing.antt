@@ -1,9 +1,10 @@
 -- What is known of connections while they are served.
-use Rattle.std.specs.Prelude.{◌≡◌, ℕ, ◌+◌, ◌≤◌, true, min, count_by, if◌then◌else◌, List, [], ◌∷◌, ◌++◌, length, map, Option, Some, IsSomeAnd, Result, Ok, Err, ⊤}
+use Rattle.std.specs.Prelude.{◌≡◌, ℕ, ◌+◌, ◌<◌, ◌≤◌, Bool, not, true, min, count_by, if◌then◌else◌, List, [], ◌∷◌, ◌++◌, length, map, Option, Some, IsSomeAnd, Result, Ok, Err, ⊤}
 use Rattle.std.specs.List.{AllByRecursion}
 use Rattle.desk_schema.specs.Start.{StartView}
 use Rattle.desk_files.specs.Outside.{Ending, Answered, DeviceFailed, Told}
-use Rattle.desk_files.specs.Hosts.{Connections, Returned, either_failed}
+use Rattle.desk_values.specs.declared.memory.Memory.{Memory as NoMemory}
+use Rattle.desk_files.specs.Hosts.{Connections, GivesBack, Returned, either_failed}
 use Rattle.desk_files.specs.declared.source.Source as Source
 use Rattle.desk_files.specs.declared.sink.Sink as Sink
 use Rattle.capture_recorder.specs.declared.door.Said.{Said}
@@ -13,7 +14,7 @@ use Rattle.capture_recorder.specs.Gathering.{lists_of}
 use Rattle.capture_recorder.specs.Recording.{Recording}
 use Rattle.capture_recorder.specs.Doors.{IsClosing}
 use Rattle.capture_http.specs.declared.conn_end.ConnEnd.{ConnEnd}
-use Rattle.capture_http.specs.Ends.{Ends, Serves, ends_of}
+use Rattle.capture_http.specs.Ends.{Ends, Serves, ends_told}
 use Rattle.capture_serve.specs.Connections.{comes, is_closed}
 use Rattle.capture_serve.specs.Service.{CaptureView, IsCapture, is_short}
 use Rattle.capture_serve.specs.declared.failing.ServeErr.{ServeErr}
@@ -51,7 +52,7 @@ coming_of (Here served) = served.was.value
 
 module _ {I O : Type 0} (i : Source.Ghosts I) (o : Sink.Ghosts O) where
   abbrev pub told_by : I → O → List Said → List Turned → Ends
-  told_by input output said turned = ends_of (i.content input) (i.faults input) (o.content output) (o.faults output) said turned
+  told_by input output said turned = ends_told (i.account input) (o.account output) said turned
 
   -- how a connection comes
   abbrev pub arrival : Coming I O → Moment
@@ -59,6 +60,10 @@ module _ {I O : Type 0} (i : Source.Ghosts I) (o : Sink.Ghosts O) where
 
   abbrev pub passed_of : Served I O → Passed
   passed_of s = record { session = s.was.value.session; before = told_by s.was.value.input s.was.value.output [] []; after = told_by s.input s.output s.said.items s.turned.items; end = s.end }
+
+  -- an answer of the host to which these two are given back
+  abbrev pub GivesOne : I → O → Result (Unit {0}) NoMemory → Option Connections → Option Connections → Type 0
+  GivesOne input output given before after = GivesBack (i.account input).content (o.account output).content (either_failed (i.account input).faults (o.account output).faults) given before after
 
   -- what is known of a seat: where its connection was served here, that it was
   abbrev pub IsKept : Seat I O → Type 0
@@ -107,6 +112,11 @@ pub record Gave (passes : List Passed) (before after : Connections) : Type 0 whe
   pub returned : after.returned ≡ before.returned ++ back
   pub are_back : AreBack passes back
 
+-- of so many, fewer are told as given back, and those waiting stay
+pub record Lost (n : ℕ) (before after : Connections) : Type 0 where
+  pub waiting : after.waiting ≡ before.waiting
+  pub fewer : length after.returned < length before.returned + n
+
 -- ---- what was noted
 
 -- what was said and turned away in connections, by session, and how many were short of memory
@@ -145,6 +155,12 @@ abbrev pub IsPlain : ServeErr → Type 0
 IsPlain (serve.Failed short) = ⊤
 IsPlain (serve.Differs finding) = ⊥
 IsPlain serve.Memory = ⊤
+
+-- why there are no notes of connections that came so and of which each is told as given back, or not each
+abbrev pub IsOutcome : Result (Unit {0}) Halt → Bool → ServeErr → Type 0
+IsOutcome halted told (serve.Failed short) = (halted ≡ Err Failed) × (short ≡ not told)
+IsOutcome halted told (serve.Differs finding) = ⊥
+IsOutcome halted told serve.Memory = ⊤
 
 -- a failure that is no fault
 abbrev pub IsFaultless : ServeErr → Type 0

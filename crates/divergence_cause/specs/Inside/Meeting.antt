@@ -5,10 +5,10 @@ use Rattle.std.specs.List.{AllZip}
 use Rattle.std.specs.Ordering.{nat_cmp}
 use Rattle.desk_values.specs.declared.call.Call.{Call}
 use Rattle.desk_values.specs.declared.capture.Captured.{Captured}
-use Rattle.machine_model.specs.State.{State}
-use Rattle.machine_model.specs.View.{View}
-use Rattle.machine_model.specs.Views.{IsViewOf}
-use Rattle.machine_model.specs.declared.viewing.View.{View as Handed}
+use Rattle.server_words.specs.State.{State}
+use Rattle.server_words.specs.View.{View}
+use Rattle.server_words.specs.Views.{IsViewOf}
+use Rattle.server_words.specs.declared.views.View.{View as Handed}
 use Rattle.id_pairs.specs.Pairs.{IdPair}
 use Rattle.law_server.specs.Renaming.Laws.{view_before}
 use Rattle.law_server.specs.Renaming.Twins.{AreSets, AreTwinViews, IsRenamedRow}

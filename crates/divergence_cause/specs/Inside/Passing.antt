@@ -14,11 +14,11 @@ use Rattle.desk_values.specs.declared.capture.Event.{Event}
 use Rattle.desk_values.specs.declared.capture.Event.TheVariants.{Start, Answer}
 use Rattle.desk_values.specs.Limits.{session_limit}
 use Rattle.desk_values.specs.Sorting.{value_by_value}
-use Rattle.machine_model.specs.State.{State}
-use Rattle.machine_model.specs.Step.{Gives}
-use Rattle.machine_model.specs.Views.{IsViewOf}
-use Rattle.machine_model.specs.declared.viewing.KeyId.{KeyId}
-use Rattle.machine_model.specs.declared.viewing.View.{View}
+use Rattle.server_words.specs.State.{State}
+use Rattle.server_words.specs.Step.{Gives}
+use Rattle.server_words.specs.Views.{IsViewOf}
+use Rattle.server_words.specs.declared.views.KeyId.{KeyId}
+use Rattle.server_words.specs.declared.views.View.{View}
 use Rattle.replay_history.specs.Gap.{IsCallAt}
 use Rattle.replay_history.specs.History.{IsAnsweredBefore}
 use Rattle.id_pairs.specs.Pairs.{HasNoIdTwice, IdPair, learnt}

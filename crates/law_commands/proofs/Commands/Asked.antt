@@ -16,14 +16,14 @@ use Rattle.law_commands.specs.Commands.Complete.{ErrandsEndSo, MayEnd}
 
 -- ---- one that is done
 
-quiet_end : (differs : Bool) (result : ℕ) → differs ≡ false → result ≡ done_status differs → result ≡ 0
+pub quiet_end : (differs : Bool) (result : ℕ) → differs ≡ false → result ≡ done_status differs → result ≡ 0
 quiet_end differs result quiet is = is ∙ ap done_status quiet
 
 compared_end : (a b : List ℕ) (differs : Bool) (result : ℕ) → result ≡ done_status differs → MayEnd (errand.Compare a b) result
 compared_end a b true result is = inr (inl is)
 compared_end a b false result is = inl is
 
-done_end : (asked : Errand) (k : Keeping) (plan : Plan) (result : ℕ) → IsKept asked k plan → result ≡ done_status plan.differs → MayEnd asked result
+pub done_end : (asked : Errand) (k : Keeping) (plan : Plan) (result : ℕ) → IsKept asked k plan → result ≡ done_status plan.differs → MayEnd asked result
 done_end (errand.Register name bytes report) k plan result kept is = inl (quiet_end plan.differs result kept.0.news is)
 done_end errand.Runs k plan result kept is = inl (quiet_end plan.differs result kept.0.news is)
 done_end (errand.Accept name stamp class) k plan result kept is = inl (quiet_end plan.differs result kept.0.news is)

@@ -21,7 +21,7 @@ use Rattle.law_replays.proofs.End.Seen.{commits_seen}
 use Rattle.law_replays.proofs.End.Stages.{one_call}
 use Rattle.law_replays.proofs.End.Whole.{again_as_captured, tables_carried}
 use Rattle.law_replays.proofs.Reports.Classed.{each_classed}
-use Rattle.law_replays.proofs.Reports.Named.{again_clean, no_line_none}
+use Rattle.law_replays.proofs.Reports.Named.{again_clean, no_line_none, twins_not_named}
 use Rattle.desk_files.specs.declared.writes.Write.{Write}
 use Rattle.fence_law.specs.Laws.{AreSame, OneListOfPlainReads, PlainReadsAreSame}
 use Rattle.fence_law.specs.Plain.{ArePlainReads}
@@ -30,7 +30,7 @@ use Rattle.remote_desk.specs.History.{plain}
 use Rattle.replay_cli.specs.Done.{AreReadsOf}
 use Rattle.replay_cli.specs.Lines.{replayed_line}
 use Rattle.replay_cli.proofs.Sound.{is_replay}
-use Rattle.law_commands.specs.Commands.Ends.{JournalsTellTheirHistory, OneIsTold, PlansTellTheirHistory, QuietRunsCarryTables, ReadsMeetTheirCommits, RunsAgainAreQuiet, SentJournalsTellTheirHistory, SentPlansTellTheirHistory, TablesAreCarried, ToldIsQuiet}
+use Rattle.law_commands.specs.Commands.Ends.{JournalsTellTheirHistory, OneIsTold, PlansTellTheirHistory, QuietRunsCarryTables, ReadsMeetTheirCommits, RunsAgainAreQuiet, SentJournalsTellTheirHistory, SentPlansTellTheirHistory, SentReadsMeetTheirCommits, TablesAreCarried, ToldIsQuiet, TwinsAreQuiet}
 
 is_journal : (job : JobView) (history : List Event) (texts : AllByRecursion IsEvent history) → IsJournal (journal_text job.mode history) job.mode history
 is_journal job history texts = record { fit = texts; text = refl }
@@ -89,7 +89,7 @@ again_quiet out job plan history last sound again done =
 pub carried : TablesAreCarried
 carried out job plan history last captured sound waits done none came = tables_carried job history last captured (is_replay job history last sound done.0) waits none came
 
-no_lines : (lines : List Line) → nat_lt 0 (length lines) ≡ false → lines ≡ []
+pub no_lines : (lines : List Line) → nat_lt 0 (length lines) ≡ false → lines ≡ []
 no_lines [] none = refl
 no_lines (line ∷ lines) none =
     let some : nat_lt 0 (length (line ∷ lines)) ≡ true = search (arith, rules) in
@@ -103,6 +103,12 @@ quiet_carried out job plan history last captured sound waits done quiet came =
 
 pub reads_meet : ReadsMeetTheirCommits
 reads_meet out job plan history last sound may done = commits_seen job history sound.replayable done.0.0.legal may
+
+pub sent_reads_meet : SentReadsMeetTheirCommits
+sent_reads_meet out job plan dial sent sound may = commits_seen job (plain sent.events) sound.replayable sent.history.legal may
+
+pub twins_quiet : TwinsAreQuiet
+twins_quiet out job plan history last captured sound done schemas = twins_not_named job history last captured (is_replay job history last sound done.0) schemas
 
 -- each stamp among the plain reads is that of a call that is the same
 reads_same : PlainReadsAreSame → (job : JobView) (history : List Event) (last : Stage) → IsReplay job history last → FencesCommits job.mode → job.target.schema ≡ job.start.schema

@@ -9,8 +9,8 @@ use Rattle.desk_values.specs.declared.value.Value.{Value}
 use Rattle.desk_values.specs.declared.value.Image.{Image}
 use Rattle.desk_values.specs.declared.capture.Captured.{Captured}
 use Rattle.desk_schema.specs.Start.{StartView}
-use Rattle.machine_model.specs.State.{State, opening}
-use Rattle.machine_model.specs.Step.{Gives, run, step}
+use Rattle.server_words.specs.State.{State, opening}
+use Rattle.server_words.specs.Step.{Gives, run, step}
 use Rattle.replay_history.specs.Capture.{IsKnown, IsRun, binds_of, commits_in}
 use Rattle.captured_calls.specs.Known.{ids_known, is_stranger}
 use Rattle.captured_calls.specs.Moments.{ended_in}

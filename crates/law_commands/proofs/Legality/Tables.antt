@@ -13,8 +13,8 @@ use Rattle.desk_values.specs.declared.call.Call.TheVariants.{Connect, Sql, Disco
 use Rattle.replay_history.specs.Capture.{commits}
 use Rattle.sql_reader.specs.Reading.{statement_of}
 use Rattle.sql_tree.specs.Plain.{Name, Plan, select, next, insert, update, delete, commit, rollback, set_read_only, savepoint, rollback_to}
-use Rattle.machine_model.specs.Request.{table_named}
-use Rattle.machine_model.specs.Step.{committed_in}
+use Rattle.server_words.specs.Request.{table_named}
+use Rattle.server_words.specs.Step.{committed_in}
 use Rattle.object_depends.specs.Facts.{has_table}
 use Rattle.captured_calls.specs.Facts.{all_tables, fact_of, only_table, refs_of_call, refs_of_statement, tables_of_images, with_table}
 use Rattle.law_commands.specs.Legality.Tables.{AsksFor, IsAmong, References, SpeaksOf, Writes}

@@ -23,7 +23,7 @@ use Rattle.register_work.specs.declared.errand.Errand.TheVariants.{Register, Run
 use Rattle.register_work.specs.declared.unkept.Unkept.{Unkept}
 use Rattle.register_work.specs.declared.unkept.Unkept.TheVariants.{BadRun}
 use Rattle.register_work.specs.Errand.{AreGood, AreRead, IsAnswered, IsCause, IsCompared, IsListed, TellsDifferences, is_news}
-use Rattle.register_work.specs.Keeping.{Keeping, keeping}
+use Rattle.register_work.specs.Keeping.{Keeping}
 use Rattle.register_work.specs.Lines.{comparison_text, runs_text}
 use Rattle.law_commands.proofs.Register.OneEnd.{IsTold, answered_alone, run_one, runs_one}
 use Rattle.law_commands.proofs.Register.OneList.{one_comparison}
@@ -46,10 +46,10 @@ one_reading (run ∷ all) (read ∷ reads) (other ∷ others) are also =
 
 -- what was before as in the first of two, and what is left as in the second
 abbrev beside : Keeping → Keeping → Keeping
-beside k m = keeping k.runs_before m.runs_after k.divergences_before m.divergences_after m.faults_before m.faults_after
+beside k m = record m { runs_before = k.runs_before; divergences_before = k.divergences_before }
 
 placed : (k m : Keeping) → m.runs_before ≡ k.runs_before → m.divergences_before ≡ k.divergences_before → m ≡ beside k m
-placed k m runs divergences = λ i. keeping (runs i) m.runs_after (divergences i) m.divergences_after m.faults_before m.faults_after
+placed k m runs divergences = λ i. record m { runs_before = runs i; divergences_before = divergences i }
 
 list_one : (k m : Keeping) → IsTold k.runs_before → (answer other : Answer) → IsListed k answer → IsListed (beside k m) other → answer ≡ other
 list_one k m told answer other is also =

@@ -3,7 +3,7 @@ use Rattle.std.specs.Prelude.{◌≡◌, ◌↔◌, ℕ, ◌≤◌, true, List, 
 use Rattle.desk_values.specs.declared.call.Reply.{Reply}
 use Rattle.desk_values.specs.declared.capture.Captured.{Captured}
 use Rattle.desk_values.specs.declared.capture.Event.{Event}
-use Rattle.machine_model.specs.State.{State}
+use Rattle.server_words.specs.State.{State}
 use Rattle.replay_history.specs.declared.mode.Mode.{Mode}
 use Rattle.replay_history.specs.Capture.{commits}
 use Rattle.replay_history.specs.Gap.{IsCallAt}
@@ -13,9 +13,11 @@ use Rattle.replay_job.specs.Job.{JobView}
 use Rattle.replay_job.specs.Replays.{IsSoundJob}
 use Rattle.replay_job.specs.Runs.{Stage, end_tables}
 use Rattle.replay_report.specs.JournalFile.{IsJournal}
-use Rattle.law_replays.specs.End.Answers.{FencesCommits, HasNoWriteDivergence, IsAgain, WaitsForCommits}
+use Rattle.law_replays.specs.End.Answers.{FencesCommits, HasNoWriteDivergence, IsAgain, IsAnsweredAt, WaitsForCommits}
 use Rattle.law_replays.specs.End.Laws.{IsAsCaptured}
 use Rattle.law_replays.specs.End.Tables.{AreCarried, CameTo}
+use Rattle.law_replays.specs.End.Twins.{CameBefore, IsTwinCall}
+use Rattle.law_replays.specs.Reports.Laws.{IsNamed}
 use Rattle.fence_law.specs.Laws.{AreSame}
 use Rattle.divergence_cause.specs.Causes.{AllAreTiming}
 use Rattle.remote_desk.specs.History.{plain}
@@ -80,6 +82,20 @@ ReadsMeetTheirCommits = (out : List ℕ) (job : JobView) (plan : Plan) (history 
     → IsSoundJob job → FencesCommits job.mode → IsDoneBy out job plan history last
     → (i k m : ℕ) (call other : Captured) (reply : Reply) → IsCallAt job.calls k call → IsCallAt job.calls m other
     → AnswersAt history i k reply → commits other.reply.outcome ≡ true → IsAnsweredBefore history i m ↔ (other.number ≤ call.seen)
+
+-- and so of a replay against another server
+abbrev pub SentReadsMeetTheirCommits : Type 0
+SentReadsMeetTheirCommits = (out : List ℕ) (job : JobView) (plan : Plan) (dial : Dialling) (sent : IsSent out job plan dial)
+    → IsSoundJob job → FencesCommits job.mode
+    → (i k m : ℕ) (call other : Captured) (reply : Reply) → IsCallAt job.calls k call → IsCallAt job.calls m other
+    → AnswersAt (plain sent.events) i k reply → commits other.reply.outcome ≡ true → IsAnsweredBefore (plain sent.events) i m ↔ (other.number ≤ call.seen)
+
+-- a call that meets just what it met in the capture, but for ids, is not named
+abbrev pub TwinsAreQuiet : Type 0
+TwinsAreQuiet = (out : List ℕ) (job : JobView) (plan : Plan) (history : List Event) (last : Stage) (captured : State)
+    → IsSoundJob job → IsDoneBy out job plan history last → job.target.schema ≡ job.start.schema
+    → (i k : ℕ) (call : Captured) (reply : Reply) (before after : Stage) → IsAnsweredAt job history i k call reply before after
+    → CameBefore job k captured → IsTwinCall job call captured before → ¬ IsNamed job history k
 
 -- the plain reads that are told are the same, and where the replay has the captured schema no call differs for the server
 abbrev pub ToldIsQuiet : Type 0

@@ -10,8 +10,8 @@ use Rattle.desk_values.specs.declared.call.Reply.{Reply}
 use Rattle.desk_values.specs.declared.capture.Captured.{Captured}
 use Rattle.desk_values.specs.declared.capture.Event.{Event}
 use Rattle.desk_values.specs.declared.capture.Event.TheVariants.{Start, Answer}
-use Rattle.machine_model.specs.State.{opening}
-use Rattle.machine_model.proofs.Members.{each_joined, each_weaker}
+use Rattle.server_words.specs.State.{opening}
+use Rattle.server_words.proofs.Members.{each_joined, each_weaker}
 use Rattle.replay_history.specs.Capture.{IsGivenBy, StandsIn}
 use Rattle.replay_history.specs.Gap.{IsCallAt}
 use Rattle.replay_history.specs.History.{AnswersAt, IsAnswered, IsTruthfulHistory}

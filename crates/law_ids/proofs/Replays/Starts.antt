@@ -11,7 +11,7 @@ use Rattle.desk_values.specs.declared.value.Image.{Image}
 use Rattle.desk_values.specs.Ids.{ids_of_image}
 use Rattle.desk_schema.specs.Start.{StartView}
 use Rattle.desk_schema.proofs.Members.{Contains-cases, Contains-here, Contains-none, Contains-there}
-use Rattle.machine_model.proofs.Members.{each_joined}
+use Rattle.server_words.proofs.Members.{each_joined}
 use Rattle.replay_history.specs.Capture.{StandsIn}
 use Rattle.id_pairs.specs.declared.Id.{Id}
 use Rattle.id_pairs.specs.declared.Id.TheVariants as id

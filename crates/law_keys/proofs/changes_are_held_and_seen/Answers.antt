@@ -1,5 +1,5 @@
-use Rattle.machine_model.specs.State.{opening}
-use Rattle.machine_model.specs.Step.{run}
+use Rattle.server_words.specs.State.{opening}
+use Rattle.server_words.specs.Step.{run}
 use Rattle.law_keys.proofs.Runs.{holds_changes, reached, readers, readers_see, sees_tables}
 use Rattle.law_keys.proofs.There.{keys_held}
 use Rattle.law_keys.proofs.changes_are_held_and_seen.Goals as goal

@@ -1,5 +1,5 @@
-use Rattle.machine_model.specs.State.{opening}
-use Rattle.machine_model.specs.Step.{run}
+use Rattle.server_words.specs.State.{opening}
+use Rattle.server_words.specs.Step.{run}
 use Rattle.law_keys.proofs.Runs.{committed_differ, reached, seen_differ}
 use Rattle.law_keys.proofs.There.{keys_there}
 use Rattle.law_keys.proofs.no_key_stands_twice.Goals as goal

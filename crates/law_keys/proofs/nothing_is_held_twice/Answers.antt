@@ -1,5 +1,5 @@
-use Rattle.machine_model.specs.State.{opening}
-use Rattle.machine_model.specs.Step.{run}
+use Rattle.server_words.specs.State.{opening}
+use Rattle.server_words.specs.Step.{run}
 use Rattle.law_keys.proofs.Runs.{keys_alone, reached, rows_alone}
 use Rattle.law_keys.proofs.nothing_is_held_twice.Goals as goal
 

@@ -1,5 +1,5 @@
-use Rattle.machine_model.specs.State.{opening}
-use Rattle.machine_model.specs.Step.{run}
+use Rattle.server_words.specs.State.{opening}
+use Rattle.server_words.specs.Step.{run}
 use Rattle.law_keys.proofs.Runs.{reached, savepoints_less}
 use Rattle.law_keys.proofs.savepoints_hold_no_more.Goals as goal
 

@@ -11,10 +11,10 @@ use Rattle.desk_values.specs.declared.call.Reply.{Reply}
 use Rattle.desk_values.specs.declared.capture.Captured.{Captured}
 use Rattle.desk_values.specs.declared.capture.Event.{Event}
 use Rattle.desk_values.specs.declared.capture.Event.TheVariants.{Start, Answer}
-use Rattle.machine_model.specs.declared.session.Session.{Session}
-use Rattle.machine_model.specs.State.{State, disconnected, opening}
-use Rattle.machine_model.specs.Step.{Gives, reply_in}
-use Rattle.machine_model.proofs.Members.{each_repeated, each_weaker}
+use Rattle.server_words.specs.declared.session.Session.{Session}
+use Rattle.server_words.specs.State.{State, disconnected, opening}
+use Rattle.server_words.specs.Step.{Gives, reply_in}
+use Rattle.server_words.proofs.Members.{each_repeated, each_weaker}
 use Rattle.replay_history.specs.Capture.{IsGivenBy, IsKnown, IsLegalCapture, IsRun, StandsIn, binds_of}
 use Rattle.replay_history.specs.Gap.{IsCallAt}
 use Rattle.replay_history.specs.History.{IsTruthfulHistory}

@@ -14,8 +14,8 @@ use Rattle.desk_values.specs.declared.call.Outcome.TheVariants as outcome
 use Rattle.desk_values.specs.declared.call.Reply.{Reply}
 use Rattle.desk_schema.proofs.Members.{Contains-cases, Contains-here, Contains-none, Contains-there}
 use Rattle.sql_eval.specs.Moved.{Moved, none, more, swapped, along}
-use Rattle.machine_model.specs.Rows.{IsRising, RisesFrom}
-use Rattle.machine_model.specs.Step.{committed_in}
+use Rattle.server_words.specs.Rows.{IsRising, RisesFrom}
+use Rattle.server_words.specs.Step.{committed_in}
 use Rattle.replay_history.specs.declared.report.Class.{Class}
 use Rattle.replay_history.specs.declared.report.Class.TheVariants.{Same, NewError, GoneError, MutatedError, RowsModified, RowsFetched, RowContents, Images, Shape}
 use Rattle.replay_history.specs.Class.{class_number}

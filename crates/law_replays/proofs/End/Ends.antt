@@ -13,13 +13,13 @@ use Rattle.desk_values.specs.declared.capture.Event.{Event}
 use Rattle.desk_values.specs.declared.capture.Event.TheVariants.{Start, Answer}
 use Rattle.desk_values.specs.Good.{IsShapedOutcome}
 use Rattle.desk_schema.specs.Start.{StartView}
-use Rattle.machine_model.specs.Rows.{IsRising, lay_all}
-use Rattle.machine_model.specs.Sound.{AreSound, IsSoundState}
-use Rattle.machine_model.specs.State.{State, opening}
-use Rattle.machine_model.specs.Step.{Gives, committed_in}
-use Rattle.machine_model.proofs.Members.{each_weaker}
-use Rattle.machine_model.proofs.SoundRows.{ascending_rises}
-use Rattle.machine_model.proofs.SoundSteps.{reply_shaped, step_sound, tables_stand}
+use Rattle.server_words.specs.Rows.{IsRising, lay_all}
+use Rattle.server_words.specs.Sound.{AreSound, IsSoundState}
+use Rattle.server_words.specs.State.{State, opening}
+use Rattle.server_words.specs.Step.{Gives, committed_in}
+use Rattle.server_words.proofs.Members.{each_weaker}
+use Rattle.server_words.proofs.SoundRows.{ascending_rises}
+use Rattle.server_words.proofs.SoundSteps.{reply_shaped, step_sound, tables_stand}
 use Rattle.replay_history.specs.Capture.{IsRun, commits}
 use Rattle.replay_history.specs.Gap.{IsCallAt}
 use Rattle.replay_history.specs.History.{IsAnswered, IsAnsweredBefore, IsTruthfulHistory}

@@ -6,8 +6,8 @@ use Rattle.std.proofs.lemmas.List.Elements.{Contains-append_cases, Contains-appe
 use Rattle.desk_values.specs.declared.value.Value.{Value}
 use Rattle.desk_values.specs.declared.value.Image.{Image}
 use Rattle.desk_schema.proofs.Members.{Contains-cases, Contains-here, Contains-none, Contains-there}
-use Rattle.machine_model.specs.Rows.{IsRising, RisesFrom, is_there, lay, lay_all, placed, shown}
-use Rattle.machine_model.proofs.Laying.{rising_lay, rising_shown}
+use Rattle.server_words.specs.Rows.{IsRising, RisesFrom, is_there, lay, lay_all, placed, shown}
+use Rattle.server_words.proofs.Laying.{rising_lay, rising_shown}
 use Rattle.id_pairs.specs.declared.Id.TheVariants.{Row}
 use Rattle.id_pairs.specs.Pairs.{HasNoIdTwice, IdPair}
 use Rattle.law_server.specs.Rows.Images.{IsRenamedImage, IsRenamedLeft}

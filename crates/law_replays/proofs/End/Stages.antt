@@ -8,12 +8,12 @@ use Rattle.desk_values.specs.declared.capture.Event.{Event}
 use Rattle.desk_values.specs.declared.capture.Event.TheVariants.{Start, Answer}
 use Rattle.desk_schema.specs.Sound.{IsSoundStart}
 use Rattle.desk_schema.specs.Start.{StartView}
-use Rattle.machine_model.specs.Sound.{HasSoundChanges, IsSoundState}
-use Rattle.machine_model.specs.State.{State, disconnected, opening}
-use Rattle.machine_model.specs.Step.{Gives}
-use Rattle.machine_model.proofs.Members.{each_repeated}
-use Rattle.machine_model.proofs.SoundRows.{sound_none}
-use Rattle.machine_model.proofs.SoundSteps.{step_sound}
+use Rattle.server_words.specs.Sound.{HasSoundChanges, IsSoundState}
+use Rattle.server_words.specs.State.{State, disconnected, opening}
+use Rattle.server_words.specs.Step.{Gives}
+use Rattle.server_words.proofs.Members.{each_repeated}
+use Rattle.server_words.proofs.SoundRows.{sound_none}
+use Rattle.server_words.proofs.SoundSteps.{step_sound}
 use Rattle.std.proofs.lemmas.List.{length-replicate}
 use Rattle.replay_history.specs.Capture.{IsRun}
 use Rattle.replay_history.specs.Gap.{IsCallAt}

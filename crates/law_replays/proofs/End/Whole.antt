@@ -9,10 +9,10 @@ use Rattle.desk_values.specs.declared.capture.Captured.{Captured}
 use Rattle.desk_values.specs.declared.capture.Event.{Event}
 use Rattle.desk_schema.specs.Schema.{SchemaView}
 use Rattle.desk_schema.specs.Start.{StartView}
-use Rattle.machine_model.specs.Sound.{IsSoundState}
-use Rattle.machine_model.specs.State.{State, opening}
-use Rattle.machine_model.specs.Step.{Gives, committed_in, reply_in}
-use Rattle.machine_model.specs.Rows.{IsRising}
+use Rattle.server_words.specs.Sound.{IsSoundState}
+use Rattle.server_words.specs.State.{State, opening}
+use Rattle.server_words.specs.Step.{Gives, committed_in, reply_in}
+use Rattle.server_words.specs.Rows.{IsRising}
 use Rattle.replay_history.specs.declared.mode.Mode.{Mode}
 use Rattle.replay_history.specs.declared.mode.Mode.TheVariants.{Order}
 use Rattle.replay_history.specs.declared.report.Class.TheVariants.{Same}

@@ -9,8 +9,8 @@ use Rattle.desk_values.specs.declared.call.Outcome.TheVariants.{Rows, Count, Com
 use Rattle.desk_values.specs.declared.call.Reply.{Reply}
 use Rattle.desk_values.specs.declared.capture.Captured.{Captured}
 use Rattle.desk_values.specs.declared.capture.Event.{Event}
-use Rattle.machine_model.specs.State.{State}
-use Rattle.machine_model.specs.Step.{Gives, committed_in, reply_in, with_commit}
+use Rattle.server_words.specs.State.{State}
+use Rattle.server_words.specs.Step.{Gives, committed_in, reply_in, with_commit}
 use Rattle.replay_history.specs.declared.mode.Mode.{Mode}
 use Rattle.replay_history.specs.declared.mode.Mode.TheVariants.{Off, Scn, Object, Order, Fence}
 use Rattle.replay_history.specs.Capture.{IsRun, commits, commits_before}

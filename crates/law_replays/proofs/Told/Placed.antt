@@ -4,8 +4,8 @@ use Rattle.std.specs.List.{AllByRecursion}
 use Rattle.std.proofs.lemmas.Bool.{ltb-true, eqb-true}
 use Rattle.std.proofs.lemmas.Bool.Decides.{nat_tests}
 use Rattle.desk_values.specs.declared.value.Image.{Image}
-use Rattle.machine_model.specs.Rows.{is_there, lay, lay_all, noted, one, placed, shown}
-use Rattle.machine_model.proofs.SoundRows.{each_placed}
+use Rattle.server_words.specs.Rows.{is_there, lay, lay_all, noted, one, placed, shown}
+use Rattle.server_words.proofs.SoundRows.{each_placed}
 
 -- the change goes behind the first row, in its place, or before it
 abbrev pub Places : (Image → List Image) → Image → Image → List Image → Type 0

@@ -15,21 +15,21 @@ use Rattle.desk_schema.specs.Schema.{SchemaView, columns_of}
 use Rattle.desk_schema.proofs.Members.{Contains-here, Contains-there}
 use Rattle.sql_tree.specs.Plain.{Entry, Name, Plan, Term, commit, delete, drawn, insert, next, rollback, rollback_to, savepoint, select, set_read_only, update, value}
 use Rattle.sql_eval.specs.Check.{check_of}
-use Rattle.machine_model.specs.declared.effect.Effect.{Effect}
-use Rattle.machine_model.specs.declared.session.Session.{Session}
-use Rattle.machine_model.specs.declared.session.Transaction.{Transaction}
-use Rattle.machine_model.proofs.Marks.{each_up_to, each_with, own_at_one}
-use Rattle.machine_model.specs.Rows.{lay_all, of_table}
-use Rattle.machine_model.specs.State.{State, disconnected, session_at}
-use Rattle.machine_model.specs.View.{View, commits_seen, view_of}
-use Rattle.machine_model.specs.Request.{Request, checked, connect, disconnect, read, request_of, statement, statement_in, table_in, table_named, unreadable, unsound}
-use Rattle.machine_model.specs.Draws.{drawn_from, drawn_value, draws_from, draws_of, is_draw_of}
-use Rattle.machine_model.specs.Causes.{connect_fault, disconnect_fault, statement_fault}
-use Rattle.machine_model.specs.Found.{Environment, matches, matching}
-use Rattle.machine_model.specs.Writes.{gone, input_place, inputs_for, row_values, updated}
-use Rattle.machine_model.specs.Answer.{Answer, answer, delete_effect, done, executed, insert_effect, new_row, select_effect, unless, update_effect}
-use Rattle.machine_model.specs.Step.{answer_in, committed_in, reply_in, session_after, step, with_commit}
-use Rattle.machine_model.proofs.Members.{each_filtered, each_joined, each_mapped, each_set, each_taken, each_weaker, one_of}
+use Rattle.server_words.specs.declared.effect.Effect.{Effect}
+use Rattle.server_words.specs.declared.session.Session.{Session}
+use Rattle.server_words.specs.declared.session.Transaction.{Transaction}
+use Rattle.server_words.proofs.Marks.{each_up_to, each_with, own_at_one}
+use Rattle.server_words.specs.Rows.{lay_all, of_table}
+use Rattle.server_words.specs.State.{State, disconnected, session_at}
+use Rattle.server_words.specs.View.{View, commits_seen, view_of}
+use Rattle.server_words.specs.Request.{Request, checked, connect, disconnect, read, request_of, statement, statement_in, table_in, table_named, unreadable, unsound}
+use Rattle.server_words.specs.Draws.{drawn_from, drawn_value, draws_from, draws_of, is_draw_of}
+use Rattle.server_words.specs.Causes.{connect_fault, disconnect_fault, statement_fault}
+use Rattle.server_words.specs.Found.{Environment, matches, matching}
+use Rattle.server_words.specs.Writes.{gone, input_place, inputs_for, row_values, updated}
+use Rattle.server_words.specs.Answer.{Answer, answer, delete_effect, done, executed, insert_effect, new_row, select_effect, unless, update_effect}
+use Rattle.server_words.specs.Step.{answer_in, committed_in, reply_in, session_after, step, with_commit}
+use Rattle.server_words.proofs.Members.{each_filtered, each_joined, each_mapped, each_set, each_taken, each_weaker, one_of}
 use Rattle.replay_history.specs.Capture.{binds_of}
 use Rattle.id_pairs.specs.Pairs.{HasNoIdTwice, IdPair}
 use Rattle.id_pairs.specs.Renaming.{AreRenamed, IsRenamed}

@@ -1,9 +1,9 @@
 -- The tables of a capture as a replay has them.
 use Rattle.std.specs.Prelude.{List}
 use Rattle.desk_values.specs.declared.value.Image.{Image}
-use Rattle.machine_model.specs.Rows.{IsRising}
-use Rattle.machine_model.specs.State.{State, opening}
-use Rattle.machine_model.specs.Step.{Gives}
+use Rattle.server_words.specs.Rows.{IsRising}
+use Rattle.server_words.specs.State.{State, opening}
+use Rattle.server_words.specs.Step.{Gives}
 use Rattle.replay_history.specs.Capture.{IsRun}
 use Rattle.id_pairs.specs.Pairs.{IdPair}
 use Rattle.law_server.specs.Rows.Bags.{AreBags}

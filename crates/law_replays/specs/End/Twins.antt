@@ -1,8 +1,8 @@
 -- Which calls of a replay meet just what they met in the capture, but for ids.
 use Rattle.std.specs.Prelude.{ℕ, take}
 use Rattle.desk_values.specs.declared.capture.Captured.{Captured}
-use Rattle.machine_model.specs.State.{State, opening}
-use Rattle.machine_model.specs.Step.{Gives}
+use Rattle.server_words.specs.State.{State, opening}
+use Rattle.server_words.specs.Step.{Gives}
 use Rattle.replay_history.specs.Capture.{IsRun}
 use Rattle.remap_ids.specs.Sent.{sent}
 use Rattle.law_server.specs.Renaming.Laws.{view_before}

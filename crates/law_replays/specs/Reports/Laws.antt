@@ -4,7 +4,7 @@ use Rattle.std.specs.List.{Contains}
 use Rattle.desk_values.specs.declared.call.Reply.{Reply}
 use Rattle.desk_values.specs.declared.capture.Captured.{Captured}
 use Rattle.desk_values.specs.declared.capture.Event.{Event}
-use Rattle.machine_model.specs.State.{State}
+use Rattle.server_words.specs.State.{State}
 use Rattle.replay_history.specs.declared.report.Class.TheVariants.{Same}
 use Rattle.replay_history.specs.declared.report.Line.{Line}
 use Rattle.replay_history.specs.declared.report.Report.{Report}

@@ -1,8 +1,8 @@
 -- The law of told ids.
 use Rattle.std.specs.Prelude.{ℕ, List}
 use Rattle.desk_values.specs.declared.call.Call.{Call}
-use Rattle.machine_model.specs.State.{State}
-use Rattle.machine_model.specs.Step.{reply_in, step}
+use Rattle.server_words.specs.State.{State}
+use Rattle.server_words.specs.Step.{reply_in, step}
 use Rattle.replay_history.specs.Capture.{binds_of}
 use Rattle.id_pairs.specs.Pairs.{HasNoIdTwice, IdPair}
 use Rattle.id_pairs.specs.Renaming.{AreRenamed}

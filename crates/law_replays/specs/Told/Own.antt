@@ -4,9 +4,9 @@ use Rattle.std.specs.List.{AllByRecursion}
 use Rattle.desk_values.specs.declared.value.Value.{Value}
 use Rattle.desk_values.specs.declared.value.Image.{Image}
 use Rattle.desk_values.specs.declared.call.Reply.{Reply}
-use Rattle.machine_model.specs.declared.session.Savepoint.{Savepoint}
-use Rattle.machine_model.specs.declared.session.Session.{Session}
-use Rattle.machine_model.specs.State.{State}
+use Rattle.server_words.specs.declared.session.Savepoint.{Savepoint}
+use Rattle.server_words.specs.declared.session.Session.{Session}
+use Rattle.server_words.specs.State.{State}
 use Rattle.replay_history.specs.Capture.{IsGivenBy}
 use Rattle.id_pairs.specs.Pairs.{IdPair}
 use Rattle.id_pairs.specs.Renaming.{IsRenamed}

@@ -12,14 +12,14 @@ use Rattle.desk_values.specs.declared.call.Reply.{Reply}
 use Rattle.desk_schema.specs.declared.schema.Rights.{Rights}
 use Rattle.desk_schema.specs.Schema.{SchemaView, columns_of}
 use Rattle.sql_tree.specs.Plain.{Plan, select, next, insert, update, delete, commit, rollback, set_read_only, savepoint, rollback_to}
-use Rattle.machine_model.specs.Found.{Environment}
-use Rattle.machine_model.specs.Causes.{connect_fault, disconnect_fault, is_empty, is_read_only, is_under_way, lacks_savepoint, needs_write_access, ranked, sets_read_only, statement_fault}
-use Rattle.machine_model.specs.Draws.{draws_of}
-use Rattle.machine_model.specs.Request.{Request}
-use Rattle.machine_model.specs.declared.session.Savepoint.{Savepoint}
-use Rattle.machine_model.specs.Savepoints.{has_savepoint}
-use Rattle.machine_model.specs.View.{View}
-use Rattle.machine_model.specs.Answer.{Answer, answer, executed, unless}
+use Rattle.server_words.specs.Found.{Environment}
+use Rattle.server_words.specs.Causes.{connect_fault, disconnect_fault, is_empty, is_read_only, is_under_way, lacks_savepoint, needs_write_access, ranked, sets_read_only, statement_fault}
+use Rattle.server_words.specs.Draws.{draws_of}
+use Rattle.server_words.specs.Request.{Request}
+use Rattle.server_words.specs.declared.session.Savepoint.{Savepoint}
+use Rattle.server_words.specs.Savepoints.{has_savepoint}
+use Rattle.server_words.specs.View.{View}
+use Rattle.server_words.specs.Answer.{Answer, answer, executed, unless}
 use Rattle.id_pairs.specs.Pairs.{HasNoIdTwice, IdPair, IsIdMap, learnt}
 use Rattle.id_pairs.specs.Renaming.{AreRenamed}
 use Rattle.law_server.proofs.Rows.Bags.{moved_same}

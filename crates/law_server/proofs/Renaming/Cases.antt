@@ -4,9 +4,9 @@ use Rattle.std.specs.List.{IsDistinct}
 use Rattle.desk_values.specs.declared.value.Image.{Image}
 use Rattle.sql_eval.specs.Faults.{any_fault, joined}
 use Rattle.sql_eval.specs.Moved.{none, more, swapped}
-use Rattle.machine_model.specs.Causes.{ranked, statement_fault}
-use Rattle.machine_model.specs.Found.{faults_over, ordered}
-use Rattle.machine_model.specs.Writes.{repeats_key}
+use Rattle.server_words.specs.Causes.{ranked, statement_fault}
+use Rattle.server_words.specs.Found.{faults_over, ordered}
+use Rattle.server_words.specs.Writes.{repeats_key}
 use Rattle.id_pairs.specs.Pairs.{IdPair}
 use Rattle.law_server.specs.Rows.Bags.{AreBags}
 use Rattle.law_server.specs.Rows.Images.{IsRenamedImage}

@@ -22,7 +22,7 @@ use Rattle.sql_eval.specs.Kinds.{are_inputs, entry_kind, fits_column, has_order,
 use Rattle.sql_eval.specs.Check.{applies, first_fault, is_missing_bind, is_of_row}
 use Rattle.sql_eval.specs.Faults.{unless_told}
 use Rattle.sql_eval.specs.SchemaNames.{columns_at, numbered, numbers, table_number}
-use Rattle.machine_model.specs.Request.{Request, connect, disconnect, unreadable, unsound, statement, checked, read, request_of, statement_in, table_named}
+use Rattle.server_words.specs.Request.{Request, connect, disconnect, unreadable, unsound, statement, checked, read, request_of, statement_in, table_named}
 use Rattle.id_pairs.specs.declared.Id.TheVariants as id
 use Rattle.id_pairs.specs.Pairs.{AreLike, IdPair}
 use Rattle.id_pairs.specs.Renaming.{AreRenamed}

@@ -16,13 +16,13 @@ use Rattle.sql_eval.specs.Faults.{any_fault, divides, overflows}
 use Rattle.sql_eval.specs.Moved as moved
 use Rattle.sql_eval.specs.Totals.{values_in}
 use Rattle.sql_eval.specs.Value.{value_of}
-use Rattle.machine_model.specs.Rows.{row_key}
-use Rattle.machine_model.specs.Found.{Environment}
-use Rattle.machine_model.specs.Causes.{no_cause}
-use Rattle.machine_model.specs.View.{View}
-use Rattle.machine_model.specs.Draws.{draws_from, draws_of, drawn_from, drawn_value, is_draw_of}
-use Rattle.machine_model.specs.Writes.{exceeds, input_place, input_value, inputs_for, leaves, row_values, violates_not_null}
-use Rattle.machine_model.specs.Answer.{insert_causes, is_over, new_row, with_faults}
+use Rattle.server_words.specs.Rows.{row_key}
+use Rattle.server_words.specs.Found.{Environment}
+use Rattle.server_words.specs.Causes.{no_cause}
+use Rattle.server_words.specs.View.{View}
+use Rattle.server_words.specs.Draws.{draws_from, draws_of, drawn_from, drawn_value, is_draw_of}
+use Rattle.server_words.specs.Writes.{exceeds, input_place, input_value, inputs_for, leaves, row_values, violates_not_null}
+use Rattle.server_words.specs.Answer.{insert_causes, is_over, new_row, with_faults}
 use Rattle.id_pairs.specs.declared.Id.TheVariants as id
 use Rattle.id_pairs.specs.Pairs.{HasNoIdTwice, IdPair, drawn_pair, drawn_pairs, learnt, made_pair}
 use Rattle.id_pairs.specs.Renaming.{AreRenamed, IsRenamed}

@@ -8,7 +8,7 @@ use Rattle.sql_tree.specs.Plain.{Term}
 use Rattle.sql_eval.specs.declared.faults.Faults.{Faults}
 use Rattle.sql_eval.specs.Faults.{any_fault, divides, overflows}
 use Rattle.sql_eval.specs.Totals.{values_in}
-use Rattle.machine_model.specs.Found.{Environment, faults_over, is_true, matches, matching, row_faults, sound, truth_in, value_in, values_for, where_faults}
+use Rattle.server_words.specs.Found.{Environment, faults_over, is_true, matches, matching, row_faults, sound, truth_in, value_in, values_for, where_faults}
 use Rattle.id_pairs.specs.Pairs.{HasNoIdTwice, IdPair}
 use Rattle.id_pairs.specs.Renaming.{AreRenamed}
 use Rattle.law_server.specs.Rows.Bags.{AreBags}

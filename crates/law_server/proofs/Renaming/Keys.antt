@@ -9,9 +9,9 @@ use Rattle.desk_schema.specs.Rules.{key_of}
 use Rattle.sql_eval.specs.Moved.{Moved, none, more, swapped, along}
 use Rattle.sql_eval.specs.Totals.{values_in}
 use Rattle.sql_eval.proofs.Moved.{moved_any}
-use Rattle.machine_model.specs.Rows.{row_key}
-use Rattle.machine_model.specs.Writes.{is_locked_key, repeats_key}
-use Rattle.machine_model.proofs.Repeating.{or_swap, same_back}
+use Rattle.server_words.specs.Rows.{row_key}
+use Rattle.server_words.specs.Writes.{is_locked_key, repeats_key}
+use Rattle.server_words.proofs.Repeating.{or_swap, same_back}
 use Rattle.id_pairs.specs.Pairs.{HasNoIdTwice, IdPair}
 use Rattle.id_pairs.specs.Renaming.{AreRenamed, IsRenamed}
 use Rattle.law_server.specs.Rows.Bags.{AreBags}

@@ -3,8 +3,8 @@ use Rattle.std.proofs.Common.{List, [], ◌∷◌, Option, None, Some}
 use Rattle.std.specs.List.{AllZip, Contains}
 use Rattle.desk_values.specs.declared.value.Value.{Value}
 use Rattle.desk_values.specs.declared.value.Image.{Image}
-use Rattle.machine_model.specs.declared.session.Savepoint.{Savepoint}
-use Rattle.machine_model.specs.View.{View}
+use Rattle.server_words.specs.declared.session.Savepoint.{Savepoint}
+use Rattle.server_words.specs.View.{View}
 use Rattle.id_pairs.specs.Pairs.{IdPair}
 use Rattle.id_pairs.specs.Renaming.{AreRenamed, IsRenamed}
 use Rattle.law_server.specs.Rows.Bags.{AreBags}

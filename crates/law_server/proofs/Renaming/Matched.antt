@@ -2,15 +2,15 @@
 use Rattle.std.proofs.Common.{◌≡◌, ℕ, zero, suc, List, [], ◌∷◌, map, Option, None, Some}
 use Rattle.std.specs.Prelude.{slice_index_or}
 use Rattle.std.specs.List.{AllByRecursion, AllZip}
-use Rattle.machine_model.specs.Rows.{lay_all, of_table}
-use Rattle.machine_model.specs.Sound.{HasSoundChanges, IsSoundState}
-use Rattle.machine_model.specs.State.{State, disconnected, session_at}
-use Rattle.machine_model.specs.View.{View, commits_seen, view_of}
-use Rattle.machine_model.specs.Request.{request_of, table_in}
-use Rattle.machine_model.proofs.Laying.{rising_lay, rising_lay_all}
-use Rattle.machine_model.proofs.Looks.{rising_of_table}
-use Rattle.machine_model.proofs.SoundRows.{sound_none}
-use Rattle.machine_model.proofs.SoundSteps.{tables_stand}
+use Rattle.server_words.specs.Rows.{lay_all, of_table}
+use Rattle.server_words.specs.Sound.{HasSoundChanges, IsSoundState}
+use Rattle.server_words.specs.State.{State, disconnected, session_at}
+use Rattle.server_words.specs.View.{View, commits_seen, view_of}
+use Rattle.server_words.specs.Request.{request_of, table_in}
+use Rattle.server_words.proofs.Laying.{rising_lay, rising_lay_all}
+use Rattle.server_words.proofs.Looks.{rising_of_table}
+use Rattle.server_words.proofs.SoundRows.{sound_none}
+use Rattle.server_words.proofs.SoundSteps.{tables_stand}
 use Rattle.id_pairs.specs.Pairs.{HasNoIdTwice, IdPair}
 use Rattle.id_pairs.specs.Renaming.{IsRenamed}
 use Rattle.law_server.specs.Rows.Bags.{AreBags}

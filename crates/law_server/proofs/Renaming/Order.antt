@@ -8,8 +8,8 @@ use Rattle.sql_eval.specs.Moved.{Moved, along}
 use Rattle.sql_eval.specs.Totals.{values_in}
 use Rattle.sql_eval.proofs.Moved.{moved_any, moved_length}
 use Rattle.sql_eval.proofs.TotalLaws.{total_ignores_order}
-use Rattle.machine_model.specs.Found.{faults_over, matches, sound, truth_in, values_for}
-use Rattle.machine_model.specs.Answer.{totals_in}
+use Rattle.server_words.specs.Found.{faults_over, matches, sound, truth_in, values_for}
+use Rattle.server_words.specs.Answer.{totals_in}
 use Rattle.law_server.proofs.Rows.Bags.{moved_back, moved_filter, moved_map, moved_same}
 use Rattle.law_server.specs.Renaming.Order.{CountIgnoresOrder, FaultsIgnoreOrder, ItemsIgnoreOrder, KeysIgnoreOrder, RowFaultsIgnoreOrder, WhereIgnoresOrder}
 use Rattle.law_server.proofs.Renaming.Keys.{moved_repeats}

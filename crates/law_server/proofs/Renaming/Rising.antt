@@ -4,7 +4,7 @@ use Rattle.std.specs.List.{AllZip, Contains}
 use Rattle.std.proofs.lemmas.Bool.{eqb-true, eq-eqb}
 use Rattle.desk_values.specs.declared.value.Image.{Image}
 use Rattle.sql_eval.specs.Moved.{Moved, none, more, swapped, along}
-use Rattle.machine_model.specs.Rows.{IsRising, RisesFrom}
+use Rattle.server_words.specs.Rows.{IsRising, RisesFrom}
 use Rattle.id_pairs.specs.declared.Id.TheVariants.{Row}
 use Rattle.id_pairs.specs.Pairs.{HasNoIdTwice, IdPair}
 use Rattle.law_server.specs.Rows.Bags.{AreBags}

@@ -13,10 +13,10 @@ use Rattle.sql_tree.specs.Plain as total
 use Rattle.sql_eval.specs.Faults.{any_fault, joined, unless_told}
 use Rattle.sql_eval.specs.Moved.{Moved, none, more, swapped, along}
 use Rattle.sql_eval.specs.Totals.{extreme_of, first_value, members, number_in, part_in, sum_of, sum_value, total_over, values_in}
-use Rattle.machine_model.specs.Found.{Environment, insert_ordered, matches, matching, ordered, row_order, values_for}
-use Rattle.machine_model.specs.Causes.{no_cause}
-use Rattle.machine_model.specs.View.{View}
-use Rattle.machine_model.specs.Answer.{are_totals, asked_faults, is_over, select_causes, select_rows, totals_in, with_faults}
+use Rattle.server_words.specs.Found.{Environment, insert_ordered, matches, matching, ordered, row_order, values_for}
+use Rattle.server_words.specs.Causes.{no_cause}
+use Rattle.server_words.specs.View.{View}
+use Rattle.server_words.specs.Answer.{are_totals, asked_faults, is_over, select_causes, select_rows, totals_in, with_faults}
 use Rattle.id_pairs.specs.Pairs.{HasNoIdTwice, IdPair}
 use Rattle.id_pairs.specs.Renaming.{AreRenamed}
 use Rattle.law_server.specs.Rows.Bags.{AreBags}

@@ -1,7 +1,7 @@
 -- What is asked of a set of items.
 use Rattle.std.proofs.Common.{◌≡◌, Bool, true, false, ◌||◌, List, [], ◌∷◌, length, refl, sym, ap, ◌∙◌, arith}
 use Rattle.std.specs.List.{Contains, list_any}
-use Rattle.machine_model.specs.Causes.{is_empty}
+use Rattle.server_words.specs.Causes.{is_empty}
 use Rattle.law_server.specs.Rows.Bags.{AreBags}
 use Rattle.law_server.proofs.Rows.Bags.{bags_length}
 use Rattle.law_server.proofs.Rows.Members.{either_both}

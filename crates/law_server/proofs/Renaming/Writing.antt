@@ -10,12 +10,12 @@ use Rattle.desk_schema.specs.declared.schema.Kind.TheVariants as kind
 use Rattle.sql_tree.specs.Plain.{Term, Change}
 use Rattle.sql_eval.specs.Faults.{joined}
 use Rattle.sql_eval.specs.Totals.{values_in}
-use Rattle.machine_model.specs.Rows.{row_key}
-use Rattle.machine_model.specs.Found.{Environment, matches, matching}
-use Rattle.machine_model.specs.Causes.{no_cause}
-use Rattle.machine_model.specs.View.{View}
-use Rattle.machine_model.specs.Writes.{any_column, any_value, assigned, changed_rows, exceeds, exceeds_length, is_among, is_empty_text, leaves, leaves_range, moves_key, sources, stored, targets, updated, violates_not_null}
-use Rattle.machine_model.specs.Answer.{delete_causes, is_over, meets_lock, rows_after, update_causes, with_faults}
+use Rattle.server_words.specs.Rows.{row_key}
+use Rattle.server_words.specs.Found.{Environment, matches, matching}
+use Rattle.server_words.specs.Causes.{no_cause}
+use Rattle.server_words.specs.View.{View}
+use Rattle.server_words.specs.Writes.{any_column, any_value, assigned, changed_rows, exceeds, exceeds_length, is_among, is_empty_text, leaves, leaves_range, moves_key, sources, stored, targets, updated, violates_not_null}
+use Rattle.server_words.specs.Answer.{delete_causes, is_over, meets_lock, rows_after, update_causes, with_faults}
 use Rattle.id_pairs.specs.declared.Id.TheVariants.{Row}
 use Rattle.id_pairs.specs.Pairs.{HasNoIdTwice, IdPair}
 use Rattle.id_pairs.specs.Renaming.{AreRenamed, IsRenamed}

@@ -12,10 +12,10 @@ use Rattle.desk_schema.specs.declared.schema.Rights.TheVariants.{ReadWrite}
 use Rattle.desk_schema.specs.Schema.{SchemaView}
 use Rattle.sql_tree.specs.declared.tree.Op.TheVariants.{Eq}
 use Rattle.sql_tree.specs.Plain.{Plan, bin, bind, column, drawn, insert, int, rowid, select, value, values}
-use Rattle.machine_model.specs.Answer.{answer, reply_of}
-use Rattle.machine_model.specs.Request.{statement}
-use Rattle.machine_model.specs.State.{nothing}
-use Rattle.machine_model.specs.View.{View}
+use Rattle.server_words.specs.Answer.{answer, reply_of}
+use Rattle.server_words.specs.Request.{statement}
+use Rattle.server_words.specs.State.{nothing}
+use Rattle.server_words.specs.View.{View}
 use Rattle.id_pairs.specs.declared.Id.TheVariants as id
 use Rattle.id_pairs.specs.Pairs.{HasNoIdTwice, IdPair, IsIdMap, learnt}
 use Rattle.id_pairs.specs.Renaming.{AreRenamed}

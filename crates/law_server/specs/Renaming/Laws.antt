@@ -3,12 +3,12 @@ use Rattle.std.specs.Prelude.{◌≡◌, ℕ, List, ◌++◌, length}
 use Rattle.desk_values.specs.declared.call.Call.{Call}
 use Rattle.desk_values.specs.declared.call.Reply.{Reply}
 use Rattle.desk_schema.specs.Schema.{SchemaView}
-use Rattle.machine_model.specs.Sound.{IsSoundState}
-use Rattle.machine_model.specs.State.{State}
-use Rattle.machine_model.specs.Step.{reply_in, view_for}
-use Rattle.machine_model.specs.View.{View}
-use Rattle.machine_model.specs.Request.{request_of}
-use Rattle.machine_model.specs.Answer.{answer}
+use Rattle.server_words.specs.Sound.{IsSoundState}
+use Rattle.server_words.specs.State.{State}
+use Rattle.server_words.specs.Step.{reply_in, view_for}
+use Rattle.server_words.specs.View.{View}
+use Rattle.server_words.specs.Request.{request_of}
+use Rattle.server_words.specs.Answer.{answer}
 use Rattle.id_pairs.specs.Pairs.{HasNoIdTwice, IdPair, IsIdMap, learnt}
 use Rattle.law_server.specs.Renaming.Twins.{AreTwinCalls, AreTwinViews, IsRisingView}
 use Rattle.law_server.specs.Renaming.Replies.{IsRenamedReply}

@@ -8,9 +8,9 @@ use Rattle.sql_tree.specs.Plain.{Asked, Term}
 use Rattle.sql_eval.specs.declared.faults.Faults.{Faults}
 use Rattle.sql_eval.specs.Faults.{any_fault}
 use Rattle.sql_eval.specs.Moved.{Moved}
-use Rattle.machine_model.specs.Found.{Environment, faults_over, matching, where_faults}
-use Rattle.machine_model.specs.Writes.{repeats_key}
-use Rattle.machine_model.specs.Answer.{select_rows}
+use Rattle.server_words.specs.Found.{Environment, faults_over, matching, where_faults}
+use Rattle.server_words.specs.Writes.{repeats_key}
+use Rattle.server_words.specs.Answer.{select_rows}
 
 -- whether some row has a fault: of a condition, of a part with a value or a truth, of several parts
 abbrev pub WhereIgnoresOrder : Type 0

@@ -5,10 +5,10 @@ use Rattle.desk_values.specs.declared.value.Value.{Value}
 use Rattle.desk_values.specs.declared.call.Call.{Call}
 use Rattle.desk_values.specs.declared.call.Call.TheVariants.{Connect, Sql, Disconnect}
 use Rattle.desk_schema.specs.Schema.{SchemaView, rights_of}
-use Rattle.machine_model.specs.declared.session.Savepoint.{Savepoint}
-use Rattle.machine_model.specs.declared.session.HeldKey.{HeldKey}
-use Rattle.machine_model.specs.Rows.{IsRising}
-use Rattle.machine_model.specs.View.{View}
+use Rattle.server_words.specs.declared.session.Savepoint.{Savepoint}
+use Rattle.server_words.specs.declared.session.HeldKey.{HeldKey}
+use Rattle.server_words.specs.Rows.{IsRising}
+use Rattle.server_words.specs.View.{View}
 use Rattle.id_pairs.specs.declared.Id.TheVariants.{Row}
 use Rattle.id_pairs.specs.Pairs.{IdPair}
 use Rattle.id_pairs.specs.Renaming.{AreRenamed, IsRenamed}

@@ -2,12 +2,17 @@
 use Rattle.std.specs.Prelude.{ℕ, ◌+◌, ◌≤◌, ◌&&◌, nat_eq, if◌then◌else◌, List, length}
 use Rattle.desk_values.specs.declared.value.Value.{Value}
 use Rattle.sql_tree.specs.Plain.{Plan}
-use Rattle.machine_model.specs.Request.{Request, names_savepoint, statement, unreadable}
+use Rattle.server_words.specs.Request.{Request, names_savepoint, statement, unreadable}
 use Rattle.std.specs.List.{All}
-use Rattle.machine_model.specs.Sound.{IsSoundState}
+use Rattle.server_words.specs.Sound.{IsSoundState}
 use Rattle.row_versions.specs.History.{History}
-use Rattle.machine_model.specs.Inside.Tables.{AreTold, least_seen}
-use Rattle.machine_model.specs.Machine.{Running}
+use Rattle.machine_stores.specs.Tables.{AreTold, least_seen}
+use Rattle.server_words.specs.Machine.{Running}
+use Rattle.server_words.specs.declared.effect.Decision.{Decision}
+use Rattle.server_words.specs.State.{State}
+use Rattle.server_words.specs.Step.{view_for}
+use Rattle.server_words.specs.Answer.{executed}
+use Rattle.server_words.specs.Decision.{Decides}
 
 -- the most steps of a server
 abbrev pub step_limit : ℕ
@@ -24,3 +29,11 @@ pub record Keeps (running : Running) (tables : List History) : Type 0 where
 -- what a checked statement asks for of a server of this version: at version 1 one on savepoints is none
 abbrev pub known_request : ℕ → Plan ℕ → List Value → Request
 known_request version plan binds = if nat_eq version 1 && names_savepoint plan then unreadable else statement plan binds
+
+-- the decision is what a checked statement is answered that nothing forbids
+abbrev pub Executes : State → ℕ → List Value → Plan ℕ → Decision → Type 0
+Executes state session binds plan decision =
+    let view = view_for state session (statement plan binds) in
+    Decides view
+    (executed state.start.schema view state.next_values state.next_row
+    (record { level = state.start.schema.level; binds = binds }) plan) decision

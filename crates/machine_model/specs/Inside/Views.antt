@@ -1,7 +1,7 @@
 -- What sessions hold, one after another.
 use Rattle.std.specs.Prelude.{ℕ, List}
 use Rattle.std.specs.List.{flat_map}
-use Rattle.machine_model.specs.declared.session.Session.{Session}
+use Rattle.server_words.specs.declared.session.Session.{Session}
 
 -- the rows that the sessions hold
 abbrev pub rows_held : List Session → List ℕ

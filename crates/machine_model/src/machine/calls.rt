@@ -3,26 +3,25 @@
 ghost use Rattle.std.specs.Prelude.{◌≡◌, ◌<◌, IfOk, ℕ, List, Option};
 ghost use Rattle.sql_tree.specs.Plain.{plan_of};
 ghost use Rattle.desk_schema.specs.Schema.{rights_of};
-ghost use Rattle.machine_model.specs.View.{view_of};
-ghost use Rattle.machine_model.specs.Request.{connect as connect_request, disconnect as disconnect_request, read, names_savepoint, request_of, statement as statement_request, statement_in, unsound};
-ghost use Rattle.machine_model.specs.Answer.{answer};
-ghost use Rattle.machine_model.specs.Step.{answer_in, answer_to, view_for};
-ghost use Rattle.machine_model.specs.Inside.Decision.{Decides, Executes};
+ghost use Rattle.server_words.specs.View.{view_of};
+ghost use Rattle.server_words.specs.Request.{connect as connect_request, disconnect as disconnect_request, read, names_savepoint, request_of, statement as statement_request, statement_in, unsound};
+ghost use Rattle.server_words.specs.Answer.{answer};
+ghost use Rattle.server_words.specs.Step.{answer_in, answer_to, view_for};
+ghost use Rattle.server_words.specs.Decision.{Decides};
+ghost use Rattle.machine_model.specs.Inside.Machine.{Executes};
 ghost use Rattle.machine_model.specs.Inside.Machine.{known_request};
 ghost use Rattle.statement_cache.specs.Kept.{outcome_of, outcome_of_text};
 
 use super::PlainMachine;
-use crate::answering::{answered, refused};
-use crate::draws::draws_of;
-use crate::effect::{Decision, Deed};
-use crate::permission::statement_fault;
 use desk_values::{Binds, Call, Fault, Memory, Outcome, Txt};
+use server_words::{Decision, Deed};
 use sql_eval::Ready;
+use statement_acts::{answered, draws_of, refused, statement_fault};
 use statement_cache::{Kept, read_kept};
 
 impl PlainMachine {
     /// What a call is answered, and what it does.
-    pub(super) fn decision(&self, session: usize, call: &Call) -> Result<Decision, Memory>
+    pub(super) fn decided(&self, session: usize, call: &Call) -> Result<Decision, Memory>
         requires { session < 64 }
         ensures { IfOk result
             (λ decision. Decides (view_for self.now.state session (request_of self.now.state.start.schema call.now))

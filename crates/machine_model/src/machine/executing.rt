@@ -1,30 +1,26 @@
 //! What statements are answered that nothing forbids, and what they do.
 
 ghost use Rattle.std.specs.Prelude.{◌≡◌, ◌<◌, ◌∷◌, [], map, IfOk};
-ghost use Rattle.machine_model.specs.Draws.{draws_of};
+ghost use Rattle.server_words.specs.Draws.{draws_of};
 ghost use Rattle.sql_tree.specs.Plain.{asked_of, change_of, condition_of, entry_of, plan_of, select as select_plan, insert as insert_plan, update as update_plan, delete as delete_plan};
 ghost use Rattle.desk_schema.specs.Schema.{columns_of};
-ghost use Rattle.machine_model.specs.State.{session_at};
-ghost use Rattle.machine_model.specs.View.{view_of};
-ghost use Rattle.machine_model.specs.Answer.{gone_back, reply_of};
-ghost use Rattle.machine_model.specs.Inside.Decision.{Decides, Executes, view_of_basis};
-ghost use Rattle.machine_model.specs.Inside.Evaluation.{env_of};
-ghost use Rattle.machine_model.specs.Inside.Index.{IsBasis};
+ghost use Rattle.server_words.specs.State.{session_at};
+ghost use Rattle.server_words.specs.View.{view_of};
+ghost use Rattle.server_words.specs.Answer.{gone_back, reply_of};
+ghost use Rattle.server_words.specs.Decision.{Decides};
+ghost use Rattle.machine_model.specs.Inside.Machine.{Executes};
+ghost use Rattle.visited_rows.specs.Basis.{view_of_basis};
+ghost use Rattle.found_rows.specs.Evaluation.{env_of};
+ghost use Rattle.visited_rows.specs.Basis.{IsBasis};
 
 use super::PlainMachine;
-use crate::answering::answered;
-use crate::basis::Basis;
-use crate::deleting::delete;
-use crate::draws::draws_of;
-use crate::effect::{Decision, Deed};
-use crate::evaluation::Evaluation;
-use crate::inserting::insert;
-use crate::selecting::select;
-use crate::session::Savepoint;
-use crate::updating::update;
 use desk_schema::Column;
 use desk_values::{Binds, Copied, List, Memory, Outcome, Reply, Txt, Values};
+use found_rows::Evaluation;
+use server_words::{Decision, Deed, Savepoint};
 use sql_eval::{Checked, Columns, Ready, ReadyInputs, ReadyItems, ReadyKeys, ReadySets};
+use statement_acts::{answered, delete, draws_of, insert, select, update};
+use visited_rows::Basis;
 
 impl PlainMachine {
     /// What expressions are evaluated with.
@@ -197,9 +193,9 @@ impl PlainMachine {
             others: self.others(session),
             table,
             start: self.start.rows().as_slice(),
-            commits: &self.commits,
-            versions: &self.versions,
-            indexes: &self.indexes,
+            commits: &self.stores.commits,
+            versions: &self.stores.versions,
+            indexes: &self.stores.indexes,
             level: self.start.schema().level(),
             keys_differ: self.keys_differ,
         }

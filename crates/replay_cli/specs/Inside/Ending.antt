@@ -1,6 +1,6 @@
 -- What doing the work of a command answers.
 use Rattle.std.specs.Prelude.{◌≡◌, ℕ, ◌≤◌, ◌⊎◌, Result, Ok, Err}
-use Rattle.desk_files.specs.Outside.{FileMap, HasRisen}
+use Rattle.desk_files.specs.Outside.{DeviceFailed, Ending, FileMap, HasRisen, MemoryShort}
 use Rattle.desk_files.specs.Writes.{with_all}
 use Rattle.replay_cli.specs.declared.failure.Failure.{Failure}
 use Rattle.replay_cli.specs.declared.failure.Failure.TheVariants.{BadCommand, Refused, Differs, NotDone, NotSent, DeviceFault, OutOfMemory}
@@ -12,8 +12,8 @@ use Rattle.replay_cli.specs.Ending.{IsCauseOf, IsFoundOf, IsUnsentOf, LeftOf}
 use Rattle.replay_cli.specs.Inside.Serving.{OneFailed}
 
 -- the files are as before and neither the host nor the keeper was asked, or it is as after some of the work of a task that was wanted
-abbrev pub LeftOver : (Result Task Failure → Type 0) → FileMap → FileMap → ℕ → ℕ → Hosting → Type 0
-LeftOver wanted before after fb fa h = ((after ≡ before) × IsUnasked h) ⊎ ((task : Task) × wanted (Ok task) × LeftOf task before after fb fa h)
+abbrev pub LeftOver : (Result Task Failure → Type 0) → Ending → FileMap → FileMap → ℕ → ℕ → Hosting → Type 0
+LeftOver wanted ending before after fb fa h = ((after ≡ before) × IsUnasked h) ⊎ ((task : Task) × wanted (Ok task) × LeftOf task ending before after fb fa h)
 
 -- what doing the work answers
 abbrev pub RunSays : (Result Task Failure → Type 0) → FileMap → FileMap → ℕ → ℕ → Hosting → Result Plan Failure → Type 0
@@ -23,8 +23,8 @@ RunSays wanted before after fb fa h (Err (Refused refusal)) = wanted (Err (Refus
 RunSays wanted before after fb fa h (Err (Differs finding)) = (task : Task) × wanted (Ok task) × IsFoundOf task finding h × (after ≡ before)
 RunSays wanted before after fb fa h (Err (NotDone cause)) = (task : Task) × wanted (Ok task) × IsCauseOf task cause h × (after ≡ before)
 RunSays wanted before after fb fa h (Err (NotSent cause)) = (task : Task) × wanted (Ok task) × IsUnsentOf task cause h × (after ≡ before)
-RunSays wanted before after fb fa h (Err DeviceFault) = LeftOver wanted before after fb fa h
-RunSays wanted before after fb fa h (Err OutOfMemory) = LeftOver wanted before after fb fa h
+RunSays wanted before after fb fa h (Err DeviceFault) = LeftOver wanted DeviceFailed before after fb fa h
+RunSays wanted before after fb fa h (Err OutOfMemory) = LeftOver wanted MemoryShort before after fb fa h
 
 -- the count of the files rose and the others stand, or theirs stands and one of the others rose
 abbrev pub OneRose : ℕ → ℕ → Hosting → Type 0

@@ -1,12 +1,17 @@
 -- What the work of a task answers, and how the counts of the host and of the keeper move in it.
-use Rattle.std.specs.Prelude.{◌≡◌, ℕ, ◌≤◌, ◌⊎◌, nat_lt, List, length, Option, Result, Ok, Err, ⊤}
+use Rattle.std.specs.Prelude.{◌≡◌, ℕ, ◌≤◌, ◌⊎◌, nat_lt, List, [], length, Option, Result, Ok, Err, ⊤}
 use Rattle.desk_files.specs.Outside.{Answered, DeviceFailed, HasRisen, MemoryShort}
 use Rattle.desk_files.specs.Hosts.{Connections}
 use Rattle.desk_schema.specs.Start.{StartView}
 use Rattle.capture_serve.specs.Failing.{IsFinding}
 use Rattle.capture_serve.specs.Service.{HasGivenBackAll}
 use Rattle.register_work.specs.declared.errand.Errand.{Errand}
-use Rattle.register_work.specs.Errand.{IsCause}
+use Rattle.register_work.specs.declared.errand.Answer.{Answer}
+use Rattle.register_work.specs.declared.errand.ErrandErr.{ErrandErr}
+use Rattle.register_work.specs.declared.errand.ErrandErr.TheVariants as errand_err
+use Rattle.run_register.specs.declared.kept.KeepErr.{KeepErr}
+use Rattle.run_register.specs.declared.kept.KeepErr.TheVariants as keep_err
+use Rattle.register_work.specs.Errand.{IsCause, IsUnclosed}
 use Rattle.register_work.specs.Keeping.{KeepsAll, Keeping}
 use Rattle.replay_cli.specs.declared.failure.Failure.{Failure}
 use Rattle.replay_cli.specs.declared.failure.Failure.TheVariants.{BadCommand, Refused, Differs, NotDone, NotSent, DeviceFault, OutOfMemory}
@@ -14,8 +19,8 @@ use Rattle.replay_cli.specs.declared.plan.Plan.{Plan}
 use Rattle.replay_cli.specs.Decision.{Task, ToKeep, ToSend, ToServe}
 use Rattle.replay_cli.specs.Done.{sent_files}
 use Rattle.replay_cli.specs.Lines.{replayed_line}
-use Rattle.replay_cli.specs.Hosting.{Dialling, HasKept, HasNoFault, Hosting, IsDialUnasked, IsHostUnasked, IsKeeperUntouched, IsUnasked}
-use Rattle.replay_cli.specs.Ending.{HasDialled, IsCauseOf, IsFoundOf, IsUnsent, IsUnsentOf}
+use Rattle.replay_cli.specs.Hosting.{Dialling, HasNoFault, Hosting, IsDialUnasked, IsHostUnasked, IsKeeperUntouched, IsUnasked}
+use Rattle.replay_cli.specs.Ending.{HasDialled, KeptAs, IsCauseOf, IsFoundOf, IsUnsent, IsUnsentOf}
 use Rattle.replay_job.specs.Job.{JobView}
 use Rattle.replay_report.specs.Report.{heard_report_in}
 use Rattle.remote_desk.specs.Desk.{RemoteView}
@@ -33,8 +38,8 @@ PlanFails task h (Refused refusal) = ⊥
 PlanFails task h (Differs finding) = IsFoundOf task finding h
 PlanFails task h (NotDone cause) = IsCauseOf task cause h
 PlanFails task h (NotSent cause) = IsUnsentOf task cause h
-PlanFails task h DeviceFault = HasKept h × HasDialled task h.dial
-PlanFails task h OutOfMemory = HasKept h × HasDialled task h.dial
+PlanFails task h DeviceFault = KeptAs task DeviceFailed h × HasDialled task h.dial
+PlanFails task h OutOfMemory = KeptAs task MemoryShort h × HasDialled task h.dial
 
 -- just one of the two failed
 abbrev pub OneFailed : Hosting → Type 0
@@ -67,8 +72,25 @@ KeepFails errand k (Refused refusal) = ⊥
 KeepFails errand k (Differs finding) = ⊥
 KeepFails errand k (NotDone cause) = IsCause errand k.runs_before cause × KeepsAll k Answered
 KeepFails errand k (NotSent cause) = ⊥
-KeepFails errand k DeviceFault = KeepsAll k DeviceFailed
-KeepFails errand k OutOfMemory = KeepsAll k MemoryShort
+KeepFails errand k DeviceFault = KeepsAll k DeviceFailed ⊎ IsUnclosed errand k DeviceFailed
+KeepFails errand k OutOfMemory = KeepsAll k MemoryShort ⊎ IsUnclosed errand k MemoryShort
+
+-- what a keeper that could not be closed is told as
+abbrev pub unclosed : KeepErr → Failure
+unclosed keep_err.Failed = DeviceFault
+unclosed keep_err.Memory = OutOfMemory
+
+-- What comes of an errand that ended so, where the keeper was closed so behind it. A cause why it is not done stays where closing lacked
+-- memory alone, and a device that failed goes before it.
+abbrev pub settled : Result Answer ErrandErr → Result (Unit {0}) KeepErr → Result Plan Failure
+settled (Ok answer) (Ok done) = Ok (record { line = answer.text; differs = answer.news; writes = [] })
+settled (Ok answer) (Err error) = Err (unclosed error)
+settled (Err (errand_err.NotDone cause)) (Ok done) = Err (NotDone cause)
+settled (Err (errand_err.NotDone cause)) (Err keep_err.Failed) = Err DeviceFault
+settled (Err (errand_err.NotDone cause)) (Err keep_err.Memory) = Err (NotDone cause)
+settled (Err errand_err.Failed) closed = Err DeviceFault
+settled (Err errand_err.Memory) (Ok done) = Err OutOfMemory
+settled (Err errand_err.Memory) (Err error) = Err (unclosed error)
 
 -- the count of the dial rises where the link failed, and never falls
 abbrev pub DialFaults : Result Plan Failure → Dialling → Type 0

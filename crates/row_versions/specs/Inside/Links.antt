@@ -1,12 +1,11 @@
 -- Where the versions of a row stand.
-use Rattle.std.specs.Prelude.{◌≡◌, ◌⊎◌, ℕ, ◌+◌, ◌≤◌, ◌<◌, ◌&&◌, Bool, true, not, nat_eq, nat_le, is_some, if◌then◌else◌, List, [], ◌∷◌, take, map, slice_get, Option, None, Some}
+use Rattle.std.specs.Prelude.{◌≡◌, ◌⊎◌, ℕ, ◌+◌, ◌≤◌, ◌<◌, ◌&&◌, Bool, true, false, not, nat_eq, nat_le, nat_lt, is_some, if◌then◌else◌, List, [], ◌∷◌, length, take, slice_get, slice_index_or, Option, None, Some}
 use Rattle.std.specs.List.{flat_map, list_any}
-use denote.Ref.{Bor}
 use Rattle.desk_values.specs.declared.value.Image.{Image}
 use Rattle.std.specs.BTreeMap.{BTreeMap, get}
 use Rattle.std.specs.Ordering.{nat_cmp}
 use Rattle.row_versions.specs.declared.versions.Version.{Version}
-use Rattle.row_versions.specs.History.{Written, left_of, or_else, row_at, seen_of}
+use Rattle.row_versions.specs.History.{Written, is_of_row, left_of, or_else, row_at, seen_of}
 
 -- the numbers rise, or stay
 abbrev pub Ascends : ℕ → List Written → Type 0
@@ -61,6 +60,33 @@ abbrev pub needed : ℕ → List Version → List Version
 needed number [] = []
 needed number (version ∷ later) = if is_needed number version later then version ∷ needed number later else needed number later
 
--- versions that are looked at
-abbrev pub found_in : List (Bor Version) → List Version
-found_in found = map (λ (version : Bor Version). version.now) found
+-- ---- versions that are let go
+
+-- each is marked as reads from a number on need it
+abbrev pub marked : ℕ → List Version → List Version
+marked number [] = []
+marked number (version ∷ later) = record version { is_needed = is_needed number version later } ∷ marked number later
+
+abbrev pub is_marked : Version → Bool
+is_marked version = version.is_needed
+
+-- a row is placed behind all versions
+abbrev pub is_unplaced : ℕ → Option ℕ → Bool
+is_unplaced behind None = false
+is_unplaced behind (Some place) = nat_eq place behind
+
+-- a place in front of all that
+abbrev pub places_below : ℕ → Option ℕ → Option ℕ
+places_below behind None = None
+places_below behind (Some place) = if nat_lt place behind then Some place else None
+
+-- so is each row that has versions
+abbrev pub ArePlacedBehind : ℕ → List Version → BTreeMap ℕ ℕ → Type 0
+ArePlacedBehind behind list last = (row : ℕ) → list_any (is_of_row row) (seen_of list) ≡ true → get nat_cmp last row ≡ Some behind
+
+-- the version at a place names this one as the one before it, and all else of the list is read as it was
+pub record IsLinkedAt (at : ℕ) (before : Option ℕ) (default : Version) (old new : List Version) : Type 0 where
+  pub linked : (slice_index_or new at default).before ≡ before
+  pub seen : seen_of new ≡ seen_of old
+  pub front : take at new ≡ take at old
+  pub len : length new ≡ length old

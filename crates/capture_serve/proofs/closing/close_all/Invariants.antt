@@ -1,5 +1,5 @@
 use Rattle.std.proofs.Common.{◌≡◌, ◌<◌, ◌++◌, ℕ, false, length}
-use Rattle.machine_model.specs.State.{is_connected}
+use Rattle.server_words.specs.State.{is_connected}
 use Rattle.capture_recorder.specs.Gathering.{lists_of}
 use Rattle.capture_serve.specs.Inside.Passing.{AreClosed}
 use Rattle.capture_serve.proofs.closing.close_all.Given as goal

@@ -1,5 +1,5 @@
 use Rattle.std.proofs.Common.{◌≡◌, ◌<◌, ℕ, false}
-use Rattle.machine_model.specs.State.{is_connected}
+use Rattle.server_words.specs.State.{is_connected}
 use Rattle.capture_serve.proofs.closing.close_others.Given as goal
 
 abbrev pub invariant-loop-session : goal.invariant-loop-session

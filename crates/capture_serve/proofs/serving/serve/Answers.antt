@@ -11,7 +11,7 @@ pub returns-clause-service : goal.returns-clause-service
 returns-clause-service g c = IfOk-weaker c.captured.result _ _ (λ capture of. service c.args.start.now c.args.most c.in_ok-notes.notes (capture_of capture) _ _ c.in_ok-notes.ensures.connected of) c.captured.ensures.captured
 
 pub returns-clause-back : goal.returns-clause-back
-returns-clause-back g c = gives_back c.args.most _ _ c.captured.result (given_back c.args.most c.in_ok-notes.notes _ _ c.in_ok-notes.ensures.connected)
+returns-clause-back g c = gives_back c.args.most _ _ c.captured.result (given_back c.args.most c.in_ok-notes.notes _ _ c.in_ok-notes.ensures.connected) (IfErr-weaker c.captured.result _ _ (λ error both. both.1) c.captured.ensures.fails)
 
 pub returns-clause-fails : goal.returns-clause-fails
 returns-clause-fails g c = IfErr-weaker c.captured.result _ _ (λ error both. both.0) c.captured.ensures.fails

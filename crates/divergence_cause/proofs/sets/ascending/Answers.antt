@@ -3,7 +3,7 @@ use Rattle.std.specs.List.{dedup}
 use Rattle.std.specs.Ordering.{eq_by_cmp, is_lt}
 use Rattle.std.proofs.lemmas.Fn.{always_returns_same, dedup_same}
 use Rattle.std.proofs.lemmas.List.MinMax.{ranks_by}
-use Rattle.machine_model.proofs.Once.{once}
+use Rattle.server_words.proofs.Once.{once}
 use Rattle.divergence_cause.proofs.sets.ascending.Goals as goal
 
 pub returns : goal.returns

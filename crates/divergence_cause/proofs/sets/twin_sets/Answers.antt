@@ -2,7 +2,7 @@ use Rattle.std.proofs.Common.{◌≡◌, ◌↔◌, ◌∙◌, ◌+◌, Bool, Li
 use Rattle.std.specs.List.{AllZip}
 use Rattle.std.proofs.lemmas.List.{take_all, take_more}
 use Rattle.std.proofs.lemmas.Result.{IfOk-weaker}
-use Rattle.machine_model.proofs.Handing.{zip_push}
+use Rattle.server_words.proofs.Handing.{zip_push}
 use Rattle.law_server.specs.Renaming.Twins.{AreSets}
 use Rattle.divergence_cause.proofs.Alike.{carried_sets, no_sets, sets_carried}
 use Rattle.divergence_cause.proofs.sets.twin_sets.Goals as goal

@@ -2,7 +2,7 @@ use Rattle.std.proofs.Common.{◌≡◌, Bool, Some}
 use Rattle.std.specs.Prelude.{◌↔◌, IsTrue}
 use Rattle.std.proofs.lemmas.Result.{IfOk-weaker}
 use Rattle.law_server.specs.Renaming.Twins.{AreSets}
-use Rattle.machine_model.specs.declared.viewing.KeyId.{KeyId}
+use Rattle.server_words.specs.declared.views.KeyId.{KeyId}
 use Rattle.divergence_cause.specs.Inside.Passing.{carried_key}
 use Rattle.divergence_cause.specs.Twins.{IsRenamedKeyId}
 use Rattle.divergence_cause.proofs.Renamed.{key_renamed, renamed_key, sets_so}

@@ -1,7 +1,7 @@
 use Rattle.std.proofs.Common.{◌≡◌, ◌∙◌, ℕ, suc, ◌+◌, Bool, List, [], ◌∷◌, ◌++◌, length, refl, sym, ap, subst, arith}
 use Rattle.std.proofs.lemmas.Option.{slice_get_read}
 use Rattle.desk_values.specs.declared.capture.Captured.{Captured}
-use Rattle.machine_model.specs.Clean.{is_clean}
+use Rattle.server_words.specs.Clean.{is_clean}
 use Rattle.replay_history.specs.Gap.{IsCallAt}
 use Rattle.replay_job.specs.Job.{seen}
 use Rattle.law_replays.specs.End.Twins.{CameBefore}

@@ -1,5 +1,5 @@
 use Rattle.std.proofs.Common.{◌≡◌, arith, rules}
-use Rattle.http_answers.proofs.Fronts.{endless, overflowing, shows_at}
+use Rattle.http_answers.proofs.Fronts.{endless, overflowing, shows_at, shows_short}
 use Rattle.http_answers.proofs.answer.front_of.Goals as goal
 
 pub returns-in-Ok-Complete : goal.returns-in-Ok-Complete
@@ -7,6 +7,12 @@ returns-in-Ok-Complete c =
     let of = rw c.in-Ok-Complete.field-0-is at c.in-Ok-Complete.ensures.complete in
     let within = rw c.in-Ok-Complete.field-0-is at c.in-Ok-Complete.ensures.within in
     rw c.answer_at.ensures (shows_at c.min.result c.args.bytes.now c.parse_response.new.headers c.in-Ok-Complete.found (omega (arith, c.min.ensures)) (search rules) of within.section.len_fits)
+
+pub returns-in-Ok-Partial : goal.returns-in-Ok-Partial
+returns-in-Ok-Partial c =
+    let none = rw c.in-Ok-Partial.field-0-is at c.in-Ok-Partial.ensures.partial in
+    let may = rw c.in-Ok-Partial.field-0-is at c.in-Ok-Partial.ensures.unfinished in
+    shows_short c.min.result c.args.bytes.now (omega (arith, c.min.ensures, c.if-bytes-lt-HEAD_LIMIT.true)) c.if-bytes-lt-HEAD_LIMIT.true none may
 
 pub returns-in_default : goal.returns-in_default
 returns-in_default c =

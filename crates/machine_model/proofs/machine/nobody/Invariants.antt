@@ -1,5 +1,5 @@
 use Rattle.std.proofs.Common.{◌≡◌, replicate}
-use Rattle.machine_model.specs.State.{disconnected}
+use Rattle.server_words.specs.State.{disconnected}
 use Rattle.machine_model.proofs.machine.nobody.Given as goal
 
 abbrev pub invariant-loop : goal.invariant-loop

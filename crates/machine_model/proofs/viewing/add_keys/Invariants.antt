@@ -1,5 +1,5 @@
 use Rattle.std.proofs.Common.{◌≡◌, ◌++◌, drop}
-use Rattle.machine_model.specs.View.{keys_held}
+use Rattle.server_words.specs.View.{keys_held}
 use Rattle.machine_model.proofs.viewing.add_keys.Given as goal
 
 abbrev pub invariant-loop-session : goal.invariant-loop-session

@@ -1,6 +1,6 @@
 use Rattle.std.proofs.Common.{◌≡◌, ◌++◌, drop}
 use Rattle.std.specs.List.{filter_map}
-use Rattle.machine_model.specs.View.{key_of_table}
+use Rattle.server_words.specs.View.{key_of_table}
 use Rattle.machine_model.proofs.viewing.add_keys_of.Given as goal
 
 abbrev pub invariant-loop-one : goal.invariant-loop-one

@@ -5,10 +5,10 @@ use Rattle.std.specs.List.Sorted.{IsPermutation}
 use Rattle.std.proofs.lemmas.List.Concat.{flat_map-append}
 use Rattle.std.proofs.lemmas.Result.{IfOk-weaker}
 use Rattle.sql_eval.specs.Totals.{looked_at}
-use Rattle.machine_model.specs.declared.session.Session.{Session}
+use Rattle.server_words.specs.declared.session.Session.{Session}
 use Rattle.machine_model.specs.Inside.Views.{rows_held}
-use Rattle.machine_model.specs.Rows.{row_numbers}
-use Rattle.machine_model.specs.View.{is_held}
+use Rattle.server_words.specs.Rows.{row_numbers}
+use Rattle.server_words.specs.View.{is_held}
 use Rattle.machine_model.proofs.Handing.{held_numbers}
 use Rattle.machine_model.proofs.viewing.held_by_others.Goals as goal
 

@@ -3,9 +3,9 @@ use Rattle.std.specs.List.{dedup}
 use Rattle.std.specs.Ordering.{eq_by_cmp, is_lt}
 use Rattle.std.proofs.lemmas.Fn.{always_returns_same, dedup_same}
 use Rattle.std.proofs.lemmas.List.MinMax.{ranks_by}
-use Rattle.machine_model.specs.declared.viewing.KeyId.{KeyId}
-use Rattle.machine_model.specs.Views.{AreOnce, key_order}
-use Rattle.machine_model.proofs.Once.{key_exact, key_total, once}
+use Rattle.server_words.specs.declared.views.KeyId.{KeyId}
+use Rattle.server_words.specs.Views.{AreOnce, key_order}
+use Rattle.server_words.proofs.Once.{key_exact, key_total, once}
 use Rattle.machine_model.proofs.viewing.held_once.Goals as goal
 
 pub returns : goal.returns

@@ -1,7 +1,7 @@
 use Rattle.std.proofs.Common.{ap, ◌<◌, length, arith, ◌∙◌}
 use Rattle.desk_values.specs.declared.value.Value.{Value}
-use Rattle.machine_model.specs.declared.viewing.KeyId.{KeyId}
-use Rattle.machine_model.specs.Views.{key_id}
+use Rattle.server_words.specs.declared.views.KeyId.{KeyId}
+use Rattle.server_words.specs.Views.{key_id}
 use Rattle.machine_model.proofs.Handing.{one_more}
 use Rattle.machine_model.proofs.viewing.key_ids.Goals as goal
 

@@ -1,5 +1,5 @@
 use Rattle.std.proofs.Common.{◌≡◌, ◌++◌, drop, map}
-use Rattle.machine_model.specs.Views.{key_id}
+use Rattle.server_words.specs.Views.{key_id}
 use Rattle.machine_model.proofs.viewing.key_ids.Given as goal
 
 abbrev pub invariant-loop-one : goal.invariant-loop-one

@@ -2,7 +2,7 @@ use Rattle.std.proofs.Common.{◌≡◌, ◌++◌, drop}
 use Rattle.std.specs.Prelude.{nat_eq}
 use Rattle.std.specs.List.{filter, list_any}
 use Rattle.sql_eval.specs.Totals.{looked_at}
-use Rattle.machine_model.specs.Rows.{row_numbers}
+use Rattle.server_words.specs.Rows.{row_numbers}
 use Rattle.machine_model.proofs.viewing.numbers_among.Given as goal
 
 abbrev pub invariant-loop-image : goal.invariant-loop-image

@@ -1,10 +1,10 @@
 use Rattle.std.proofs.Common.{◌≡◌, ◌+◌, ◌<◌, List, [], ◌∷◌, ◌++◌, length, take, ap, sym, subst, ◌∙◌, arith}
 use Rattle.std.specs.List.{AllZip}
 use Rattle.std.proofs.lemmas.List.{take_more}
-use Rattle.machine_model.specs.declared.session.Savepoint.{Savepoint}
-use Rattle.machine_model.specs.declared.viewing.Point.{Point}
-use Rattle.machine_model.specs.Views.{IsPointOf}
-use Rattle.machine_model.proofs.Handing.{zip_push}
+use Rattle.server_words.specs.declared.session.Savepoint.{Savepoint}
+use Rattle.server_words.specs.declared.views.Point.{Point}
+use Rattle.server_words.specs.Views.{IsPointOf}
+use Rattle.server_words.proofs.Handing.{zip_push}
 use Rattle.machine_model.proofs.viewing.points_of.Goals as goal
 
 pub loop-savepoint-preserved : goal.loop-savepoint-preserved

@@ -1,8 +1,8 @@
 use Rattle.std.proofs.Common.{ℕ, List, subst, ◌∙◌}
 use Rattle.std.specs.Ordering.{nat_cmp}
 use Rattle.std.proofs.lemmas.List.Filters.{dedup_is}
-use Rattle.machine_model.specs.Views.{AreOnce}
-use Rattle.machine_model.proofs.Once.{numbers_once}
+use Rattle.server_words.specs.Views.{AreOnce}
+use Rattle.server_words.proofs.Once.{numbers_once}
 use Rattle.machine_model.proofs.viewing.rows_once.Goals as goal
 
 pub returns : goal.returns

@@ -1,6 +1,6 @@
 use Rattle.std.proofs.Common.{sym, ◌∙◌}
 use Rattle.sql_tree.specs.Plain.{plan_of}
-use Rattle.machine_model.proofs.Handing.{text_table}
+use Rattle.server_words.proofs.Handing.{text_table}
 use Rattle.machine_model.proofs.viewing.table_of_text.Goals as goal
 
 pub returns-in-Ok : goal.returns-in-Ok

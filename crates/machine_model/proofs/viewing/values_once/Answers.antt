@@ -6,7 +6,7 @@ use Rattle.std.proofs.lemmas.List.MinMax.{ranks_by}
 use Rattle.desk_values.specs.declared.value.Value.{Value}
 use Rattle.desk_values.specs.Sorting.{kind_then_value}
 use Rattle.desk_values.proofs.ValueOrder.{value_total}
-use Rattle.machine_model.proofs.Once.{once, value_exact}
+use Rattle.server_words.proofs.Once.{once, value_exact}
 use Rattle.machine_model.proofs.viewing.values_once.Goals as goal
 
 pub returns : goal.returns

@@ -1,6 +1,6 @@
 use Rattle.std.proofs.Common.{◌≡◌, [], take, drop}
-use Rattle.machine_model.specs.State.{opening}
-use Rattle.machine_model.specs.Step.{run}
+use Rattle.server_words.specs.State.{opening}
+use Rattle.server_words.specs.Step.{run}
 use Rattle.captured_calls.specs.Tests.{asked, bad_reply, first_refused}
 use Rattle.prepare_plan.proofs.replies.judge_replies.Given as goal
 

@@ -3,7 +3,8 @@ use Rattle.std.proofs.lemmas.List.{length-map, length-take, map-append, take_all
 use Rattle.desk_schema.proofs.Distinct.{all-push}
 use Rattle.remote_target.specs.Inside.{IsFresh, said_on, session_on}
 use Rattle.desk_files.specs.Outside.{raised}
-use Rattle.remote_target.proofs.Dials.{risen_more}
+use Rattle.desk_files.proofs.DeviceLaws.{risen_more}
+use Rattle.remote_target.proofs.Dials.{asked_more}
 use Rattle.remote_target.proofs.Stepping.{as_far}
 use Rattle.remote_target.proofs.dialling.dial_each.Goals as goal
 
@@ -17,6 +18,8 @@ loop-session-init g c = record {
   many = rw c.requires.none refl;
   dialled = refl;
   backs = refl;
+  failed = refl;
+  port = refl;
 }
 
 pub loop-session-preserved : goal.loop-session-preserved
@@ -35,6 +38,8 @@ loop-session-preserved g c =
       many = ap length more ∙ length-append items _ ∙ ap (λ (n : ℕ). n + 1) inv.many;
       dialled = c.in_ok-line.ensures.dialled ∙ ap raised inv.dialled ∙ sym (risen_more c.loop-session.session-index _);
       backs = c.in_ok-line.ensures.backs ∙ inv.backs;
+      failed = c.in_ok-line.ensures.failed ∙ inv.failed;
+      port = c.in_ok-line.ensures.port ∙ sym (asked_more c.loop-session.session-index c.args.port _);
     }
 
 pub push_reserved-requires : goal.push_reserved-requires

@@ -7,7 +7,7 @@ use Rattle.replay_cli.proofs.reading.read_sessions.Given as goal
 
 abbrev pub invariant-loop-name : goal.invariant-loop-name
 invariant-loop-name g l = record {
-  read : ReadSoFar (SessionOf l.version) l.names l.fn.room l.left l.name-index (lists_of l.sessions) (g.F.Files.content l.fn.files) (g.F.Files.content l.files) (g.F.Files.faults l.fn.files) (g.F.Files.faults l.files);
+  read : ReadSoFar (SessionOf l.version) l.names l.fn.room l.left l.name-index (lists_of l.sessions) (g.F.Files.account l.fn.files).content (g.F.Files.account l.files).content (g.F.Files.account l.fn.files).faults (g.F.Files.account l.files).faults;
   session_is : l.session ≡ l.name-index;
   count : length l.sessions ≡ l.name-index;
   lists : AreSessionsFrom 0 (lists_of l.sessions);

@@ -1,5 +1,5 @@
 use Rattle.std.proofs.Common.{[], ap}
-use Rattle.machine_model.specs.Machine.{Running}
+use Rattle.server_words.specs.Machine.{Running}
 use Rattle.txn_engine.proofs.Engine.load.Goals as goal
 
 pub invariant_of-result : goal.invariant_of-result

@@ -1,9 +1,26 @@
+use Rattle.std.proofs.Common.{◌≡◌, ◌+◌, ◌<◌, IfOk, OnErr, subst, sym, ◌∙◌}
+use Rattle.std.specs.Prelude.{OnOk}
 use Rattle.desk_values.specs.declared.call.Reply.{Reply}
+use Rattle.server_words.specs.Machine.{Running}
+use Rattle.server_words.specs.Step.{Gives}
+use Rattle.txn_engine.specs.Reached.{IsReached}
 use Rattle.txn_engine.proofs.Reaching.{reached_apart, reached_step}
 use Rattle.txn_engine.proofs.Engine.step.Goals as goal
 
-pub step_apart-requires-clause-apart : goal.step_apart-requires-clause-apart
-step_apart-requires-clause-apart c = reached_apart c.no_key_stands_twice.ensures.seen c.no_key_stands_twice.ensures.there c.self.inside.machine.state c.self.invariant
+pub note_apart-requires : goal.note_apart-requires
+note_apart-requires c = reached_apart c.no_key_stands_twice.ensures.seen c.no_key_stands_twice.ensures.there c.self.inside.machine.state c.self.invariant
+
+pub step-requires-clause-steps : goal.step-requires-clause-steps
+step-requires-clause-steps c = subst (λ (r : Running). r.steps < 1048576) (sym (c.note_apart.ensures ∙ c.self.view_is)) c.requires.steps
 
 pub invariant_of-self : goal.invariant_of-self
-invariant_of-self c = reached_step c.step_apart.result (λ (reply : Reply). reply) c.self.inside.machine c.step_apart.new.self c.args.session c.args.call.now c.step_apart.ensures.ok c.step_apart.ensures.err c.self.invariant
+invariant_of-self c = reached_step c.step.result (λ (reply : Reply). reply) c.note_apart.new.self c.step.new.self c.args.session c.args.call.now c.step.ensures.ok c.step.ensures.err (subst (λ (r : Running). IsReached r.state) (sym c.note_apart.ensures) c.self.invariant)
+
+pub returns-clause-ok : goal.returns-clause-ok
+returns-clause-ok c = subst (λ (r : Running). IfOk c.step.result (λ (reply : Reply). Gives r.state c.args.session c.args.call.now reply c.step.new.self.state)) (c.note_apart.ensures ∙ c.self.view_is) c.step.ensures.ok
+
+pub returns-clause-steps : goal.returns-clause-steps
+returns-clause-steps c = subst (λ (r : Running). OnOk c.step.result (c.step.new.self.steps ≡ r.steps + 1)) (c.note_apart.ensures ∙ c.self.view_is) c.step.ensures.steps
+
+pub returns-clause-err : goal.returns-clause-err
+returns-clause-err c = subst (λ (r : Running). OnErr c.step.result (c.step.new.self ≡ r)) (c.note_apart.ensures ∙ c.self.view_is) c.step.ensures.err

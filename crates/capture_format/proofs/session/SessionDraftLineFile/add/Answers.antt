@@ -7,12 +7,12 @@ use Rattle.capture_format.proofs.session.SessionDraftLineFile.add.Goals as goal
 pub returns-in_err-line : goal.returns-in_err-line
 returns-in_err-line c =
     let p = err_from_is_err_and c.from_residual.result c.from_residual.ensures.1 in
-    rw (p.1, p.2) (adds_error session_form session_reader (λ s. s) c.in_err-line.field-0.0 c.args.self c.args.line.now c.in_err-line.ensures)
+    rw (p.1, p.2) (adds_error session_form session_reader (λ s. s) c.in_err-line.field-0.0 c.args.self c.args.line.now c.in_err-line.ensures.line)
 
 pub returns-in_err-add_line : goal.returns-in_err-add_line
 returns-in_err-add_line c =
     let p = err_from_is_err_and c.from_residual-in_err-add_line.result c.from_residual-in_err-add_line.ensures.1 in
-    rw (p.1, p.2) (refuses_line session_form session_reader (Unit {0}) (λ s. s) c.in_err-add_line.field-0.0 c.args.self c.args.line.now c.in_ok-line.line c.add_line.new.self c.in_ok-line.ensures c.in_err-add_line.ensures)
+    rw (p.1, p.2) (refuses_line session_form session_reader (Unit {0}) (λ s. s) c.in_err-add_line.field-0.0 c.args.self c.args.line.now c.in_ok-line.line c.add_line.new.self c.in_ok-line.ensures.line (rw c.in_ok-line.ensures.same at c.in_err-add_line.ensures))
 
 pub returns : goal.returns
-returns c = adds_line session_form session_reader (λ s. s) c.add_line.new.self (tt {0}) c.args.self c.args.line.now c.in_ok-line.line c.in_ok-line.ensures c.in_ok-add_line.ensures
+returns c = adds_line session_form session_reader (λ s. s) c.add_line.new.self (tt {0}) c.args.self c.args.line.now c.in_ok-line.line c.in_ok-line.ensures.line (rw c.in_ok-line.ensures.same at c.in_ok-add_line.ensures)

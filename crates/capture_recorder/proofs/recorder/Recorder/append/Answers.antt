@@ -8,9 +8,9 @@ use Rattle.desk_values.specs.declared.capture.Captured.{Captured}
 use Rattle.desk_values.specs.Good.{IsGoodReply}
 use Rattle.desk_schema.specs.Start.{StartView}
 use Rattle.replay_history.specs.Capture.{commits, session_calls_before}
-use Rattle.machine_model.specs.State.{State}
-use Rattle.machine_model.specs.Draws.{moved}
-use Rattle.machine_model.specs.Step.{after_made, reply_in, step}
+use Rattle.server_words.specs.State.{State}
+use Rattle.server_words.specs.Draws.{moved}
+use Rattle.server_words.specs.Step.{after_made, reply_in, step}
 use Rattle.law_ids.specs.Counters.{AreAtMost}
 use Rattle.capture_format.proofs.Cuts.{all_weaker}
 use Rattle.capture_recorder.proofs.Bounds.{low}

@@ -1,5 +1,5 @@
 use Rattle.std.proofs.Common.{◌≡◌, ◌∙◌, ◌<◌, true, length, sym, ap, subst, arith}
-use Rattle.machine_model.specs.State.{is_connected, session_at}
+use Rattle.server_words.specs.State.{is_connected, session_at}
 use Rattle.desk_values.specs.declared.call.Call.TheVariants.{Disconnect}
 use Rattle.captured_calls.specs.Sessions.{calls_of}
 use Rattle.capture_recorder.specs.Recording.{Recording, captured}

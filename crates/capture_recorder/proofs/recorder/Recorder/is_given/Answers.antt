@@ -2,7 +2,7 @@ use Rattle.std.proofs.Common.{◌∙◌, sym, ap}
 use Rattle.std.specs.Prelude.{not}
 use Rattle.std.proofs.lemmas.Bool.{false≢true}
 use Rattle.law_ids.proofs.Runs.{run_start}
-use Rattle.machine_model.specs.State.{is_given, opening}
+use Rattle.server_words.specs.State.{is_given, opening}
 use Rattle.capture_recorder.specs.Recording.{Recording}
 use Rattle.capture_recorder.proofs.Given.{else_given, known_given, no_id_given}
 use Rattle.capture_recorder.proofs.recorder.Recorder.is_given.Goals as goal

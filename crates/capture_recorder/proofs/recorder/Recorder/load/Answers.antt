@@ -2,8 +2,8 @@ use Rattle.std.proofs.Common.{◌≡◌, ◌∙◌, List, [], rules, sym, ap, su
 use Rattle.desk_values.specs.declared.value.Image.{Image}
 use Rattle.known_ids.specs.Knowing.{KnowsCalls}
 use Rattle.desk_schema.specs.Start.{StartView}
-use Rattle.machine_model.specs.State.{opening}
-use Rattle.machine_model.specs.Machine.{Running}
+use Rattle.server_words.specs.State.{opening}
+use Rattle.server_words.specs.Machine.{Running}
 use Rattle.capture_recorder.proofs.Keeping.{keeps_loaded}
 use Rattle.capture_recorder.proofs.recorder.Recorder.load.Goals as goal
 

@@ -1,6 +1,6 @@
 use Rattle.std.proofs.Common.{◌≡◌, Bool, false, sym, subst}
 use Rattle.std.proofs.lemmas.Result.{IfOk-weaker}
-use Rattle.machine_model.specs.View.{View}
+use Rattle.server_words.specs.View.{View}
 use Rattle.law_server.specs.Renaming.Laws.{view_before}
 use Rattle.law_server.specs.Renaming.Twins.{AreTwinViews}
 use Rattle.divergence_cause.specs.Inside.Meeting.{HadOtherOwn, HaveOtherOwn, IsOtherOwn}

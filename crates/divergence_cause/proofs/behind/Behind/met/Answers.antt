@@ -1,8 +1,8 @@
 use Rattle.std.proofs.Common.{Bool, sym, subst}
 use Rattle.std.specs.Prelude.{◌↔◌, IsTrue}
 use Rattle.std.proofs.lemmas.Result.{IfOk-weaker}
-use Rattle.machine_model.specs.View.{View}
-use Rattle.machine_model.specs.Views.{IsViewOf}
+use Rattle.server_words.specs.View.{View}
+use Rattle.server_words.specs.Views.{IsViewOf}
 use Rattle.divergence_cause.specs.Inside.Meeting.{HasMet}
 use Rattle.divergence_cause.specs.Twins.{AreTwins}
 use Rattle.divergence_cause.proofs.behind.Behind.met.Goals as goal

@@ -4,8 +4,8 @@ use Rattle.std.specs.declared.alloc.Global.{Global}
 use Rattle.std.proofs.lemmas.Option.{slice_get_within}
 use Rattle.desk_values.specs.declared.call.Call.{Call}
 use Rattle.id_pairs.specs.Pairs.{HasNoIdTwice, learnt}
-use Rattle.machine_model.specs.Machine.{Running}
-use Rattle.machine_model.specs.Step.{Gives}
+use Rattle.server_words.specs.Machine.{Running}
+use Rattle.server_words.specs.Step.{Gives}
 use Rattle.remap_ids.specs.IdMap.{IdMapView}
 use Rattle.replay_job.specs.Job.{seen}
 use Rattle.divergence_cause.specs.declared.cause.Cause.{Cause}

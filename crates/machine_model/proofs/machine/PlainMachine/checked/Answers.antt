@@ -1,11 +1,11 @@
 use Rattle.std.proofs.Common.{◌≡◌, None, Some, refl, sym, ap, ◌∙◌}
 use Rattle.sql_tree.specs.Plain.{plan_of}
-use Rattle.machine_model.specs.declared.session.Session.{Session}
-use Rattle.machine_model.specs.Causes.{statement_fault}
+use Rattle.server_words.specs.declared.session.Session.{Session}
+use Rattle.server_words.specs.Causes.{statement_fault}
 use Rattle.sql_eval.specs.SchemaNames.{table_of}
-use Rattle.machine_model.specs.Request.{statement}
-use Rattle.machine_model.specs.Step.{view_for}
-use Rattle.machine_model.specs.View.{plain_view}
+use Rattle.server_words.specs.Request.{statement}
+use Rattle.server_words.specs.Step.{view_for}
+use Rattle.server_words.specs.View.{plain_view}
 use Rattle.machine_model.proofs.Telling.{same_fault, unforbidden}
 use Rattle.machine_model.proofs.machine.PlainMachine.checked.Goals as goal
 

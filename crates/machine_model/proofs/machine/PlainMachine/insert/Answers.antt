@@ -2,11 +2,11 @@ use Rattle.std.proofs.Common.{ℕ, List, map, IfOk}
 use Rattle.desk_values.specs.declared.value.Value.{Value}
 use Rattle.desk_schema.specs.declared.schema.Column.{Column}
 use Rattle.sql_tree.specs.Plain.{entry_of}
-use Rattle.machine_model.specs.Found.{Environment}
-use Rattle.machine_model.specs.View.{View}
-use Rattle.machine_model.specs.Answer.{insert_causes, insert_effect, new_row, ruled}
-use Rattle.machine_model.specs.Inside.Decision.{Decides}
-use Rattle.machine_model.proofs.Telling.{along_six}
+use Rattle.server_words.specs.Found.{Environment}
+use Rattle.server_words.specs.View.{View}
+use Rattle.server_words.specs.Answer.{insert_causes, insert_effect, new_row, ruled}
+use Rattle.server_words.specs.Decision.{Decides}
+use Rattle.machine_stores.proofs.Telling.{along_six}
 use Rattle.machine_model.proofs.machine.PlainMachine.insert.Goals as goal
 
 pub returns : goal.returns

@@ -3,9 +3,9 @@ use Rattle.std.specs.Prelude.{IfOk}
 use Rattle.sql_tree.specs.Plain.{plan_of}
 use Rattle.sql_reader.specs.Reading.{statement_of}
 use Rattle.statement_cache.specs.Kept.{outcome_of}
-use Rattle.machine_model.specs.Request.{Request}
-use Rattle.machine_model.specs.Step.{answer_to, view_for}
-use Rattle.machine_model.specs.Inside.Decision.{Decides}
+use Rattle.server_words.specs.Request.{Request}
+use Rattle.server_words.specs.Step.{answer_to, view_for}
+use Rattle.server_words.specs.Decision.{Decides}
 use Rattle.machine_model.proofs.Texts.{checked_asks, refused_asks, unreadable_asks}
 use Rattle.machine_model.proofs.machine.PlainMachine.kept.Goals as goal
 

@@ -1,14 +1,14 @@
 use Rattle.std.proofs.Common.{◌≡◌, List, [], length, refl, subst, rules, sym, ◌∙◌, true≢false, arith}
 use Rattle.desk_values.specs.declared.value.Image.{Image}
 use Rattle.row_versions.specs.History.{History}
-use Rattle.machine_model.specs.Inside.Index.{AreIndexes}
+use Rattle.machine_stores.specs.Index.{AreIndexes}
 use Rattle.machine_model.specs.Inside.Machine.{Keeps}
-use Rattle.machine_model.specs.Inside.Tables.{AreTold, AreWithin}
-use Rattle.machine_model.specs.Sound.{AreStanding}
-use Rattle.machine_model.specs.State.{State, opening}
-use Rattle.machine_model.proofs.Held.{nobody_holds}
-use Rattle.machine_model.proofs.SoundSteps.{opening_sound, tables_stand}
-use Rattle.machine_model.proofs.Storing.{told_within}
+use Rattle.machine_stores.specs.Tables.{AreTold, AreWithin}
+use Rattle.server_words.specs.Sound.{AreStanding}
+use Rattle.server_words.specs.State.{State, opening}
+use Rattle.machine_stores.proofs.Held.{nobody_holds}
+use Rattle.server_words.proofs.SoundSteps.{opening_sound, tables_stand}
+use Rattle.machine_stores.proofs.Storing.{told_within}
 use Rattle.machine_model.proofs.Telling.{opened, opening_is}
 use Rattle.machine_model.proofs.machine.PlainMachine.load.Goals as goal
 

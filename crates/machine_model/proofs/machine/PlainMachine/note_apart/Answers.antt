@@ -1,6 +1,6 @@
 use Rattle.std.proofs.Common.{subst, sym}
-use Rattle.machine_model.specs.Apart.{KeysAreApart}
-use Rattle.machine_model.specs.Machine.{Running}
+use Rattle.server_words.specs.Apart.{KeysAreApart}
+use Rattle.server_words.specs.Machine.{Running}
 use Rattle.machine_model.proofs.machine.PlainMachine.note_apart.Goals as goal
 
 pub invariant_of-self : goal.invariant_of-self

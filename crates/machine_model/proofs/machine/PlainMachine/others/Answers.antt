@@ -1,15 +1,15 @@
 use Rattle.std.proofs.Common.{List, length, sym, ap, subst, ◌∙◌, arith}
-use Rattle.machine_model.specs.declared.session.Session.{Session}
-use Rattle.machine_model.specs.Machine.{Running}
-use Rattle.machine_model.specs.View.{others}
-use Rattle.machine_model.specs.Inside.Holds.{AreHeld}
+use Rattle.server_words.specs.declared.session.Session.{Session}
+use Rattle.server_words.specs.Machine.{Running}
+use Rattle.server_words.specs.View.{others}
+use Rattle.machine_stores.specs.Holds.{AreHeld}
 use Rattle.machine_model.proofs.machine.PlainMachine.others.Goals as goal
 
 pub beside-requires-clause-within : goal.beside-requires-clause-within
 beside-requires-clause-within c = let count = ap length c.deref.ensures.value in omega (arith, c.self.invariant.0.sound.count, c.requires, count)
 
 pub beside-requires-clause-held : goal.beside-requires-clause-held
-beside-requires-clause-held c = subst (AreHeld c.self.inside.holds) (sym c.deref.ensures.value) c.self.invariant.5
+beside-requires-clause-held c = subst (AreHeld c.self.inside.stores.holds) (sym c.deref.ensures.value) c.self.invariant.5
 
 pub returns-clause-others : goal.returns-clause-others
 returns-clause-others c =

@@ -1,11 +1,11 @@
 use Rattle.std.proofs.Common.{◌≡◌, ◌∙◌, List, None, Some, sym, ap}
 use Rattle.std.specs.Prelude.{slice_index_or}
 use Rattle.std.specs.List.{position}
-use Rattle.machine_model.specs.declared.session.Savepoint.{Savepoint}
-use Rattle.machine_model.specs.declared.session.Session.{Session}
-use Rattle.machine_model.specs.Savepoints.{is_named}
-use Rattle.machine_model.specs.View.{view_of}
-use Rattle.machine_model.proofs.Marks.{told_back, told_missing}
+use Rattle.server_words.specs.declared.session.Savepoint.{Savepoint}
+use Rattle.server_words.specs.declared.session.Session.{Session}
+use Rattle.server_words.specs.Savepoints.{is_named}
+use Rattle.server_words.specs.View.{view_of}
+use Rattle.server_words.proofs.Marks.{told_back, told_missing}
 use Rattle.machine_model.proofs.machine.PlainMachine.rollback_to.Goals as goal
 
 pub returns-in_ok-own-in-Some : goal.returns-in_ok-own-in-Some

@@ -1,10 +1,10 @@
 use Rattle.std.proofs.Common.{ℕ, [], IfOk}
 use Rattle.sql_tree.specs.Plain.{asked_of, condition_of}
-use Rattle.machine_model.specs.Found.{Environment}
-use Rattle.machine_model.specs.View.{View}
-use Rattle.machine_model.specs.Answer.{ruled, select_causes, select_effect}
-use Rattle.machine_model.specs.Inside.Decision.{Decides}
-use Rattle.machine_model.proofs.Telling.{along}
+use Rattle.server_words.specs.Found.{Environment}
+use Rattle.server_words.specs.View.{View}
+use Rattle.server_words.specs.Answer.{ruled, select_causes, select_effect}
+use Rattle.server_words.specs.Decision.{Decides}
+use Rattle.machine_stores.proofs.Telling.{along}
 use Rattle.machine_model.proofs.machine.PlainMachine.select.Goals as goal
 
 pub returns : goal.returns

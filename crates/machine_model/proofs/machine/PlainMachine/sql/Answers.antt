@@ -1,6 +1,6 @@
 use Rattle.std.proofs.Common.{◌≡◌, subst}
 use Rattle.statement_cache.specs.Kept.{outcome_of, outcome_of_text}
-use Rattle.machine_model.specs.Machine.{Running}
+use Rattle.server_words.specs.Machine.{Running}
 use Rattle.machine_model.proofs.machine.PlainMachine.sql.Goals as goal
 
 pub returns-in-Some : goal.returns-in-Some

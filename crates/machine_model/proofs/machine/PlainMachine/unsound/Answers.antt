@@ -1,5 +1,5 @@
 use Rattle.std.proofs.Common.{None, ap, sym, ◌∙◌}
-use Rattle.machine_model.specs.declared.session.Session.{Session}
+use Rattle.server_words.specs.declared.session.Session.{Session}
 use Rattle.machine_model.proofs.Telling.{unsound_told}
 use Rattle.machine_model.proofs.machine.PlainMachine.unsound.Goals as goal
 

@@ -1,11 +1,11 @@
 use Rattle.std.proofs.Common.{ℕ, List, [], map, IfOk}
 use Rattle.desk_schema.specs.declared.schema.Column.{Column}
 use Rattle.sql_tree.specs.Plain.{change_of, condition_of}
-use Rattle.machine_model.specs.Found.{Environment}
-use Rattle.machine_model.specs.View.{View}
-use Rattle.machine_model.specs.Answer.{ruled, update_causes, update_effect}
-use Rattle.machine_model.specs.Inside.Decision.{Decides}
-use Rattle.machine_model.proofs.Telling.{along_four}
+use Rattle.server_words.specs.Found.{Environment}
+use Rattle.server_words.specs.View.{View}
+use Rattle.server_words.specs.Answer.{ruled, update_causes, update_effect}
+use Rattle.server_words.specs.Decision.{Decides}
+use Rattle.machine_stores.proofs.Telling.{along_four}
 use Rattle.machine_model.proofs.machine.PlainMachine.update.Goals as goal
 
 pub returns : goal.returns

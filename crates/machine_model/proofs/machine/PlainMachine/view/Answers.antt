@@ -1,11 +1,11 @@
 use Rattle.std.proofs.Common.{None, Some, subst}
 use Rattle.std.specs.List.{AllByRecursion}
 use Rattle.std.proofs.lemmas.Result.{IfOk-weaker}
-use Rattle.machine_model.specs.declared.session.Session.{Session}
-use Rattle.machine_model.specs.declared.viewing.View.{View as Handed}
-use Rattle.machine_model.specs.Rows.{IsRising}
-use Rattle.machine_model.specs.View.{plain_view, view_of}
-use Rattle.machine_model.specs.Views.{IsViewOf, KeepsRising}
+use Rattle.server_words.specs.declared.session.Session.{Session}
+use Rattle.server_words.specs.declared.views.View.{View as Handed}
+use Rattle.server_words.specs.Rows.{IsRising}
+use Rattle.server_words.specs.View.{plain_view, view_of}
+use Rattle.server_words.specs.Views.{IsViewOf, KeepsRising}
 use Rattle.machine_model.proofs.Rising.{handed_changes, handed_points, handed_rows}
 use Rattle.machine_model.proofs.machine.PlainMachine.view.Goals as goal
 

@@ -5,8 +5,8 @@ use Rattle.remote_link.proofs.inbox.Inbox.read_body.Given as goal
 
 abbrev pub invariant-loop-self : goal.invariant-loop-self
 invariant-loop-self g l = record {
-  kept : LosesNothing l.fn.self (g.I.Source.content l.fn.input) l.self (g.I.Source.content l.input);
-  faults : g.I.Source.faults l.input ≡ g.I.Source.faults l.fn.input;
+  kept : LosesNothing l.fn.self (g.I.Source.account l.fn.input).content l.self (g.I.Source.account l.input).content;
+  faults : (g.I.Source.account l.input).faults ≡ (g.I.Source.account l.fn.input).faults;
   begins : Begins l.self l.fn.answer;
 }
 

@@ -9,5 +9,5 @@ returns-in-Other-clause-came g c = inr (inl (subst NeverAnswers c.bytes.ensures 
 pub returns-then-branch-eq0-clause-came : goal.returns-then-branch-eq0-clause-came
 returns-then-branch-eq0-clause-came g c =
     let unfinished = subst IsUnfinished c.bytes.ensures c.in-Short.ensures.0 in
-    inr (ended_hopeless c.in_ok-read_more.field-0 c.args.self.now c.loop-answer.self c.read_more.new.self (g.I.Source.content c.args.input.now) (g.I.Source.content c.loop-answer.input) (g.I.Source.content c.read_more.new.input) 0 0
+    inr (ended_hopeless c.in_ok-read_more.field-0 c.args.self.now c.loop-answer.self c.read_more.new.self (g.I.Source.account c.args.input.now).content (g.I.Source.account c.loop-answer.input).content (g.I.Source.account c.read_more.new.input).content 0 0
     unfinished c.if-branch-eq0.true c.loop-answer.invariant.kept c.in_ok-read_more.ensures.came)

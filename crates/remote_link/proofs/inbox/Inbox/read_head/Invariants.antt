@@ -4,8 +4,8 @@ use Rattle.remote_link.proofs.inbox.Inbox.read_head.Given as goal
 
 abbrev pub invariant-loop-answer : goal.invariant-loop-answer
 invariant-loop-answer g l = record {
-  kept : LosesNothing l.fn.self (g.I.Source.content l.fn.input) l.self (g.I.Source.content l.input);
-  faults : g.I.Source.faults l.input ≡ g.I.Source.faults l.fn.input;
+  kept : LosesNothing l.fn.self (g.I.Source.account l.fn.input).content l.self (g.I.Source.account l.input).content;
+  faults : (g.I.Source.account l.input).faults ≡ (g.I.Source.account l.fn.input).faults;
 }
 
 abbrev pub decreases-loop-answer : goal.decreases-loop-answer

@@ -11,6 +11,8 @@ dial-tells g _ c = record {
   fresh = IfOk-weaker c.result _ _ (λ line none. record { silent = tt; faultless = none }) c.ensures.fresh;
   counts = Counts-of (accept_ending c.result) c.args.self.now.faults c.new.self.now.faults c.ensures.count;
   dialled = c.ensures.dialled;
+  failed = c.ensures.failed;
+  port = c.ensures.port;
   backs = c.ensures.backs;
 }
 
@@ -19,5 +21,7 @@ back-tells g _ c = record {
   gives_back = gives_untold None c.result;
   counts = back_counts c.args.line.faults c.args.self.now.faults c.new.self.now.faults c.ensures.count;
   dialled = c.ensures.dialled;
+  failed = c.ensures.failed;
+  port = c.ensures.port;
   backs = c.ensures.backs;
 }

@@ -8,7 +8,7 @@ invariant_of-self g c =
     let room = rw (← c.self.view_is) at c.requires.room in
     let spoken = rw fair at c.self.invariant in
     let grown = succeeds c.push.result (c.push.ensures.succeeds room) c.push.ensures.ok in
-    rw (fair, grown) (said_ok c.args.call c.self.inside.heard.items (g.L.Link.fault_count c.self.inside.line) (g.L.Link.fault_count c.call.new.self) (g.L.Link.content c.self.inside.line) (g.L.Link.content c.call.new.self) c.in-Ok.reply spoken c.in-Ok.ensures.notes c.in-Ok.ensures.good c.in-Ok.ensures.counts)
+    rw (fair, grown) (said_ok c.args.call c.self.inside.heard.items (g.L.Link.account c.self.inside.line).faults (g.L.Link.account c.call.new.self).faults (g.L.Link.account c.self.inside.line).content (g.L.Link.account c.call.new.self).content c.in-Ok.reply spoken c.in-Ok.ensures.notes c.in-Ok.ensures.good c.in-Ok.ensures.counts)
 
 pub invariant_of-self-in-Err : goal.invariant_of-self-in-Err
 invariant_of-self-in-Err g c =
@@ -16,7 +16,7 @@ invariant_of-self-in-Err g c =
     let room = rw (← c.self.view_is) at c.requires.room in
     let spoken = rw fair at c.self.invariant in
     let grown = succeeds c.push-in-Err.result (c.push-in-Err.ensures.succeeds room) c.push-in-Err.ensures.ok in
-    rw grown (said_err c.args.call c.self.inside.heard.items (g.L.Link.fault_count c.self.inside.line) (g.L.Link.fault_count c.call.new.self) c.in-Err.refusal (g.L.Link.content c.self.inside.line) (g.L.Link.content c.call.new.self) spoken c.in-Err.ensures.notes c.in-Err.ensures.counts)
+    rw grown (said_err c.args.call c.self.inside.heard.items (g.L.Link.account c.self.inside.line).faults (g.L.Link.account c.call.new.self).faults c.in-Err.refusal (g.L.Link.account c.self.inside.line).content (g.L.Link.account c.call.new.self).content spoken c.in-Err.ensures.notes c.in-Err.ensures.counts)
 
 pub returns-in-Ok : goal.returns-in-Ok
 returns-in-Ok g c =

@@ -12,5 +12,5 @@ pub invariant_of-self : goal.invariant_of-self
 invariant_of-self c = (c.self.invariant.0, rise_after divergences_total divergence_of c.put_divergence.result c.self.inside.accepted.items c.put_divergence.new.all.items c.args.accepted c.self.invariant.1 c.put_divergence.ensures.ok c.put_divergence.ensures.err)
 
 pub returns-clause-ok : goal.returns-clause-ok
-returns-clause-ok c = rw (← c.self.view_is) (seen_after divergences_total divergence_of c.put_divergence.result MemoryKeeper (λ (divergences : DivergenceSet). record { runs = runs_of c.self.inside.runs.items; divergences = divergences; calls = c.self.inside.calls })
+returns-clause-ok c = rw (← c.self.view_is) (seen_after divergences_total divergence_of c.put_divergence.result MemoryKeeper (λ (divergences : DivergenceSet). record { runs = runs_of c.self.inside.runs.items; divergences = divergences; calls = c.self.inside.calls; closes = c.self.inside.closes })
     c.self.inside.accepted.items c.put_divergence.new.all.items c.args.accepted c.self.invariant.1 c.put_divergence.ensures.ok)

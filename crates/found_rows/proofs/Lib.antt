@@ -1,0 +1,3 @@
+-- What the proofs of the crate share.
+pub mod Adding
+pub mod Placing

@@ -1,6 +1,0 @@
-use Rattle.std.proofs.Common.{sym}
-use Rattle.machine_model.proofs.Adding.{noted_ok}
-use Rattle.machine_model.proofs.found.with_truth.Goals as goal
-
-pub returns-in-Ok : goal.returns-in-Ok
-returns-in-Ok c = sym (rw c.in-Ok.is (noted_ok _ _))

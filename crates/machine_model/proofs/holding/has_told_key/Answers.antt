@@ -1,6 +1,0 @@
-use Rattle.std.proofs.Common.{sym, ◌∙◌}
-use Rattle.machine_model.proofs.Held.{not_held}
-use Rattle.machine_model.proofs.holding.has_told_key.Goals as goal
-
-pub returns : goal.returns
-returns c = sym (not_held c.args.holds.now c.args.session c.args.table c.args.key.now c.args.held.now c.requires.has c.requires.kept (sym c.tells_key.ensures ∙ c.if-tells_key.false))

@@ -1,6 +1,0 @@
-use Rattle.std.proofs.Common.{◌≡◌, drop}
-use Rattle.machine_model.specs.Found.{row_order}
-use Rattle.machine_model.proofs.order.row_order.Given as goal
-
-abbrev pub invariant-loop-key : goal.invariant-loop-key
-invariant-loop-key l = row_order l.with.level (drop l.key-index l.keys) l.a l.b ≡ row_order l.with.level l.keys l.a l.b

@@ -1,9 +1,0 @@
-use Rattle.std.proofs.Common.{◌≡◌, ◌++◌, drop, map}
-use Rattle.sql_tree.specs.Plain.{total_of}
-use Rattle.sql_eval.specs.Totals.{looked_at}
-use Rattle.machine_model.specs.Inside.Evaluation.{env_of}
-use Rattle.machine_model.specs.Answer.{totals_in}
-use Rattle.machine_model.proofs.selecting.total_row.Given as goal
-
-abbrev pub invariant-loop-agg : goal.invariant-loop-agg
-invariant-loop-agg l = l.values ++ totals_in (env_of l.with) (looked_at l.found) (map total_of (drop l.agg-index l.aggs)) ≡ totals_in (env_of l.with) (looked_at l.found) (map total_of l.aggs)

@@ -1,0 +1,4 @@
+pub mod Holds
+pub mod Index
+pub mod Tables
+pub mod Inside

@@ -1,0 +1,3 @@
+-- Words of private clauses and of what holds of fields. They need not be believed.
+pub mod Repeats
+pub mod Rows
