@@ -19,6 +19,7 @@ from attack_closing import register_not_closed
 from attack_crowd import crowd
 from attack_devices import devices, services_on_devices
 from attack_ended import ended_runs, ended_services
+from attack_foresight import foresight
 from attack_kept_texts import kept_texts
 from attack_killed import killed
 from attack_lanes import lanes
@@ -31,7 +32,7 @@ from attack_strangers import strangers
 from attack_terminal import terminal
 
 PARTS = (crowd, strangers, limits, devices, services_on_devices, killed, ended_runs, ended_services, altered, remote, side_by_side, lanes, clock, terminal,
-         stopped, register_not_closed, kept_texts)
+         stopped, foresight, register_not_closed, kept_texts)
 
 
 def held():

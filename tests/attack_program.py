@@ -4,6 +4,7 @@ import functools
 import json
 import os
 import random
+import shutil
 import socket
 import struct
 import subprocess
@@ -14,6 +15,7 @@ from pathlib import Path
 import small_server
 from conversation_answers import compact
 
+HERE = Path(__file__).resolve().parent.parent
 HOST, PORTS = "127.0.0.1", range(20000, 32000)
 # How long anything may take that is to come at once. A machine may be busy.
 PATIENCE = 60.0
@@ -118,9 +120,9 @@ class Process:
 class Service(Process):
     """A `serve` of so many connections, which listens where it can. It writes into `cap` in its folder, or into another one."""
 
-    def __init__(self, program, folder, connections, into="cap", **how):
+    def __init__(self, program, folder, connections, into="cap", start=small_server.START, **how):
         self.folder, self.connections, self.port = Path(folder), connections, free_port()
-        (self.folder / "start").write_text(small_server.START)
+        (self.folder / "start").write_text(start)
         super().__init__(program, folder, ["serve", into, "start", str(connections), "--port", str(self.port)], **how)
         until("serve listens", lambda: self.is_listening() or not self.is_alive())
 
@@ -219,6 +221,15 @@ def sql(text, *binds):
 def outcome(word, value=True):
     """The answer to a call that draws nothing and makes nothing."""
     return {"draws": [], "made": None, "outcome": {word: value}}
+
+
+def script_with(program, folder):
+    """The script `replay` in a folder of its own, which runs this program as the one that it has built."""
+    built = Path(folder) / "crates/replay_desk/out/replay_desk"
+    built.parent.mkdir(parents=True)
+    built.symlink_to(program)
+    (Path(folder) / "usage").symlink_to(HERE / "usage")
+    return shutil.copy(HERE / "replay", folder)
 
 
 def in_folder(function):

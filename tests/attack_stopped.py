@@ -4,9 +4,8 @@ import os
 import signal
 from pathlib import Path
 
-from attack_program import CONNECT, Client, Process, Service, files_below, free_port, in_folder, is_listening, same, until
+from attack_program import CONNECT, Client, Process, Service, files_below, free_port, in_folder, is_listening, same, script_with, until
 
-SCRIPT = Path(__file__).resolve().parent.parent / "replay"
 COMMIT = {"sql": "COMMIT"}
 MARKED = "replay: no more connections are taken, {} of them are still open; the capture is written once they have ended\n"
 AGAIN = "replay: Ctrl-C again ends the service at once, without a capture\n"
@@ -15,9 +14,9 @@ AGAIN = "replay: Ctrl-C again ends the service at once, without a capture\n"
 class Stopped(Service):
     """A service that the script runs, in a group of processes of its own: a terminal's Ctrl-C goes to all of them."""
 
-    def __init__(self, folder, connections):
+    def __init__(self, script, folder, connections):
         self.told = open(Path(folder) / "told", "w+")
-        super().__init__(str(SCRIPT), folder, connections, stderr=self.told, start_new_session=True)
+        super().__init__(script, folder, connections, stderr=self.told, start_new_session=True)
 
     def __exit__(self, *how):
         if self.is_alive():
@@ -32,10 +31,10 @@ class Stopped(Service):
         until(f"the script says {text!r}", lambda: Path(self.told.name).read_text() == text)
 
 
-def kept(program, folder, out):
+def kept(program, script, folder, out):
     """Of five connections one has ended, and one is still open: its call that comes behind the Ctrl-C is captured, three sessions are empty."""
     (folder / out).mkdir()
-    with Stopped(folder / out, 5) as service:
+    with Stopped(script, folder / out, 5) as service:
         with Client(service.port) as gone:
             same("a connect", gone.ask(CONNECT), {"draws": [], "made": None, "outcome": {"connected": True}})
         with Client(service.port) as still:
@@ -49,20 +48,20 @@ def kept(program, folder, out):
         service.replays(program, 5)
 
 
-def nobody(program, folder, out):
+def nobody(program, script, folder, out):
     """Nobody came: the capture has empty sessions alone."""
     (folder / out).mkdir()
-    with Stopped(folder / out, 64) as service:
+    with Stopped(script, folder / out, 64) as service:
         service.stop()
         service.says(MARKED.format(0))
         service.finish(0)
         service.replays(program, 0)
 
 
-def at_once(program, folder, out):
+def at_once(_program, script, folder, out):
     """A second Ctrl-C ends the service at once, with the status that a shell gives for it, and there is no capture."""
     (folder / out).mkdir()
-    with Stopped(folder / out, 2) as service, Client(service.port) as client:
+    with Stopped(script, folder / out, 2) as service, Client(service.port) as client:
         client.ask(CONNECT)
         service.stop()
         service.says(MARKED.format(1) + AGAIN)
@@ -71,7 +70,7 @@ def at_once(program, folder, out):
         same("its files", [name for name in files_below(folder / out) if name.startswith("cap/")], [])
 
 
-def too_early(program, folder, out):
+def too_early(_program, script, folder, out):
     """Before the service listens, here since its start file does not come, there is nothing to keep: a first Ctrl-C ends it at once."""
     (folder / out).mkdir()
     os.mkfifo(folder / out / "start")
@@ -82,7 +81,7 @@ def too_early(program, folder, out):
             writer.append(os.open(folder / out / "start", os.O_WRONLY | os.O_NONBLOCK))
         return bool(writer)
 
-    with Process(str(SCRIPT), folder / out, ["serve", "cap", "start", "2", "--port", str(free_port())], start_new_session=True) as service:
+    with Process(script, folder / out, ["serve", "cap", "start", "2", "--port", str(free_port())], start_new_session=True) as service:
         until("the service reads its start", is_read)
         os.killpg(service.process.pid, signal.SIGINT)
         same("its end", service.ended(), (130, ""))
@@ -90,12 +89,12 @@ def too_early(program, folder, out):
     same("its files", os.listdir(folder / out), ["start"])
 
 
-def ended_otherwise(program, folder, out):
+def ended_otherwise(_program, script, folder, out):
     """Another signal of the keyboard, and one to the script alone, end the service too."""
     for number, (send, status) in enumerate(((lambda pid: os.killpg(pid, signal.SIGQUIT), 131), (lambda pid: os.kill(pid, signal.SIGTERM), 143))):
         place = folder / f"{out}-{number}"
         place.mkdir()
-        with Stopped(place, 2) as service:
+        with Stopped(script, place, 2) as service:
             send(service.process.pid)
             same("its end", service.ended(), (status, ""))
             until("nobody listens", lambda port=service.port: not is_listening(port))
@@ -110,6 +109,7 @@ def open_at(port):
 
 @in_folder
 def stopped(program, folder):
+    script = script_with(program, folder / "desk")
     for number, shown in enumerate((kept, nobody, at_once, too_early, ended_otherwise)):
-        shown(program, folder, f"stopped-{number}")
+        shown(program, script, folder, f"stopped-{number}")
     return "a first Ctrl-C kept what came, of one connection that was open and of none; a second one, one before it listened and other signals ended the service at once"
