@@ -25,6 +25,12 @@ def asked(script, folder, words, **how):
     return (done.returncode, done.stdout.decode()), (done.stderr or b"").decode()
 
 
+def foretold(script, folder, words):
+    """The status, the line and what the script says before the command."""
+    came, said = asked(script, folder, words)
+    return came, said[: said.find(GOES_ON) + len(GOES_ON)] if GOES_ON in said else ""
+
+
 def bad_places(folder):
     """Folders that can't be made or written into, each with what is said of it."""
     (folder / "file").write_bytes(b"old\n")
@@ -46,9 +52,9 @@ def bad_folders(script, folder):
     for place, why in places:
         told = f"replay: {place} can't be written into: {why}\n{GOES_ON}"
         for words in (["run", "cap", place], ["prepare", "cap", place], ["generate", "5", place]):
-            same(f"{words}", asked(script, folder, words), (FAULT, told))
+            same(f"{words}", foretold(script, folder, words), (FAULT, told))
         words = ["run", "none", place]
-        same(f"{words}", asked(script, folder, words), ((4, "missing: none/start.cap\n"), told))
+        same(f"{words}", foretold(script, folder, words), ((4, "missing: none/start.cap\n"), told))
         words = ["run", "cap", place, "--lanes", "65"]
         came, said = asked(script, folder, words)
         same(f"{words}", (came, said.split("\n")[0]), ((2, "bad command\n"), "replay: --lanes 65: a number from 1 to 64"))
@@ -62,7 +68,7 @@ def names_in_the_way(script, folder):
                                       ("fence.txt", ("--mode", "scn", "--change", "none"), False)):
         out = folder / f"way-{name}-{len(options)}"
         (out / name).mkdir(parents=True)
-        _, said = asked(script, folder, ["run", "cap", out.name, *options])
+        _, said = foretold(script, folder, ["run", "cap", out.name, *options])
         same(f"{name} {options}", said, f"replay: {out.name}/{name} can't be written: it is a folder\n{GOES_ON}" if is_written else "")
 
 
@@ -105,7 +111,7 @@ def large_files(script, folder):
         size = (place / "cap/session-000.cap").stat().st_size
         same("is large", size > LIMIT, True)
         same("what it says", [line for line in told.read().split("\n") if line.startswith("replay")], [LARGE.format("cap/session-000.cap", size)[:-1]])
-    same("a run of it", asked(script, place, ["run", "cap", "out"]), ((8, "too long: cap/session-000.cap\n"), ""))
+    same("a run of it", foretold(script, place, ["run", "cap", "out"]), ((8, "too long: cap/session-000.cap\n"), ""))
 
 
 def times(script, folder):
@@ -127,6 +133,30 @@ def times(script, folder):
     same("elsewhere", asked(script, folder, ["run", "slow", "times", "--think", "0"]), (DONE, ""))
 
 
+def sentences(script, folder):
+    """Behind a status it is said what a person needs, and behind an end that is good nothing."""
+    told = dict(line.split(" ", 1) for line in (HERE / "usage/statuses").read_text().splitlines())
+    place = folder / "sentences"
+    for name in ("three/start.cap", "bad/report.txt", "remap.csv"):
+        (place / name).parent.mkdir(parents=True, exist_ok=True)
+        (place / name).write_text("no\n")
+    (place / "two").mkdir()
+    (place / "two/report.txt").write_text((EXAMPLE / "read-only/report.txt").read_text())
+    shutil.copytree(folder / "cap", place / "cap")
+    for words, came, status in (
+        (["run", "three", "out"], (3, "bad capture: three/start.cap line 1\n"), "3"),
+        (["serve", "again", "remap.csv", "1"], (3, "bad capture: remap.csv line 1\n"), "3"),
+        (["run", "cap", "out", "--remap=remap.csv"], (7, "bad remap: row 1\n"), "7-remap"),
+        (["run", "cap", "out", "--change", "remap.csv"], (7, "bad change: row 1\n"), "7-change"),
+        (["compare", "a", "b"], (11, "no such run: a\n"), "11"),
+        (["register", "bad", "a"], (13, "bad report: bad/report.txt line 1\n"), "13"),
+        (["register", "two", "two"], (0, "registered two: 3 calls, 2 divergent\n"), None),
+        (["accept", "two", "3", "shape"], (14, "no such call: stamp 3\n"), "14"),
+        (["runs"], (0, "runs 1\ntwo 3 2\n"), None),
+    ):
+        same(f"{words}", asked(script, place, words), (came, f"replay: {told[status]}\n" if status else ""))
+
+
 @in_folder
 def foresight(program, folder):
     script = script_with(program, folder / "desk")
@@ -141,4 +171,5 @@ def foresight(program, folder):
     ports(script, folder)
     large_files(script, folder)
     times(script, folder)
-    return f"{count} folders that can't be written into and five names in the way, a port in use and one where nobody listens, a file that no run takes, and times: all said, and nothing else changed"
+    sentences(script, folder)
+    return f"{count} folders that can't be written into and five names in the way, a port in use and one where nobody listens, a file that no run takes, times and what statuses mean: all said, and nothing else changed"

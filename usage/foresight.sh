@@ -132,6 +132,16 @@ tell_times() {
     awk -v captured="${length:-0}" -v ran="$1" \
         'BEGIN { printf "replay: the capture lasted %.1f s, this run of it %.1f s in all\n", captured / 1000000, ran / 1000000 }'
 }
+# What is to be known of a status, where the program's line does not say it.
+sentences_of() {
+    case "$1" in
+        7)
+            [ -z "${option[--remap]-}" ] || grep '^7-remap ' "$usage/statuses"
+            [ -z "${option[--change]-}" ] || grep '^7-change ' "$usage/statuses"
+            ;;
+        *) grep "^$1 " "$usage/statuses" ;;
+    esac
+}
 # Says behind a command's work, which took so many microseconds and ended with this status, what is to be known of it.
 tell_behind() {
     local took=$1 status=$2
@@ -142,5 +152,6 @@ tell_behind() {
     case "$1 $status" in
         "serve 0") tell_large_files ;;
         "run "[01]) [ ! -t 2 ] || tell_times "$took" ;;
+        *) sentences_of "$status" | sed 's/^[^ ]* /replay: /' ;;
     esac
 }
