@@ -10,6 +10,8 @@ BEGIN {
     places["runs"] = ""
     places["accept"] = "RUN STAMP CLASS"
     places["compare"] = "RUN RUN"
+    places["page"] = "CAPTURE OUT"
+    places["show"] = "CAPTURE OUT"; further["show"] = "STAMP"
     modes = "order scn fence object off"
     classes = "new-error gone-error mutated-error rows-modified rows-fetched row-contents images shape"
     most["--think"] = most["--connect"] = 1000
@@ -20,10 +22,11 @@ BEGIN {
     exit
 }
 function print_unless_empty(text) { if (text != "") print text }
-function wrong_word(    command, count, at, word, plain, place, found, names) {
+function wrong_word(    command, count, all, at, word, plain, place, found, names) {
     command = ARGV[1]
     if (!(command in places)) return command ": no command" nearest(command, commands())
     count = split(places[command], names, " ")
+    all = split(places[command] " " further[command], names, " ")
     for (at = 2; at < ARGC; at++) {
         word = ARGV[at]
         if (!plain && word == "--") { plain = 1; continue }
@@ -32,7 +35,7 @@ function wrong_word(    command, count, at, word, plain, place, found, names) {
             if (found != "") return found
             if (index(word, "=") == 0) at++
         } else {
-            if (++place > count) return word ": one word too many"
+            if (++place > all) return word ": one word too many"
             if ((found = wrong_value(names[place], word)) != "") return found
         }
     }

@@ -41,7 +41,7 @@ pub text_word : (bytes : List ℕ) → list_all is_text bytes ≡ true → AreTe
 text_word [] test = tt
 text_word (byte ∷ bytes) test = let parts = and_parts (is_text byte) (list_all is_text bytes) test in (parts.0, text_word bytes parts.1)
 
-text_field : (bytes : List ℕ) → Consists is_field bytes → AreTextBytes bytes
+pub text_field : (bytes : List ℕ) → Consists is_field bytes → AreTextBytes bytes
 text_field bytes are = Consists-weaker is_field is_text (λ byte e. or_left (is_field byte) _ e) bytes are
 
 pub text_then : (xs ys : List ℕ) → AreTextBytes xs → AreTextBytes ys → AreTextBytes (xs ++ ys)

@@ -36,7 +36,7 @@ fn print_forms<R: Print>(rt: &R) -> Result<(), anyhow::Error> {
     Ok(())
 }
 
-/// A form as it is told: its places in capital letters, its options in brackets.
+/// A form as it is told: its places in capital letters, those that may be missing and its options in brackets.
 #[derive(Clone, Copy)]
 struct Told<'f>(&'f Form);
 
@@ -45,15 +45,26 @@ impl fmt::Display for Told<'_> {
         f.write_str(self.0.name)?;
         for place in self.0.places {
             f.write_str(" ")?;
-            for letter in place.chars() {
-                f.write_char(letter.to_ascii_uppercase())?;
-            }
+            write_capital(place, f)?;
+        }
+        for place in self.0.further {
+            f.write_str(" [")?;
+            write_capital(place, f)?;
+            f.write_str("]")?;
         }
         for option in self.0.options {
             write!(f, " [--{option}]")?;
         }
         Ok(())
     }
+}
+
+// A place in capital letters.
+fn write_capital<W: fmt::Write>(place: &str, f: &mut fmt::Formatter<W>) -> fmt::Result {
+    for letter in place.chars() {
+        f.write_char(letter.to_ascii_uppercase())?;
+    }
+    Ok(())
 }
 
 fn answer(alloc: Global, line: &str) -> Result<String, anyhow::Error> {
@@ -99,6 +110,10 @@ fn shown(alloc: Global, command: &Command) -> Result<String, anyhow::Error> {
         Command::Compare(base, other) => {
             Ok(format!(in alloc; "compare {} {}", base.as_str(), other.as_str())?)
         }
+        Command::Page(capture, out) => {
+            Ok(format!(in alloc; "page {} {}", Path(capture), Path(out))?)
+        }
+        Command::Show(capture, out, stamp) => show_shown(alloc, capture, out, *stamp),
     }
 }
 
@@ -122,6 +137,19 @@ fn run_shown(
     }
     if let Some(target) = ways.target {
         write!(line, " target {target}")?;
+    }
+    Ok(line)
+}
+
+fn show_shown(
+    alloc: Global,
+    capture: &Txt,
+    out: &Txt,
+    stamp: Option<u64>,
+) -> Result<String, anyhow::Error> {
+    let mut line = format!(in alloc; "show {} {}", Path(capture), Path(out))?;
+    if let Some(stamp) = stamp {
+        write!(line, " stamp {stamp}")?;
     }
     Ok(line)
 }

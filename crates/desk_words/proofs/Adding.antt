@@ -9,7 +9,7 @@ use Rattle.clap.specs.Simple.{app_of_fields, on_top}
 use Rattle.clap.specs.declared.builder.command.Command.{Command}
 use Rattle.clap.specs.declared.builder.command.Command.TheOpen.{Command-F}
 use Rattle.clap.specs.declared.builder.command.Command.TheViews.{out-Command}
-use Rattle.desk_words.specs.Desk.{all_forms, choice, desk, place, texts}
+use Rattle.desk_words.specs.Desk.{all_forms, choice, desk, further, place, texts}
 use Rattle.desk_words.specs.Inside.Building.{form_app, with_rules}
 use Rattle.desk_words.specs.declared.table.Form.{Form}
 
@@ -33,12 +33,16 @@ mapped : (rule : Text → Rule) (names : List (Bor Text)) → map (λ name. rule
 mapped rule [] = refl
 mapped rule (name ∷ names) = ap (λ rules. rule name.now ∷ rules) (mapped rule names)
 
--- a form with its places and then its options is the one that is told
-pub form_is : (form : Form) (places options : App) → places ≡ with_rules place form.places.now (new_app form.name.now) → options ≡ with_rules choice form.options.now places → options ≡ form_app form
+-- a form with its places, then those that may be missing and then its options is the one that is told
+pub form_is : (form : Form) (places others options : App) → places ≡ with_rules place form.places.now (new_app form.name.now) → others ≡ with_rules further form.further.now places
+    → options ≡ with_rules choice form.options.now others → options ≡ form_app form
 unfolding with_more
-form_is form places options first second =
-    second ∙ added places _ ∙ ap (λ (a : App). with_more a (map (λ name. choice name.now) form.options.now)) (first ∙ added (new_app form.name.now) _)
-    ∙ ap₂ (λ ps os. with_more (with_more (new_app form.name.now) ps) os) (mapped place form.places.now) (mapped choice form.options.now)
+form_is form places others options first second third =
+    let base = first ∙ added (new_app form.name.now) _ in
+    let more = second ∙ added places _ ∙ ap (λ (a : App). with_more a (map (λ name. further name.now) form.further.now)) base in
+    third ∙ added others _ ∙ ap (λ (a : App). with_more a (map (λ name. choice name.now) form.options.now)) more
+    ∙ ap₂ (λ ps os. with_more (with_more (with_more (new_app form.name.now) ps) (map (λ name. further name.now) form.further.now)) os) (mapped place form.places.now) (mapped choice form.options.now)
+    ∙ ap (λ fs. with_more (with_more (with_more (new_app form.name.now) (map place (texts form.places.now))) fs) (map choice (texts form.options.now))) (mapped further form.further.now)
 
 -- the command line with all forms is the desk's
 pub desk_is : (new named required : Command) (forms : List Shape) → app_of new ≡ new_app (codes "replay") → out-Command named ≡ record (out-Command new) { no_binary_name = true }

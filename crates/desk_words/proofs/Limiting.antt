@@ -10,12 +10,12 @@ use Rattle.desk_values.specs.Word.{member_with_word}
 use Rattle.replay_history.specs.Class.{all_classes, class_word}
 use Rattle.replay_history.specs.declared.report.Class.{Class}
 use Rattle.replay_history.specs.declared.report.Class.TheVariants.{Same}
-use Rattle.desk_words.specs.Command.{accept_in, between, chosen, class_in, command_in, command_of, compare_in, differing, fitting, generate_in, is_run_name, is_taken, maybe, number_in, path_in, percent_in, placed, prepare_in, register_in, run_in, run_name_in, serve_in, trial_in, ways_in}
+use Rattle.desk_words.specs.Command.{accept_in, between, chosen, class_in, command_in, command_of, compare_in, differing, fitting, generate_in, is_run_name, is_taken, maybe, number_in, page_in, path_in, percent_in, placed, prepare_in, register_in, run_in, run_name_in, serve_in, show_in, trial_in, ways_in}
 use Rattle.desk_words.specs.Desk.{desk}
 use Rattle.desk_words.specs.Limits.{connection_limit, default_port, generated_limit, lane_limit, path_limit, port_limit, run_limit, whole}
 use Rattle.desk_words.specs.Within.{HasWays, IsBetween, IsCallCount, IsLaneCount, IsPath, IsPort, IsRunName, IsWithinLimits}
 use Rattle.desk_words.specs.declared.ways.Ways.{Ways}
-use Rattle.desk_words.specs.declared.words.Command.TheVariants.{Trial}
+use Rattle.desk_words.specs.declared.words.Command.TheVariants.{Show, Trial}
 
 -- ---- what is found by steps
 
@@ -147,6 +147,15 @@ compare_holds : (values : List Row) → IfSome (compare_in values) IsWithinLimit
 compare_holds values =
     leads IsRunName IsWithinLimits _ _ (run_placed (codes "base") values) (λ base first. leads IsRunName IsWithinLimits _ _ (run_placed (codes "other") values) (λ other second. (first, second)))
 
+page_holds : (values : List Row) → IfSome (page_in values) IsWithinLimits
+page_holds values =
+    leads IsPath IsWithinLimits _ _ (path_placed (codes "capture") values) (λ capture first. leads IsPath IsWithinLimits _ _ (path_placed (codes "out") values) (λ out second. (first, second)))
+
+show_holds : (values : List Row) → IfSome (show_in values) IsWithinLimits
+show_holds values =
+    leads IsPath IsWithinLimits _ _ (path_placed (codes "capture") values) (λ capture first. leads IsPath IsWithinLimits _ _ (path_placed (codes "out") values)
+    (λ out second. always IsWithinLimits (maybe (codes "stamp") number_of values) (λ stamp. Some (Show capture out stamp)) (λ stamp. (first, second))))
+
 command_holds : (found : Text × List Row) → IfSome (command_in found) IsWithinLimits
 command_holds found =
     either IsWithinLimits (bytes_eq found.0 (codes "run")) _ _ (run_holds found.1)
@@ -157,7 +166,9 @@ command_holds found =
     (either IsWithinLimits (bytes_eq found.0 (codes "register")) _ _ (register_holds found.1)
     (either IsWithinLimits (bytes_eq found.0 (codes "runs")) _ _ tt
     (either IsWithinLimits (bytes_eq found.0 (codes "accept")) _ _ (accept_holds found.1)
-    (either IsWithinLimits (bytes_eq found.0 (codes "compare")) _ _ (compare_holds found.1) tt))))))))
+    (either IsWithinLimits (bytes_eq found.0 (codes "compare")) _ _ (compare_holds found.1)
+    (either IsWithinLimits (bytes_eq found.0 (codes "page")) _ _ (page_holds found.1)
+    (either IsWithinLimits (bytes_eq found.0 (codes "show")) _ _ (show_holds found.1) tt))))))))))
 
 pub within_limits : (words : List Text) → IfSome (command_of words) IsWithinLimits
 unfolding command_of

@@ -17,7 +17,7 @@ use Rattle.desk_words.specs.Desk.{desk}
 use Rattle.desk_words.specs.Limits.{connection_limit, default_port, generated_limit, lane_limit, path_limit, port_limit, run_limit, whole}
 use Rattle.desk_words.specs.declared.ways.Ways.{Ways}
 use Rattle.desk_words.specs.declared.words.Command.{Command}
-use Rattle.desk_words.specs.declared.words.Command.TheVariants.{Run, Prepare, Serve, Generate, Trial, Register, Runs, Accept, Compare}
+use Rattle.desk_words.specs.declared.words.Command.TheVariants.{Run, Prepare, Serve, Generate, Trial, Register, Runs, Accept, Compare, Page, Show}
 
 -- ---- which values are good
 
@@ -144,6 +144,20 @@ compare_in values = do
   other ← placed (codes "other") run_name_in values
   Some (Compare base other)
 
+abbrev pub page_in : List Row → Option Command
+page_in values = do
+  capture ← placed (codes "capture") path_in values
+  out ← placed (codes "out") path_in values
+  Some (Page capture out)
+
+-- the stamp may be any number, or be missing
+abbrev pub show_in : List Row → Option Command
+show_in values = do
+  capture ← placed (codes "capture") path_in values
+  out ← placed (codes "out") path_in values
+  stamp ← maybe (codes "stamp") number_of values
+  Some (Show capture out stamp)
+
 -- the command with this first word, by the values that were found behind it
 abbrev pub command_in : Text × List Row → Option Command
 command_in found =
@@ -156,6 +170,8 @@ command_in found =
     else if bytes_eq found.0 (codes "runs") then Some Runs
     else if bytes_eq found.0 (codes "accept") then accept_in found.1
     else if bytes_eq found.0 (codes "compare") then compare_in found.1
+    else if bytes_eq found.0 (codes "page") then page_in found.1
+    else if bytes_eq found.0 (codes "show") then show_in found.1
     else None
 
 -- `clap` takes the words: there is no error that it gives for them

@@ -10,25 +10,31 @@ use Rattle.desk_words.specs.declared.table.Form.{Form}
 abbrev pub place : Text → Rule
 place name = record (new_rule name) { required = true; action = Some Set }
 
+-- a word that may stand at the next place
+abbrev pub further : Text → Rule
+further name = record (new_rule name) { action = Some Set }
+
 -- an option, `--NAME VALUE` or `--NAME=VALUE`, at most once
 abbrev pub choice : Text → Rule
 choice name = record (new_rule name) { long = Some name; action = Some Set }
 
--- the first word, what the words behind it tell in their order, and the options that may stand among these
-abbrev pub form_of : Text → List Text → List Text → Shape
-form_of name places options = record (new_shape name) { rules = map place places ++ map choice options }
+-- the first word, what the words behind it tell in their order, those that may be missing last, and the options that may stand among these
+abbrev pub form_of : Text → List Text → List Text → List Text → Shape
+form_of name places others options = record (new_shape name) { rules = map place places ++ map further others ++ map choice options }
 
 abbrev pub all_forms : List Shape
 all_forms =
-    form_of (codes "run") (codes "capture" ∷ codes "out" ∷ []) (codes "mode" ∷ codes "think" ∷ codes "connect" ∷ codes "remap" ∷ codes "change" ∷ codes "lanes" ∷ codes "target" ∷ [])
-    ∷ form_of (codes "prepare") (codes "capture" ∷ codes "out" ∷ []) []
-    ∷ form_of (codes "serve") (codes "capture" ∷ codes "start" ∷ codes "connections" ∷ []) (codes "port" ∷ [])
-    ∷ form_of (codes "generate") (codes "calls" ∷ codes "out" ∷ []) []
-    ∷ form_of (codes "trial") (codes "calls" ∷ []) []
-    ∷ form_of (codes "register") (codes "out" ∷ codes "run" ∷ []) []
-    ∷ form_of (codes "runs") [] []
-    ∷ form_of (codes "accept") (codes "run" ∷ codes "stamp" ∷ codes "class" ∷ []) []
-    ∷ form_of (codes "compare") (codes "base" ∷ codes "other" ∷ []) []
+    form_of (codes "run") (codes "capture" ∷ codes "out" ∷ []) [] (codes "mode" ∷ codes "think" ∷ codes "connect" ∷ codes "remap" ∷ codes "change" ∷ codes "lanes" ∷ codes "target" ∷ [])
+    ∷ form_of (codes "prepare") (codes "capture" ∷ codes "out" ∷ []) [] []
+    ∷ form_of (codes "serve") (codes "capture" ∷ codes "start" ∷ codes "connections" ∷ []) [] (codes "port" ∷ [])
+    ∷ form_of (codes "generate") (codes "calls" ∷ codes "out" ∷ []) [] []
+    ∷ form_of (codes "trial") (codes "calls" ∷ []) [] []
+    ∷ form_of (codes "register") (codes "out" ∷ codes "run" ∷ []) [] []
+    ∷ form_of (codes "runs") [] [] []
+    ∷ form_of (codes "accept") (codes "run" ∷ codes "stamp" ∷ codes "class" ∷ []) [] []
+    ∷ form_of (codes "compare") (codes "base" ∷ codes "other" ∷ []) [] []
+    ∷ form_of (codes "page") (codes "capture" ∷ codes "out" ∷ []) [] []
+    ∷ form_of (codes "show") (codes "capture" ∷ codes "out" ∷ []) (codes "stamp" ∷ []) []
     ∷ []
 
 -- one of the forms, which has to be there, with no program's name before it
@@ -44,4 +50,4 @@ texts = map (λ text. text.now)
 
 -- a form as the code tells it
 abbrev pub seen : Form → Shape
-seen form = form_of form.name.now (texts form.places.now) (texts form.options.now)
+seen form = form_of form.name.now (texts form.places.now) (texts form.further.now) (texts form.options.now)

@@ -7,7 +7,7 @@ use Rattle.desk_words.specs.Limits.{connection_limit, generated_limit, lane_limi
 use Rattle.desk_words.specs.Command.{is_run_name}
 use Rattle.desk_words.specs.declared.ways.Ways.{Ways}
 use Rattle.desk_words.specs.declared.words.Command.{Command}
-use Rattle.desk_words.specs.declared.words.Command.TheVariants.{Run, Prepare, Serve, Generate, Trial, Register, Runs, Accept, Compare}
+use Rattle.desk_words.specs.declared.words.Command.TheVariants.{Run, Prepare, Serve, Generate, Trial, Register, Runs, Accept, Compare, Page, Show}
 
 abbrev pub IsBetween : ℕ → ℕ → ℕ → Type 0
 IsBetween least most n = (least ≤ n) × (n ≤ most)
@@ -47,3 +47,5 @@ IsWithinLimits (Register out run) = IsPath out × IsRunName run
 IsWithinLimits Runs = Unit {0}
 IsWithinLimits (Accept run stamp class) = IsRunName run × (class ≢ Same)
 IsWithinLimits (Compare base other) = IsRunName base × IsRunName other
+IsWithinLimits (Page capture out) = IsPath capture × IsPath out
+IsWithinLimits (Show capture out stamp) = IsPath capture × IsPath out

@@ -3,7 +3,7 @@
 ghost use Rattle.std.specs.Prelude.{◌≡◌, false, IfOk};
 ghost use Rattle.clap.specs.Words.{app_of, rule_of};
 ghost use Rattle.clap.specs.declared.builder.command.Command.TheViews.{out-Command as fields_of};
-ghost use Rattle.desk_words.specs.Desk.{choice, desk, place};
+ghost use Rattle.desk_words.specs.Desk.{choice, desk, further, place};
 ghost use Rattle.desk_words.specs.Inside.Building.{form_app, with_rules};
 
 use crate::table::{Form, forms};
@@ -28,8 +28,9 @@ fn subcommand<'w>(alloc: Global, form: &Form) -> Result<Command<'w>, AllocError>
     ensures app { IfOk result (λ command. app_of command ≡ form_app form.now) }
     ensures local { IfOk result (λ command. (fields_of command).has_globals ≡ false) }
 {
-    let command = with_places(alloc, Command::new(alloc, form.name), form.places)?;
-    with_options(alloc, command, form.options)
+    let placed = with_places(alloc, Command::new(alloc, form.name), form.places)?;
+    let widened = with_further(alloc, placed, form.further)?;
+    with_options(alloc, widened, form.options)
 }
 
 fn with_places<'w>(
@@ -44,6 +45,22 @@ fn with_places<'w>(
     let mut command = command;
     for name in names {
         command = command.arg(place(alloc, name))?;
+    }
+    Ok(command)
+}
+
+fn with_further<'w>(
+    alloc: Global,
+    command: Command<'w>,
+    names: &[&'static str],
+) -> Result<Command<'w>, AllocError>
+    requires { (fields_of command).has_globals ≡ false }
+    ensures app { IfOk result (λ new. app_of new ≡ with_rules further names.now (app_of command.entry)) }
+    ensures local { IfOk result (λ new. (fields_of new).has_globals ≡ false) }
+{
+    let mut command = command;
+    for name in names {
+        command = command.arg(further(alloc, name))?;
     }
     Ok(command)
 }
@@ -70,6 +87,14 @@ fn place<'w>(alloc: Global, name: &'w str) -> Arg<'w>
     ensures local { result.global ≡ false }
 {
     Arg::new(alloc, name).required(true).action(ArgAction::Set)
+}
+
+// A word that may stand at the next place.
+fn further<'w>(alloc: Global, name: &'w str) -> Arg<'w>
+    ensures rule { rule_of result ≡ further name.entry.now }
+    ensures local { result.global ≡ false }
+{
+    Arg::new(alloc, name).action(ArgAction::Set)
 }
 
 // An option with one value.

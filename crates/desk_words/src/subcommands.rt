@@ -2,11 +2,11 @@
 
 ghost use Rattle.std.specs.Prelude.{◌≡◌};
 ghost use Rattle.desk_values.specs.Reading.{Reads};
-ghost use Rattle.desk_words.specs.Command.{accept_in, command_in, compare_in, generate_in, prepare_in, register_in, run_in, serve_in, trial_in};
+ghost use Rattle.desk_words.specs.Command.{accept_in, command_in, compare_in, generate_in, page_in, prepare_in, register_in, run_in, serve_in, show_in, trial_in};
 ghost use Rattle.desk_words.specs.Inside.Finding.{values_in};
 
 use crate::limits::{CONNECTION_LIMIT, GENERATED_LIMIT};
-use crate::values::{class_at, number_at, path_at, port_of, run_at, stamp_at};
+use crate::values::{class_at, number_at, path_at, port_of, run_at, stamp_at, stamp_of};
 use crate::ways::ways_in;
 use crate::words::Command;
 use clap::ArgMatches;
@@ -31,6 +31,8 @@ pub(crate) fn command_in(
         "runs" => Ok(Command::Runs),
         "accept" => accept_in(alloc, values),
         "compare" => compare_in(alloc, values),
+        "page" => page_in(alloc, values),
+        "show" => show_in(alloc, values),
         _ => Err(ReadErr::Bad),
     }
 }
@@ -94,4 +96,20 @@ fn compare_in(alloc: Global, values: &ArgMatches<'_>) -> Result<Command, ReadErr
 {
     let base = run_at(alloc, values, "base")?;
     Ok(Command::Compare(base, run_at(alloc, values, "other")?))
+}
+
+fn page_in(alloc: Global, values: &ArgMatches<'_>) -> Result<Command, ReadErr>
+    ensures { Reads result (page_in (values_in values.now)) }
+{
+    let capture = path_at(alloc, values, "capture")?;
+    Ok(Command::Page(capture, path_at(alloc, values, "out")?))
+}
+
+fn show_in(alloc: Global, values: &ArgMatches<'_>) -> Result<Command, ReadErr>
+    ensures { Reads result (show_in (values_in values.now)) }
+{
+    let capture = path_at(alloc, values, "capture")?;
+    let out = path_at(alloc, values, "out")?;
+    let stamp = stamp_of(values).ok_or(ReadErr::Bad)?;
+    Ok(Command::Show(capture, out, stamp))
 }

@@ -206,3 +206,13 @@ pub(crate) fn target_of(values: &ArgMatches<'_>) -> Option<Option<u16>>
         None => Some(None),
     }
 }
+
+/// The stamp that is said, if one is.
+pub(crate) fn stamp_of(values: &ArgMatches<'_>) -> Option<Option<u64>>
+    ensures { result ≡ maybe (codes "stamp") number_of (values_in values.now) }
+{
+    match value_of(values, "stamp") {
+        Some(text) => Some(Some(read_u64(text.as_bytes())?)),
+        None => Some(None),
+    }
+}

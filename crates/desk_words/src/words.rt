@@ -39,6 +39,10 @@ pub enum Command {
     Accept(Txt, u64, Class),
     /// `compare A B`: compares the run B with the run A.
     Compare(Txt, Txt),
+    /// `page CAPTURE OUT`: writes a page of the replay of the capture in OUT.
+    Page(Txt, Txt),
+    /// `show CAPTURE OUT [STAMP]`: prints the call with this stamp, or those that differ.
+    Show(Txt, Txt, Option<u64>),
 }
 
 /// The command that the words are. `None` where they are none: where `clap` does not take them, or a value is not good.

@@ -1,13 +1,3 @@
-mod Alike
-mod Asked
-mod Behinds
 mod Found
-mod Handed
 mod Marking
-mod Meeting
-mod Own
-mod Parts
-mod Renamed
 mod Timing
-mod Told
-mod Zipped

@@ -5,7 +5,8 @@ use Rattle.std.proofs.lemmas.Bool.{cases_eq, cases_lt, false≢true}
 use Rattle.std.proofs.lemmas.List.{get_or-set_other, get_or-set_same, get_or_past, length-replicate, length-set}
 use Rattle.desk_schema.proofs.Members.{Contains-cases, Contains-none}
 use Rattle.replay_history.specs.declared.report.Line.{Line}
-use Rattle.divergence_cause.specs.Inside.Passing.{marked_at, marked_by, with_mark}
+use Rattle.replay_walk.specs.Walked.{marked_at}
+use Rattle.divergence_cause.specs.Causes.{marked_by, with_mark}
 
 abbrev unmarked : Bool
 unmarked = false

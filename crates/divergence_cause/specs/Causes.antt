@@ -1,31 +1,14 @@
 -- Why a call of a replay differs.
-use Rattle.std.specs.Prelude.{◌≡◌, ℕ, List, map}
-use Rattle.std.specs.List.{AllByRecursion}
-use Rattle.desk_values.specs.declared.call.Reply.{Reply}
-use Rattle.desk_values.specs.declared.capture.Captured.{Captured}
+use Rattle.std.specs.Prelude.{◌≡◌, ℕ, Bool, true, false, List, map, replicate, slice_set}
+use Rattle.std.specs.List.{AllByRecursion, fold}
 use Rattle.desk_values.specs.declared.capture.Event.{Event}
-use Rattle.server_words.specs.State.{State}
 use Rattle.replay_history.specs.declared.report.Line.{Line}
 use Rattle.replay_job.specs.Job.{JobView}
-use Rattle.replay_job.specs.Runs.{Stage}
 use Rattle.replay_report.specs.Report.{report_in}
-use Rattle.law_replays.specs.End.Answers.{IsAnsweredAt}
-use Rattle.law_replays.specs.End.Twins.{CameBefore, IsTwinCall}
+pub use Rattle.replay_walk.specs.Walked.{MeetsTheSame}
 use Rattle.divergence_cause.specs.declared.cause.Cause.{Cause}
 use Rattle.divergence_cause.specs.declared.cause.Cause.TheVariants.{Timing, Upgrade}
 use Rattle.divergence_cause.specs.declared.cause.CauseLine.{CauseLine}
-
--- the call with this stamp meets where it is answered just what it met in the capture, but for ids
-pub record MeetsTheSame (job : JobView) (history : List Event) (k : ℕ) : Type 0 where
-  pub place : ℕ
-  pub call : Captured
-  pub reply : Reply
-  pub before : Stage
-  pub after : Stage
-  pub captured : State
-  pub there : IsAnsweredAt job history place k call reply before after
-  pub came : CameBefore job k captured
-  pub twin : IsTwinCall job call captured before
 
 -- what each cause means
 abbrev pub IsCause : JobView → List Event → ℕ → Cause → Type 0
@@ -40,3 +23,11 @@ pub record AreCauses (job : JobView) (history : List Event) (lines : List CauseL
 -- no call differs for the server
 abbrev pub AllAreTiming : List CauseLine → Type 0
 AllAreTiming lines = AllByRecursion (λ (line : CauseLine). line.cause ≡ Timing) lines
+
+-- the place that a line of the report names is marked
+abbrev pub with_mark : List Bool → Line → List Bool
+with_mark marks line = slice_set marks line.stamp true
+
+-- of each of so many calls whether one of the lines names it
+abbrev pub marked_by : ℕ → List Line → List Bool
+marked_by calls lines = fold with_mark (replicate calls false) lines

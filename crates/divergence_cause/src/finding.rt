@@ -1,23 +1,21 @@
 //! The causes of the divergence of a replay.
 
-ghost use Rattle.std.specs.Prelude.{◌≡◌, length, map, slice_set, true, IfOk, OnOk};
-ghost use Rattle.desk_values.specs.declared.capture.Captured.{Captured as CapturedCall};
-ghost use Rattle.remap_ids.specs.Sent.{sent as sent_call};
-ghost use Rattle.replay_job.specs.Job.{seen};
+ghost use Rattle.std.specs.Prelude.{◌≡◌, length, map, slice_set, true, List as Sequence, IfOk};
+ghost use Rattle.desk_values.specs.declared.capture.Event.{Event as Told};
+ghost use Rattle.replay_job.specs.Job.{JobView, seen};
 ghost use Rattle.replay_job.specs.Replays.{IsReplay, IsSoundJob};
 ghost use Rattle.replay_job.specs.Runs.{IsCompleteFor, Stage};
-ghost use Rattle.divergence_cause.specs.Causes.{AllAreTiming, AreCauses};
-ghost use Rattle.divergence_cause.specs.Inside.Passing.{HasAnswered, HasBegun, HasMoved, HasPassed, IsFoundTo, IsToldCause, MayAnswer, MayAsk, MayPass, MayTell, cause_at, line_with, marked_at, marked_by, stage_of};
+ghost use Rattle.replay_report.specs.Report.{report_in};
+ghost use Rattle.replay_walk.specs.Walked.{AreTold};
+ghost use Rattle.divergence_cause.specs.Causes.{AllAreTiming, AreCauses, marked_by};
+ghost use Rattle.divergence_cause.specs.Inside.{cause_at, line_with};
 
-use crate::behind::Behind;
 use crate::cause::{Cause, CauseLine, CauseList};
-use crate::twins::are_twin_calls;
-use desk_values::{Call, Captured, Event, History, List, Memory, Reply};
-use machine_model::PlainMachine;
-use remap_ids::IdMap;
-use replay_history::{Line, Lines};
+use desk_values::{History, List, Memory};
+use replay_history::{Line, Report};
 use replay_job::Job;
 use replay_report::report_of;
+use replay_walk::{Asks, Walked, walk};
 use std::alloc::Global;
 
 /// The causes of a whole replay: of each call that differs, by stamp, `Upgrade` where its session met what it met in the capture,
@@ -29,9 +27,31 @@ pub fn causes(alloc: Global, job: &Job, history: &History) -> Result<CauseList, 
     ensures timing { (seen job.now).target.schema ≡ (seen job.now).start.schema → IfOk result (λ lines. AllAreTiming lines) }
 {
     let report = report_of(alloc, job, history)?;
-    let differs = marks(alloc, job.calls.len(), report.lines.as_slice())?;
-    let replay = found(alloc, job, differs.as_slice(), history.as_slice())?;
-    lines_of(alloc, report.lines.as_slice(), replay.causes.as_slice())
+    let differs = differing(alloc, job, &report)?;
+    let asks = Asks {
+        reads: false,
+        twins: differs.as_slice(),
+    };
+    let walked = walk(alloc, job, history, asks)?;
+    causes_in(alloc, &report, &walked)
+}
+
+/// Of each call whether a line of the report names it.
+pub fn differing(alloc: Global, job: &Job, report: &Report) -> Result<Vec<bool>, Memory>
+    ensures marks { IfOk result (λ marks. marks.items ≡ marked_by (length (seen job.now).calls) report.now.lines) }
+    ensures count { IfOk result (λ marks. length marks.items ≡ length (seen job.now).calls) }
+{
+    marks(alloc, job.calls.len(), report.lines.as_slice())
+}
+
+/// The same causes of a replay along which was gone, with this report, where it was asked of just the calls that differ whether they met what they
+/// met in the capture.
+pub fn causes_in(alloc: Global, report: &Report, walked: &Walked) -> Result<CauseList, Memory>
+    ensures { IfOk result
+        (λ lines. (job : JobView) (history : Sequence Told) (last : Stage) → IsReplay job history last → report.now ≡ report_in job history
+        → AreTold job history (marked_by (length job.calls) report.now.lines) walked.now.twins.items → AreCauses job history lines) }
+{
+    lines_of(alloc, report.lines.as_slice(), walked.twins.as_slice())
 }
 
 // Of each of so many calls whether a line names it.
@@ -54,163 +74,33 @@ fn mark(marks: &mut Vec<bool>, place: usize)
     }
 }
 
-// A line for each line of the report, with the cause that was found.
-fn lines_of(alloc: Global, lines: &[Line], causes: &[Cause]) -> Result<CauseList, Memory>
-    ensures { IfOk result (λ list. list ≡ map (line_with causes.now) lines.now) }
+// A line for each line of the report, with its cause.
+fn lines_of(alloc: Global, lines: &[Line], twins: &[bool]) -> Result<CauseList, Memory>
+    ensures { IfOk result (λ list. list ≡ map (line_with twins.now) lines.now) }
 {
     let mut list = List::new(alloc);
     for line in lines {
-        list.push(line_with(causes, *line))?;
+        list.push(line_with(twins, *line))?;
     }
     Ok(list)
 }
 
 // A line of the report, with the cause of its call.
-fn line_with(causes: &[Cause], line: Line) -> CauseLine
-    ensures { result ≡ line_with causes.now line }
+fn line_with(twins: &[bool], line: Line) -> CauseLine
+    ensures { result ≡ line_with twins.now line }
 {
     CauseLine {
         stamp: line.stamp,
-        cause: cause_at(causes, line.stamp),
+        cause: cause_at(twins, line.stamp),
     }
 }
 
-fn cause_at(causes: &[Cause], stamp: u32) -> Cause
-    ensures { result ≡ cause_at causes.now stamp }
+fn cause_at(twins: &[bool], stamp: u32) -> Cause
+    ensures { result ≡ cause_at twins.now stamp }
 {
-    match causes.get(stamp as usize) {
-        Some(cause) => *cause,
+    match twins.get(stamp as usize) {
+        Some(true) => Cause::Upgrade,
+        Some(false) => Cause::Timing,
         None => Cause::Timing,
-    }
-}
-
-// Behind these events, where `differs` says of each call whether its cause is asked for.
-fn found(alloc: Global, job: &Job, differs: &[bool], events: &[Event]) -> Result<Replay, Memory>
-    requires replay { (last : Stage) × IsReplay (seen job.now) events.now last }
-    requires differs { length differs.now ≡ length (seen job.now).calls }
-    ensures { IfOk result (λ replay. IsFoundTo (seen job.now) differs.now events.now (length events.now) replay) }
-{
-    let mut replay = Replay::new(alloc, job)?;
-    for event in events {
-        replay.pass(alloc, job, differs, event)?;
-    }
-    Ok(replay)
-}
-
-/// A replay again, along its history, with the captured server behind it.
-#[derive(Drop)]
-struct Replay {
-    machine: PlainMachine,
-    map: IdMap,
-    behind: Behind,
-    causes: Vec<Cause>,
-}
-
-impl Replay {
-    // Before the first event.
-    fn new(alloc: Global, job: &Job) -> Result<Replay, Memory>
-        ensures { IfOk result (HasBegun (seen job.now)) }
-    {
-        Ok(Replay {
-            machine: PlainMachine::load(alloc, &job.target)?,
-            map: IdMap::from_start(alloc, &job.start)?,
-            behind: Behind::new(alloc, job)?,
-            causes: vec![in alloc; Cause::Timing; job.calls.len()]?,
-        })
-    }
-
-    // Goes past an event.
-    fn pass(
-        &mut self,
-        alloc: Global,
-        job: &Job,
-        differs: &[bool],
-        event: &Event,
-    ) -> Result<(), Memory>
-        requires differs { length differs.now ≡ length (seen job.now).calls }
-        requires may { MayPass (seen job.now) differs.now event.now self.old }
-        ensures { OnOk result (HasPassed (seen job.now) differs.now event.now self.old self.new) }
-    {
-        match event {
-            Event::Start(_, _) => Ok(()),
-            Event::Answer(stamp, reply) => self.answer(alloc, job, differs, *stamp, reply),
-        }
-    }
-
-    // Goes past the answer to the call with this stamp; the cause of a call that differs is noted.
-    fn answer(
-        &mut self,
-        alloc: Global,
-        job: &Job,
-        differs: &[bool],
-        stamp: u32,
-        reply: &Reply,
-    ) -> Result<(), Memory>
-        requires differs { length differs.now ≡ length (seen job.now).calls }
-        requires may { (call : CapturedCall) × MayAnswer (seen job.now) differs.now stamp reply.now call self.old }
-        ensures { OnOk result
-            ((call : CapturedCall) × HasAnswered (seen job.now) differs.now stamp reply.now call self.old self.new) }
-    {
-        let call = &job.calls.as_slice()[stamp as usize];
-        let sent = self.map.send(&job.remap, &call.call)?;
-        let cause = self.cause(alloc, job, differs, call, &sent)?;
-        self.machine.step(call.session, &sent)?;
-        self.map.learn(&call.reply, reply)?;
-        self.causes[stamp as usize] = cause;
-        Ok(())
-    }
-
-    // Why a call differs that is answered next; `Timing` where it does not.
-    fn cause(
-        &mut self,
-        alloc: Global,
-        job: &Job,
-        differs: &[bool],
-        call: &Captured,
-        sent: &Call,
-    ) -> Result<Cause, Memory>
-        requires differs { length differs.now ≡ length (seen job.now).calls }
-        requires may { MayAsk (seen job.now) differs.now call.now self.old }
-        requires sent { sent.now ≡ sent_call self.old.map.pairs (seen job.now).remap call.now.call }
-        ensures machine { self.new.machine ≡ self.old.machine }
-        ensures map { self.new.map ≡ self.old.map }
-        ensures causes { self.new.causes ≡ self.old.causes }
-        ensures cause { IfOk result (λ cause. marked_at differs.now call.now.stamp ≡ true
-            → IsToldCause (seen job.now) call.now (stage_of self.old) cause) }
-        ensures behind { OnOk result (HasMoved (seen job.now) differs.now call.now.stamp self.old.behind self.new.behind) }
-    {
-        let asked = differs[call.stamp as usize];
-        if !asked {
-            return Ok(Cause::Timing);
-        }
-        self.behind.come_to(job, differs, call.stamp)?;
-        let cause = self.cause_here(alloc, job, call, sent)?;
-        self.behind.pass_over(job, call.stamp)?;
-        Ok(cause)
-    }
-
-    // Why a call differs to which the captured server came. The tables' rows are looked at last.
-    fn cause_here(
-        &self,
-        alloc: Global,
-        job: &Job,
-        call: &Captured,
-        sent: &Call,
-    ) -> Result<Cause, Memory>
-        requires may { MayTell (seen job.now) call.now self.now }
-        requires sent { sent.now ≡ sent_call self.now.map.pairs (seen job.now).remap call.now.call }
-        ensures { IfOk result (IsToldCause (seen job.now) call.now (stage_of self.now)) }
-    {
-        if !are_twin_calls(job.start.schema(), &self.map, &call.call, sent)? {
-            return Ok(Cause::Timing);
-        }
-        if !self.behind.had_own(alloc, &self.map, &self.machine, call)? {
-            return Ok(Cause::Timing);
-        }
-        let meets = self.machine.view(call.session, sent)?;
-        if !self.behind.met(alloc, &self.map, call, &meets)? {
-            return Ok(Cause::Timing);
-        }
-        Ok(Cause::Upgrade)
     }
 }

@@ -4,6 +4,4 @@ mod Plain
 mod Reading
 mod Marked
 mod One
-mod Walked
-mod Answering
-mod Imaged
+mod Found

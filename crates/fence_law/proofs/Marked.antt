@@ -3,7 +3,8 @@ use Rattle.std.proofs.Common.{◌≡◌, ℕ, zero, suc, ◌+◌, ◌≤◌, Boo
 use Rattle.std.specs.Prelude.{◌↔◌}
 use Rattle.std.specs.List.{Contains}
 use Rattle.desk_schema.proofs.Members.{Contains-cases, Contains-here, Contains-none, Contains-there}
-use Rattle.fence_law.specs.Inside.{marked_at, stamps_in}
+use Rattle.replay_walk.specs.Walked.{marked_at}
+use Rattle.fence_law.specs.Inside.{stamps_in}
 use Rattle.fence_law.specs.Plain.{StampsRiseFrom}
 
 lower : (m n : ℕ) (stamps : List ℕ) → m ≤ n → StampsRiseFrom n stamps → StampsRiseFrom m stamps

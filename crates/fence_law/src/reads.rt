@@ -1,19 +1,21 @@
 //! The stamps of the plain reads of a replay.
 
-ghost use Rattle.std.specs.Prelude.{◌≡◌, ◌≤◌, length, IfOk};
+ghost use Rattle.std.specs.Prelude.{◌≡◌, ◌≤◌, ◌&&◌, length, List as Sequence, IfOk};
+ghost use Rattle.desk_values.specs.declared.capture.Event.{Event as Told};
 ghost use Rattle.replay_history.specs.declared.mode.Mode.TheVariants.{Fence};
-ghost use Rattle.replay_job.specs.Job.{IsReplayable, seen};
+ghost use Rattle.replay_job.specs.Job.{seen};
 ghost use Rattle.replay_job.specs.Replays.{IsReplay, IsSoundJob};
 ghost use Rattle.replay_job.specs.Runs.{IsCompleteFor, Stage};
-ghost use Rattle.fence_law.specs.Inside.{AreCleanMarks, IsWalkedTo, stamps_in};
+ghost use Rattle.replay_walk.specs.Walked.{AreOpen, marked_at};
+ghost use Rattle.fence_law.specs.Inside.{AreReadMarks, stamps_in};
 ghost use Rattle.fence_law.specs.Laws.{AreSame};
-ghost use Rattle.fence_law.specs.Plain.{ArePlainReads};
+ghost use Rattle.fence_law.specs.Plain.{ArePlainReads, is_plain_select};
 
-use crate::walk::Walk;
-use desk_values::{Event, History, List, Memory, Stamps};
+use crate::selects::is_plain_select;
+use desk_values::{Captured, History, List, Memory, Stamps};
 use replay_job::Job;
+use replay_walk::{Asks, Walked, walk};
 use std::alloc::Global;
-use txn_engine::Engine;
 
 /// The stamps of the plain reads of a whole replay in the mode `Fence`, on the captured start, ascending. Each of them is the
 /// same.
@@ -25,37 +27,62 @@ pub fn plain_reads(alloc: Global, job: &Job, history: &History) -> Result<Stamps
     ensures reads { IfOk result (λ stamps. ArePlainReads (seen job.now) history.now.items stamps) }
     ensures same { IfOk result (λ stamps. AreSame (seen job.now) history.now.items stamps) }
 {
-    let clean = clean_calls(alloc, job)?;
-    let walk = walked(alloc, job, clean.as_slice(), history.as_slice())?;
-    stamps_of(alloc, walk.marks())
+    let none = vec![in alloc; false; job.calls.len()]?;
+    let asks = Asks {
+        reads: true,
+        twins: none.as_slice(),
+    };
+    let walked = walk(alloc, job, history, asks)?;
+    reads_in(alloc, job, &walked)
 }
 
-// Of each call whether its session had changed nothing just before it, in the capture.
-fn clean_calls(alloc: Global, job: &Job) -> Result<Vec<bool>, Memory>
-    requires { IsReplayable (seen job.now) }
-    ensures { IfOk result (λ marks. AreCleanMarks (seen job.now) (length (seen job.now).calls) marks.items) }
+/// The same of a replay along which was gone, where it was asked which calls nothing stood before.
+pub fn reads_in(alloc: Global, job: &Job, walked: &Walked) -> Result<Stamps, Memory>
+    requires { IsSoundJob (seen job.now) }
+    ensures reads { IfOk result
+        (λ stamps. (history : Sequence Told) → AreOpen (seen job.now) history walked.now.open_calls.items → ArePlainReads (seen job.now) history stamps) }
+    ensures same { IfOk result
+        (λ stamps. (history : Sequence Told) (last : Stage) → IsReplay (seen job.now) history last → (seen job.now).mode ≡ Fence
+        → (seen job.now).target ≡ (seen job.now).start → AreOpen (seen job.now) history walked.now.open_calls.items → AreSame (seen job.now) history stamps) }
 {
-    let calls = job.calls.as_slice();
-    let mut engine = Engine::load(alloc, &job.start)?;
-    let mut clean = Vec::new(alloc);
-    for call in calls {
-        clean.push(engine.clean(call.session))?;
-        engine.step(call.session, &call.call)?;
-    }
-    Ok(clean)
+    let marks = read_marks(alloc, job.calls.as_slice(), walked.open_calls.as_slice())?;
+    stamps_of(alloc, marks.as_slice())
 }
 
-// Behind these events, where `clean` says of each call whether its session had changed nothing in the capture.
-fn walked(alloc: Global, job: &Job, clean: &[bool], events: &[Event]) -> Result<Walk, Memory>
-    requires replay { (last : Stage) × IsReplay (seen job.now) events.now last }
-    requires clean { AreCleanMarks (seen job.now) (length (seen job.now).calls) clean.now }
-    ensures { IfOk result (IsWalkedTo (seen job.now) events.now (length events.now)) }
+// Of each call whether nothing stood before it and its text spells a plain SELECT.
+fn read_marks(alloc: Global, calls: &[Captured], open_calls: &[bool]) -> Result<Vec<bool>, Memory>
+    ensures { IfOk result (λ marks. AreReadMarks calls.now open_calls.now (length calls.now) marks.items) }
 {
-    let mut walk = Walk::new(alloc, job)?;
-    for event in events {
-        walk.pass(alloc, job, clean, event)?;
+    let mut marks = Vec::new(alloc);
+    for place in 0..calls.len() {
+        marks.push(is_read(alloc, open_calls, place, &calls[place])?)?;
     }
-    Ok(walk)
+    Ok(marks)
+}
+
+// The same of the call at a place.
+fn is_read(
+    alloc: Global,
+    open_calls: &[bool],
+    place: usize,
+    call: &Captured,
+) -> Result<bool, Memory>
+    ensures { IfOk result (λ read. read ≡ (marked_at open_calls.now place && is_plain_select call.now.call)) }
+{
+    if is_open(open_calls, place) {
+        is_plain_select(alloc, &call.call)
+    } else {
+        Ok(false)
+    }
+}
+
+fn is_open(marks: &[bool], place: usize) -> bool
+    ensures { result ≡ marked_at marks.now place }
+{
+    match marks.get(place) {
+        Some(mark) => *mark,
+        None => false,
+    }
 }
 
 // The stamps that are marked.

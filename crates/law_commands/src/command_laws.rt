@@ -76,7 +76,7 @@ pub fn registers_stay_good()
 
 /// With which statuses each command may end, where the files are told and no device failed, so that by the clause `causes` of `replay_main` the
 /// status is not 5: `run` with 0, 1 or 6, and against another server where no line fails with 9 too; `serve` with 0, 6 or 9; `prepare`,
-/// `generate` and `trial` with 0 or 6; and the commands of the register as `runs_are_asked_for` says, `register` whatever the keeper tells. What is
+/// `generate`, `trial`, `page` and `show` with 0 or 6; and the commands of the register as `runs_are_asked_for` says, `register` whatever the keeper tells. What is
 /// refused ends with its own status, or with 6.
 pub fn may_end()
     ensures done { TasksEndSo }

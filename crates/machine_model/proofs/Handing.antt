@@ -11,7 +11,7 @@ use Rattle.std.proofs.lemmas.List.Folds.{list_any-append, list_any_at, list_any_
 use Rattle.std.proofs.lemmas.List.Sorted.{IsNonDecreasingBy-from_sort, list_any-IsPermutation, searched}
 use Rattle.desk_values.specs.declared.value.Image.{Image}
 use Rattle.server_words.specs.declared.session.Session.{Session}
-use Rattle.machine_model.specs.Inside.Views.{rows_held}
+use Rattle.machine_model.specs.Footing.{rows_held}
 use Rattle.server_words.specs.Request.{read}
 use Rattle.server_words.specs.Rows.{row_numbers}
 use Rattle.server_words.specs.View.{is_held}

@@ -1,1 +1,2 @@
+pub mod Footing
 pub mod Inside

@@ -6,9 +6,12 @@
 //! decided (`call_deeds`); want of memory comes before anything changes. What it keeps to answer by is of `machine_stores`.
 #![tactic(auto)]
 
+mod footing;
 mod giving;
 mod machine;
 mod viewing;
 
+pub use footing::Footing;
 pub use machine::{Copies, PlainMachine};
 pub use server_words::{KeyId, KeyIds, Point, Points, RowIds, View};
+pub use viewing::table_of_call;

@@ -19,6 +19,7 @@ ghost use Rattle.server_words.specs.Rows.{IsRising};
 
 mod calls;
 mod executing;
+mod footing;
 
 use crate::giving::{is_between, stands_in};
 use crate::viewing::{copied, held_by_others, keys_of_others, table_of_call, view_without_table};

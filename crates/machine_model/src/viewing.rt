@@ -11,7 +11,7 @@ ghost use Rattle.server_words.specs.Request.{request_of, read, statement_in, tab
 ghost use Rattle.server_words.specs.Rows.{row_numbers};
 ghost use Rattle.server_words.specs.View.{is_held, key_of_table, keys_held, plain_view};
 ghost use Rattle.server_words.specs.Views.{AreOnce, IsPointOf, IsViewOf, key_id, key_order};
-ghost use Rattle.machine_model.specs.Inside.Views.{rows_held};
+ghost use Rattle.machine_model.specs.Footing.{rows_held};
 
 use desk_schema::Schema;
 use desk_values::{Call, Copied, Image, Images, List, Memory, Txt, Value, Values, kind_then_value};
@@ -130,8 +130,8 @@ pub fn held_by_others(alloc: Global, others: Others<'_>, rows: &[&Image]) -> Res
     numbers_among(alloc, &held, rows)
 }
 
-// Adds the rows that these sessions hold.
-fn add_rows(sessions: &[Session], to: &mut Vec<u64>) -> Result<(), Memory>
+/// Adds the rows that these sessions hold.
+pub fn add_rows(sessions: &[Session], to: &mut Vec<u64>) -> Result<(), Memory>
     ensures { OnOk result (to.new.items ≡ to.old.items ++ rows_held sessions.now) }
 {
     for session in sessions {
@@ -194,8 +194,8 @@ fn add_keys_of(held: &[HeldKey], table: u32, to: &mut Vec<Value>) -> Result<(), 
     Ok(())
 }
 
-// The rows, each once, ascending.
-fn rows_once(alloc: Global, rows: &[u64]) -> Result<RowIds, Memory>
+/// The rows, each once, ascending.
+pub fn rows_once(alloc: Global, rows: &[u64]) -> Result<RowIds, Memory>
     ensures { IfOk result (λ once. AreOnce nat_cmp rows.now once) }
 {
     let mut sorted = Vec::from_slice(alloc, rows)?;

@@ -12,6 +12,6 @@ mod tables;
 
 pub use holds::{Others, beside, hold_key, hold_some_row, stands_among};
 pub use index::{KeyIndex, indexes_of, note_commit};
-pub use seeing::{laid, looked, of_table, rows_seen, shown_of};
+pub use seeing::{count_seen, laid, looked, of_table, rows_seen, shown_of};
 pub use stores::Stores;
 pub use tables::{forget_unread, put_commit, row_at, tables_of};

@@ -140,7 +140,7 @@ fn base<'a>(
 }
 
 /// How many of so many commits a snapshot sees.
-fn count_seen(snapshot: Option<u64>, count: usize) -> usize
+pub fn count_seen(snapshot: Option<u64>, count: usize) -> usize
     ensures value { result ≡ count_seen snapshot count }
     ensures most { result ≤ count }
 {

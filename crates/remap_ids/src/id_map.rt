@@ -1,5 +1,6 @@
-ghost use Rattle.std.specs.Prelude.{◌≡◌, ◌+◌, ◌<◌, ◌≤◌, ◌++◌, Some, slice_get, length, drop, min, map, IfOk, IsOk, OnOk, OnErr};
-ghost use Rattle.std.specs.List.{AllByRecursion};
+ghost use Rattle.std.specs.Prelude.{◌≡◌, ◌+◌, ◌<◌, ◌≤◌, ◌++◌, Some, slice_get, length, drop, min, map, IfNone, IfOk, IfSome, IsOk, OnOk, OnErr};
+ghost use Rattle.std.specs.List.{AllByRecursion, Contains};
+ghost use Rattle.id_pairs.specs.declared.Id.{Id as AnyId};
 ghost use Rattle.id_pairs.specs.Ids.{id_value};
 ghost use Rattle.id_pairs.specs.Pairs.{HasNoIdTwice, IsIdMap, all_new, image_in, learnt};
 ghost use Rattle.remap_ids.specs.IdMap.{start_pairs};
@@ -55,6 +56,14 @@ impl IdMap {
         ensures map { IsIdMap self.now.pairs }
     {
         self.pairs.image(id)
+    }
+
+    /// The captured id that a replayed one stands for, if one was learnt.
+    pub fn origin(&self, id: Id) -> Option<Id>
+        ensures some { IfSome result (λ captured. Contains self.now.pairs (captured, id)) }
+        ensures none { IfNone result ((captured : AnyId) → ¬ Contains self.now.pairs (captured, id)) }
+    {
+        self.pairs.origin(id)
     }
 
     /// Makes the spare at least so many pairs.

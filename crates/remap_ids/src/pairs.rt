@@ -1,4 +1,6 @@
-ghost use Rattle.std.specs.Prelude.{◌≡◌, ◌+◌, ◌<◌, ◌≤◌, [], Some, length, slice_get, IsOk, OnOk, OnErr};
+ghost use Rattle.std.specs.Prelude.{◌≡◌, ◌+◌, ◌<◌, ◌≤◌, [], Some, length, slice_get, IfNone, IfSome, IsOk, OnOk, OnErr};
+ghost use Rattle.std.specs.List.{Contains};
+ghost use Rattle.id_pairs.specs.declared.Id.{Id as AnyId};
 ghost use Rattle.id_pairs.specs.Pairs.{AreLike, IsIdMap, image_in, is_known, with_new};
 
 use desk_values::Memory;
@@ -65,6 +67,20 @@ impl Pairs {
         ensures map { IsIdMap self.now.pairs }
     {
         self.by_captured.get(&id).copied()
+    }
+
+    // The captured id of a replayed one.
+    pub(crate) fn origin(&self, id: Id) -> Option<Id>
+        ensures some { IfSome result (λ captured. Contains self.now.pairs (captured, id)) }
+        ensures none { IfNone result ((captured : AnyId) → ¬ Contains self.now.pairs (captured, id)) }
+    {
+        match self.replayed.get_index_of(&id) {
+            Some(place) => {
+                let (captured, _) = self.pair_at(place);
+                Some(captured)
+            }
+            None => None,
+        }
     }
 
     // Makes the spare at least `more`.

@@ -14,9 +14,11 @@ use Rattle.captured_calls.specs.Verdict.{Preparation, fault_of, or_else, verdict
 use Rattle.remap_ids.specs.Services.{ServicePair, goes_on, sent_for, service_pair, services_of, with_pair, with_records}
 use Rattle.remap_ids.specs.declared.remap.RemapErr.{RemapErr}
 use Rattle.remap_ids.specs.declared.remap.RemapErr.TheVariants.{BadRow, TwiceFrom}
-use Rattle.replay_cli.specs.declared.failure.Refusal.TheVariants.{BadChange, BadLine, BadRemap, BadReport, NotLegal}
+use Rattle.replay_cli.specs.declared.failure.Refusal.TheVariants.{BadChange, BadLine, BadRemap, BadReport, NotLegal, Unshown}
+use Rattle.replay_cli.specs.declared.unshown.Unshown.{Unshown as NotShown}
+use Rattle.replay_cli.specs.declared.unshown.Unshown.TheVariants as unshown
 use Rattle.desk_words.specs.declared.words.Command.{Command}
-use Rattle.desk_words.specs.declared.words.Command.TheVariants.{Run, Prepare, Serve, Generate, Trial, Register, Runs, Accept, Compare}
+use Rattle.desk_words.specs.declared.words.Command.TheVariants.{Run, Prepare, Serve, Generate, Trial, Register, Runs, Accept, Compare, Page, Show}
 use Rattle.desk_schema.specs.Change.{IsFirstBad, records_in}
 use Rattle.replay_cli.specs.Decision.{IsBadOfSome, MayBeRefused, MayRefuseChange, MayRefuseRemap, record_of, remap_of}
 use Rattle.replay_cli.specs.Lines.{cause_text}
@@ -47,6 +49,10 @@ lines_from_one (Register out run) name line h = absurd h
 lines_from_one Runs name line h = absurd h
 lines_from_one (Accept run stamp class) name line h = absurd h
 lines_from_one (Compare base other) name line h = absurd h
+lines_from_one (Page capture out) name line (inl h) = bad_line line h.1
+lines_from_one (Page capture out) name line (inr h) = absurd h
+lines_from_one (Show capture out stamp) name line (inl h) = bad_line line h.1
+lines_from_one (Show capture out stamp) name line (inr h) = absurd h
 
 no_remap_report : (named : Option (List ℕ)) (name : List ℕ) (line : ℕ) → MayRefuseRemap named (BadReport name line) → 1 ≤ line
 no_remap_report None name line h = absurd h
@@ -68,6 +74,54 @@ reports_from_one (Register out run) name line h = let number = h.1.1.number in o
 reports_from_one Runs name line h = absurd h
 reports_from_one (Accept run stamp class) name line h = absurd h
 reports_from_one (Compare base other) name line h = absurd h
+reports_from_one (Page capture out) name line (inl h) = absurd h
+reports_from_one (Page capture out) name line (inr h) = let number = h.1.1.number in omega (arith, number)
+reports_from_one (Show capture out stamp) name line (inl h) = absurd h
+reports_from_one (Show capture out stamp) name line (inr h) = let number = h.1.1.number in omega (arith, number)
+
+-- ---- lines of what a run left
+
+no_remap_shown : (named : Option (List ℕ)) (cause : NotShown) → MayRefuseRemap named (Unshown cause) → ⊥
+no_remap_shown None cause h = h
+no_remap_shown (Some name) cause h = h
+
+no_change_shown : (named : Option (List ℕ)) (cause : NotShown) → MayRefuseChange named (Unshown cause) → ⊥
+no_change_shown None cause h = h
+no_change_shown (Some name) cause h = h
+
+pub journals_from_one : (command : Command) (name : List ℕ) (line : ℕ) → MayBeRefused command (Unshown (unshown.BadJournal name line)) → 1 ≤ line
+journals_from_one (Run capture out ways) name line (inl h) = absurd h
+journals_from_one (Run capture out ways) name line (inr (inl h)) = absurd (no_remap_shown ways.remap (unshown.BadJournal name line) h)
+journals_from_one (Run capture out ways) name line (inr (inr h)) = absurd (no_change_shown ways.change (unshown.BadJournal name line) h)
+journals_from_one (Prepare capture out) name line h = absurd h
+journals_from_one (Serve capture start connections port) name line h = absurd h
+journals_from_one (Generate n out) name line h = absurd h
+journals_from_one (Trial n) name line h = absurd h
+journals_from_one (Register out run) name line h = absurd h
+journals_from_one Runs name line h = absurd h
+journals_from_one (Accept run stamp class) name line h = absurd h
+journals_from_one (Compare base other) name line h = absurd h
+journals_from_one (Page capture out) name line (inl h) = absurd h
+journals_from_one (Page capture out) name line (inr h) = let number = h.1.1.number in omega (arith, number)
+journals_from_one (Show capture out stamp) name line (inl h) = absurd h
+journals_from_one (Show capture out stamp) name line (inr h) = let number = h.1.1.number in omega (arith, number)
+
+pub reads_from_one : (command : Command) (name : List ℕ) (line : ℕ) → MayBeRefused command (Unshown (unshown.BadReads name line)) → 1 ≤ line
+reads_from_one (Run capture out ways) name line (inl h) = absurd h
+reads_from_one (Run capture out ways) name line (inr (inl h)) = absurd (no_remap_shown ways.remap (unshown.BadReads name line) h)
+reads_from_one (Run capture out ways) name line (inr (inr h)) = absurd (no_change_shown ways.change (unshown.BadReads name line) h)
+reads_from_one (Prepare capture out) name line h = absurd h
+reads_from_one (Serve capture start connections port) name line h = absurd h
+reads_from_one (Generate n out) name line h = absurd h
+reads_from_one (Trial n) name line h = absurd h
+reads_from_one (Register out run) name line h = absurd h
+reads_from_one Runs name line h = absurd h
+reads_from_one (Accept run stamp class) name line h = absurd h
+reads_from_one (Compare base other) name line h = absurd h
+reads_from_one (Page capture out) name line (inl h) = absurd h
+reads_from_one (Page capture out) name line (inr h) = let number = h.1.1.number in omega (arith, number)
+reads_from_one (Show capture out stamp) name line (inl h) = absurd h
+reads_from_one (Show capture out stamp) name line (inr h) = let number = h.1.1.number in omega (arith, number)
 
 -- ---- rows
 
@@ -117,6 +171,10 @@ rows_from_one (Register out run) row h = absurd h
 rows_from_one Runs row h = absurd h
 rows_from_one (Accept run stamp class) row h = absurd h
 rows_from_one (Compare base other) row h = absurd h
+rows_from_one (Page capture out) row (inl h) = absurd h
+rows_from_one (Page capture out) row (inr h) = absurd h
+rows_from_one (Show capture out stamp) row (inl h) = absurd h
+rows_from_one (Show capture out stamp) row (inr h) = absurd h
 
 first_bad_row : (start : StartView) (records : List (List (List ℕ))) (n : ℕ) → IsFirstBad start records n → 1 ≤ n
 first_bad_row start [] n h = absurd h
@@ -143,6 +201,10 @@ changes_from_one (Register out run) row h = absurd h
 changes_from_one Runs row h = absurd h
 changes_from_one (Accept run stamp class) row h = absurd h
 changes_from_one (Compare base other) row h = absurd h
+changes_from_one (Page capture out) row (inl h) = absurd h
+changes_from_one (Page capture out) row (inr h) = absurd h
+changes_from_one (Show capture out stamp) row (inl h) = absurd h
+changes_from_one (Show capture out stamp) row (inr h) = absurd h
 
 -- ---- causes
 
@@ -223,3 +285,7 @@ causes_have_text (Register out run) cause h = absurd h
 causes_have_text Runs cause h = absurd h
 causes_have_text (Accept run stamp class) cause h = absurd h
 causes_have_text (Compare base other) cause h = absurd h
+causes_have_text (Page capture out) cause (inl h) = cause_told h.0 h.1 cause h.2
+causes_have_text (Page capture out) cause (inr h) = absurd h
+causes_have_text (Show capture out stamp) cause (inl h) = cause_told h.0 h.1 cause h.2
+causes_have_text (Show capture out stamp) cause (inr h) = absurd h

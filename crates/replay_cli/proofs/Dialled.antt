@@ -11,7 +11,7 @@ use Rattle.remote_desk.specs.Desk.{RemoteView}
 use Rattle.remote_target.specs.declared.remote_err.RemoteErr.{RemoteErr}
 use Rattle.remote_target.specs.declared.remote_err.RemoteErr.TheVariants as remote
 use Rattle.remote_target.specs.Dialled.{AreAllOnce, AreTold, DialsOnce, IsOnceEach}
-use Rattle.replay_cli.specs.Decision.{Task, ToKeep, ToMake, ToReplay, ToSend, ToServe, ToTell, ToTry}
+use Rattle.replay_cli.specs.Decision.{Task, ToKeep, ToMake, ToPage, ToReplay, ToSend, ToServe, ToShow, ToTell, ToTry}
 use Rattle.replay_cli.specs.Ending.{HasDialled}
 use Rattle.replay_cli.specs.Hosting.{Dialling}
 
@@ -80,3 +80,5 @@ undialled (ToServe out start most port) dial same stands = tt
 undialled (ToMake n out) dial same stands = tt
 undialled (ToTry n) dial same stands = tt
 undialled (ToKeep errand) dial same stands = tt
+undialled (ToPage page calls divergent) dial same stands = tt
+undialled (ToShow view asked) dial same stands = tt

@@ -9,20 +9,22 @@ use Rattle.desk_files.specs.Answers.{write_ending}
 use Rattle.desk_files.specs.Outside.{Appends, Counts, DeviceFailed, Ending, FileMap, MemoryShort, Told, HasRisen}
 use Rattle.desk_files.specs.Writes.{LeavesOfWrites, with_all}
 use Rattle.replay_cli.specs.declared.failure.Refusal.{Refusal}
-use Rattle.replay_cli.specs.declared.failure.Refusal.TheVariants.{Missing, TooLong, BadLine, BadReport, BadRemap, BadChange, NotLegal}
+use Rattle.replay_cli.specs.declared.failure.Refusal.TheVariants.{Missing, TooLong, BadLine, BadReport, BadRemap, BadChange, NotLegal, Unshown}
 use Rattle.replay_cli.specs.declared.failure.Failure.{Failure}
 use Rattle.replay_cli.specs.declared.failure.Failure.TheVariants.{BadCommand, Refused, Differs, NotDone, NotSent, DeviceFault, OutOfMemory}
 use Rattle.replay_cli.specs.declared.unsent.Unsent.{Unsent}
 use Rattle.replay_cli.specs.declared.unsent.Unsent.TheVariants as unsent
+use Rattle.replay_cli.specs.declared.unshown.Unshown.{Unshown as NotShown}
+use Rattle.replay_cli.specs.declared.unshown.Unshown.TheVariants as unshown
 use Rattle.replay_cli.specs.declared.plan.Plan.{Plan}
 use Rattle.desk_words.specs.declared.words.Command.{Command}
 use Rattle.register_work.specs.declared.unkept.Unkept.{Unkept}
 use Rattle.register_work.specs.declared.unkept.Unkept.TheVariants.{NoRun, OtherRun, BadRun, NoCall, OtherCapture}
 use Rattle.register_work.specs.Lines.{unkept_status}
-use Rattle.replay_cli.specs.Lines.{done_status, refusal_status, unsent_status}
+use Rattle.replay_cli.specs.Lines.{done_status, refusal_status, unsent_status, unshown_status}
 use Rattle.desk_words.specs.Command.{command_of}
 use Rattle.capture_serve.specs.declared.failing.Finding.{Finding}
-use Rattle.replay_cli.specs.Decision.{Decides, Task, ToKeep, ToMake, ToReplay, ToSend, ToServe, ToTell, ToTry, Verdict, VerdictOf}
+use Rattle.replay_cli.specs.Decision.{Decides, Task, ToKeep, ToMake, ToPage, ToReplay, ToSend, ToServe, ToShow, ToTell, ToTry, Verdict, VerdictOf}
 use Rattle.replay_cli.specs.Done.{IsDone}
 use Rattle.replay_cli.specs.Inside.Steps.{FailedAt, Step, Stops}
 use Rattle.replay_cli.specs.Hosting.{Dialling, HasKept, HasNoFault, Hosting, IsUnasked}
@@ -138,6 +140,8 @@ module _ (h : Hosting) where
   kept_found (ToTell out facts) finding found = absurd found
   kept_found (ToMake n out) finding found = absurd found
   kept_found (ToTry n) finding found = absurd found
+  kept_found (ToPage page calls divergent) finding found = absurd found
+  kept_found (ToShow view asked) finding found = absurd found
   kept_found (ToKeep errand) finding found = absurd found
 
   kept_caused : (task : Task) (cause : Unkept) → IsCauseOf task cause h → KeptAs task MemoryShort h × HasDialled task h.dial
@@ -148,6 +152,8 @@ module _ (h : Hosting) where
   kept_caused (ToTell out facts) cause caused = absurd caused
   kept_caused (ToMake n out) cause caused = absurd caused
   kept_caused (ToTry n) cause caused = absurd caused
+  kept_caused (ToPage page calls divergent) cause caused = absurd caused
+  kept_caused (ToShow view asked) cause caused = absurd caused
 
   kept_unsent : (task : Task) (cause : Unsent) → IsUnsentOf task cause h → KeptAs task MemoryShort h × HasDialled task h.dial
   kept_unsent (ToSend out job port) cause sent =
@@ -157,6 +163,8 @@ module _ (h : Hosting) where
   kept_unsent (ToServe out start most port) cause sent = absurd sent
   kept_unsent (ToMake n out) cause sent = absurd sent
   kept_unsent (ToTry n) cause sent = absurd sent
+  kept_unsent (ToPage page calls divergent) cause sent = absurd sent
+  kept_unsent (ToShow view asked) cause sent = absurd sent
   kept_unsent (ToKeep errand) cause sent = absurd sent
 
   pub ends : (wanted : Result Task Failure → Type 0) (files after : FileMap) (f0 f1 : ℕ) (done : Result Plan Failure) (result : ℕ) (b a : Option (List ℕ)) (s0 s1 : ℕ) → RunSays wanted files after f0 f1 h done → Reports done result b a s0 s1 → EndsSo wanted files after f0 f1 h result b a
@@ -195,6 +203,8 @@ module _ (h : Hosting) where
   kept_as (ToTell out facts) kept = kept
   kept_as (ToMake n out) kept = kept
   kept_as (ToTry n) kept = kept
+  kept_as (ToPage page calls divergent) kept = kept
+  kept_as (ToShow view asked) kept = kept
 
   -- it ends so with each verdict, since there is one
   each_end : (words : List (List ℕ)) (files after : FileMap) (f0 f1 result : ℕ) (b a : Option (List ℕ)) → EndsSo (Verdict words files) files after f0 f1 h result b a → (verdict : Result Task Failure) → Verdict words files verdict → Ends verdict files after f0 f1 h result b a
@@ -214,6 +224,12 @@ record IsOwn (status : ℕ) : Type 0 where
   no_fault : status ≢ 5
   no_link : status ≢ 10
 
+unshown_own : (cause : NotShown) → IsOwn (unshown_status cause)
+unshown_own (unshown.BadJournal name line) = record { no_command = λ e. omega (arith, e); no_fault = λ e. omega (arith, e); no_link = λ e. omega (arith, e) }
+unshown_own (unshown.BadReads name line) = record { no_command = λ e. omega (arith, e); no_fault = λ e. omega (arith, e); no_link = λ e. omega (arith, e) }
+unshown_own (unshown.Unfit found) = record { no_command = λ e. omega (arith, e); no_fault = λ e. omega (arith, e); no_link = λ e. omega (arith, e) }
+unshown_own (unshown.NoCall stamp) = record { no_command = λ e. omega (arith, e); no_fault = λ e. omega (arith, e); no_link = λ e. omega (arith, e) }
+
 refused_own : (refusal : Refusal) → IsOwn (refusal_status refusal)
 refused_own (Missing name) = record { no_command = λ e. omega (arith, e); no_fault = λ e. omega (arith, e); no_link = λ e. omega (arith, e) }
 refused_own (TooLong name) = record { no_command = λ e. omega (arith, e); no_fault = λ e. omega (arith, e); no_link = λ e. omega (arith, e) }
@@ -222,6 +238,7 @@ refused_own (BadReport name line) = record { no_command = λ e. omega (arith, e)
 refused_own (BadRemap n) = record { no_command = λ e. omega (arith, e); no_fault = λ e. omega (arith, e); no_link = λ e. omega (arith, e) }
 refused_own (BadChange n) = record { no_command = λ e. omega (arith, e); no_fault = λ e. omega (arith, e); no_link = λ e. omega (arith, e) }
 refused_own (NotLegal cause) = record { no_command = λ e. omega (arith, e); no_fault = λ e. omega (arith, e); no_link = λ e. omega (arith, e) }
+refused_own (Unshown cause) = unshown_own cause
 
 cause_own : (cause : Unkept) → IsOwn (unkept_status cause)
 cause_own (NoRun name) = record { no_command = λ e. omega (arith, e); no_fault = λ e. omega (arith, e); no_link = λ e. omega (arith, e) }

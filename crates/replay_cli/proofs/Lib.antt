@@ -15,6 +15,9 @@ pub mod Targets
 pub mod Asked
 pub mod Unwritten
 pub mod Runs
+pub mod Untold
 pub mod Sent
 pub mod Parts
 pub mod Closings
+pub mod ShowSteps
+pub mod Quieted

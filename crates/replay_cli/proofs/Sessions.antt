@@ -15,6 +15,7 @@ use Rattle.file_lines.specs.declared.reader.FormErr.TheVariants.{Bad}
 use Rattle.capture_format.specs.SessionFile.{AreCallsOf, IsBadSession, IsSessionFile, MayTellAll, session_text}
 use Rattle.captured_calls.specs.Sessions.{AreSessionsFrom}
 use Rattle.prepare_plan.specs.Lists.{lists_of}
+use Rattle.replay_page.specs.Captured.{AreSpelled}
 use Rattle.replay_cli.specs.declared.failure.Refusal.TheVariants.{BadLine}
 use Rattle.replay_cli.specs.declared.failure.Failure.{Failure}
 use Rattle.replay_cli.specs.declared.failure.Failure.TheVariants.{BadCommand, Refused, Differs, NotDone, NotSent, DeviceFault, OutOfMemory}
@@ -51,6 +52,15 @@ count_lists sessions = length-map sessions (λ (calls : Room Captured). calls.it
 pub few_lists : (result : Result (List (Room Captured)) Failure) (n : ℕ) → n ≤ 64 → IfOk result (λ sessions. length sessions ≡ n) → IfOk result (λ sessions. length sessions ≤ 64)
 few_lists (Ok sessions) n few same = omega (arith, few, same)
 few_lists (Err failure) n few same = tt
+
+-- lists of sessions that are spelled, with one more
+pub spelled_more : (version : ℕ) (lists : List (List Captured)) (calls : List Captured) → AllByRecursion (AreSpelled version) lists → AreSpelled version calls → AllByRecursion (AreSpelled version) (lists ++ calls ∷ [])
+spelled_more version [] calls are next = (next, tt)
+spelled_more version (first ∷ lists) calls are next = (are.0, spelled_more version lists calls are.1 next)
+
+-- the calls of a session's file are
+pub file_spelled : (session version : ℕ) (bytes : List ℕ) (calls : List Captured) → IsSessionFile session version bytes calls → AreSpelled version calls
+file_spelled session version bytes calls is = record { told = is.told; fit = is.fit }
 
 -- ---- names
 

@@ -22,7 +22,7 @@ use Rattle.desk_words.specs.Command.{command_of}
 use Rattle.desk_words.specs.Within.{HasWays, IsWithinLimits}
 use Rattle.desk_words.specs.declared.ways.Ways.{Ways}
 use Rattle.desk_words.specs.declared.words.Command.{Command}
-use Rattle.desk_words.specs.declared.words.Command.TheVariants.{Run, Prepare, Serve, Generate, Trial, Register, Runs, Accept, Compare}
+use Rattle.desk_words.specs.declared.words.Command.TheVariants.{Run, Prepare, Serve, Generate, Trial, Register, Runs, Accept, Compare, Page, Show}
 use Rattle.desk_words.proofs.Limiting.{within_limits}
 use Rattle.replay_cli.specs.FileNames.{session_names}
 use Rattle.replay_cli.specs.Decision.{Legal, Read, ReadIn, RunIn, SessionOf, Task, ToReplay, ToSend, Verdict, VerdictOf, legal_from, run_job, run_task}
@@ -119,6 +119,8 @@ decided_sound files (Some (Register folder run)) task job within is has = absurd
 decided_sound files (Some Runs) task job within is has = absurd (subst (HasJob job) (sym is) has)
 decided_sound files (Some (Accept run stamp class)) task job within is has = absurd (subst (HasJob job) (sym is) has)
 decided_sound files (Some (Compare base other)) task job within is has = absurd (subst (HasJob job) (sym is) has)
+decided_sound files (Some (Page capture folder)) task job within is has = absurd (subst (HasJob job) (sym is.2) has)
+decided_sound files (Some (Show capture folder stamp)) task job within is has = absurd (subst (HasJob job) (sym is.2.2) has)
 
 pub verdict_sound : (words : List (List ℕ)) (files : FileMap) (out : List ℕ) (job : JobView) → Verdict words files (Ok (ToReplay out job)) → IsSoundJob job
 unfolding HasJob

@@ -4,7 +4,7 @@ use Rattle.desk_files.specs.declared.fault.WriteErr.{WriteErr}
 use Rattle.desk_files.specs.declared.fault.WriteErr.TheVariants.{Failed, Memory}
 use Rattle.desk_files.specs.Outside.{DeviceFailed, Ending, MemoryShort}
 use Rattle.desk_words.specs.declared.words.Command.{Command}
-use Rattle.desk_words.specs.declared.words.Command.TheVariants.{Run, Prepare, Serve, Generate, Trial, Register, Runs, Accept, Compare}
+use Rattle.desk_words.specs.declared.words.Command.TheVariants.{Run, Prepare, Serve, Generate, Trial, Register, Runs, Accept, Compare, Page, Show}
 use Rattle.capture_serve.specs.declared.failing.Finding.{Finding}
 use Rattle.capture_serve.specs.Service.{HasGivenBackAll}
 use Rattle.replay_cli.specs.declared.failure.Failure.{Failure}
@@ -12,7 +12,7 @@ use Rattle.replay_cli.specs.declared.failure.Failure.TheVariants.{BadCommand, Re
 use Rattle.replay_cli.specs.declared.plan.Plan.{Plan}
 use Rattle.register_work.specs.declared.errand.Errand.{Errand}
 use Rattle.register_work.specs.declared.unkept.Unkept.{Unkept}
-use Rattle.replay_cli.specs.Decision.{IsErrandOf, IsTaskOf, MayBeRefused, Task, ToKeep, ToMake, ToReplay, ToSend, ToServe, ToTell, ToTry}
+use Rattle.replay_cli.specs.Decision.{IsErrandOf, IsTaskOf, MayBeRefused, Task, ToKeep, ToMake, ToPage, ToReplay, ToSend, ToServe, ToShow, ToTell, ToTry}
 use Rattle.replay_cli.specs.Done.{HandsBack, IsDone}
 use Rattle.replay_cli.specs.Hosting.{HasKept, Hosting, IsUnasked}
 use Rattle.replay_cli.specs.Ending.{GivesAllBack, IsCauseOf, IsFoundOf, IsNothingAsked, KeptAs, MayAsk, MayComeTo, MayDiffer, MayHaveKept, SomeHandsBack}
@@ -32,6 +32,8 @@ kept_writing (ToReplay out job) h plan done some = kept_unasked h done.1
 kept_writing (ToTell out facts) h plan done some = kept_unasked h done.1
 kept_writing (ToMake n out) h plan done some = kept_unasked h done.1
 kept_writing (ToTry n) h plan done some = kept_unasked h done.1
+kept_writing (ToPage page calls divergent) h plan done some = kept_unasked h done.1
+kept_writing (ToShow view asked) h plan done some = kept_unasked h done.1
 kept_writing (ToSend out job port) h plan done some = (done.2.runs, done.2.divergences)
 
 -- the command is one of these words
@@ -53,6 +55,8 @@ differs_told command (ToSend out job port) finding h is found = absurd found
 differs_told command (ToTell out facts) finding h is found = absurd found
 differs_told command (ToMake n out) finding h is found = absurd found
 differs_told command (ToTry n) finding h is found = absurd found
+differs_told command (ToPage page calls divergent) finding h is found = absurd found
+differs_told command (ToShow view asked) finding h is found = absurd found
 differs_told command (ToKeep errand) finding h is found = absurd found
 differs_told (Run capture out ways) (ToServe folder start most port) finding h is found = absurd is
 differs_told (Prepare capture out) (ToServe folder start most port) finding h is found = absurd is
@@ -63,6 +67,8 @@ differs_told (Register out run) (ToServe folder start most port) finding h is fo
 differs_told Runs (ToServe folder start most port) finding h is found = absurd is
 differs_told (Accept run stamp class) (ToServe folder start most port) finding h is found = absurd is
 differs_told (Compare base other) (ToServe folder start most port) finding h is found = absurd is
+differs_told (Page captured left) (ToServe folder start most port) finding h is found = absurd is
+differs_told (Show captured left stamp) (ToServe folder start most port) finding h is found = absurd is
 
 errand_of : (command : Command) (errand : Errand) → IsTaskOf command (ToKeep errand) → IsErrandOf command errand
 errand_of (Run capture out ways) errand is = absurd is
@@ -74,6 +80,8 @@ errand_of (Register out run) errand is = is
 errand_of Runs errand is = is
 errand_of (Accept run stamp class) errand is = is
 errand_of (Compare base other) errand is = is
+errand_of (Page capture out) errand is = absurd is
+errand_of (Show capture out stamp) errand is = absurd is
 
 cause_told : (command : Command) (task : Task) (cause : Unkept) (h : Hosting) → IsTaskOf command task → IsCauseOf task cause h → MayComeTo (Some command) h (Err (NotDone cause))
 cause_told command (ToReplay out job) cause h is caused = absurd caused
@@ -82,6 +90,8 @@ cause_told command (ToTell out facts) cause h is caused = absurd caused
 cause_told command (ToServe folder start most port) cause h is caused = absurd caused
 cause_told command (ToMake n out) cause h is caused = absurd caused
 cause_told command (ToTry n) cause h is caused = absurd caused
+cause_told command (ToPage page calls divergent) cause h is caused = absurd caused
+cause_told command (ToShow view asked) cause h is caused = absurd caused
 cause_told command (ToKeep errand) cause h is caused = (errand, errand_of command errand is, caused)
 
 kept_told : (command : Command) (task : Task) (ending : Ending) (h : Hosting) → IsTaskOf command task → KeptAs task ending h → MayHaveKept command ending h
@@ -93,6 +103,8 @@ kept_told command (ToSend out job port) ending h is kept = inl kept
 kept_told command (ToTell out facts) ending h is kept = inl kept
 kept_told command (ToMake n out) ending h is kept = inl kept
 kept_told command (ToTry n) ending h is kept = inl kept
+kept_told command (ToPage page calls divergent) ending h is kept = inl kept
+kept_told command (ToShow view asked) ending h is kept = inl kept
 
 failed_told : (command : Command) (task : Task) (h : Hosting) (failure : Failure) → IsTaskOf command task → PlanFails task h failure → MayComeTo (Some command) h (Err failure)
 failed_told command task h BadCommand is fails = absurd fails
@@ -136,6 +148,8 @@ unasked_may (Some (Register out run)) h unasked = (unasked.0, unasked.2)
 unasked_may (Some Runs) h unasked = (unasked.0, unasked.2)
 unasked_may (Some (Accept run stamp class)) h unasked = (unasked.0, unasked.2)
 unasked_may (Some (Compare base other)) h unasked = (unasked.0, unasked.2)
+unasked_may (Some (Page capture out)) h unasked = unasked
+unasked_may (Some (Show capture out stamp)) h unasked = unasked
 
 task_may : (command : Command) (task : Task) (h : Hosting) → IsTaskOf command task → AsksFor task h → MayAsk (Some command) h
 task_may command (ToReplay out job) h is asks = unasked_may (Some command) h asks
@@ -148,9 +162,13 @@ task_may (Register out run) (ToSend folder job port) h is asks = absurd is
 task_may Runs (ToSend folder job port) h is asks = absurd is
 task_may (Accept run stamp class) (ToSend folder job port) h is asks = absurd is
 task_may (Compare base other) (ToSend folder job port) h is asks = absurd is
+task_may (Page captured left) (ToSend folder job port) h is asks = absurd is
+task_may (Show captured left stamp) (ToSend folder job port) h is asks = absurd is
 task_may command (ToTell out facts) h is asks = unasked_may (Some command) h asks
 task_may command (ToMake n out) h is asks = unasked_may (Some command) h asks
 task_may command (ToTry n) h is asks = unasked_may (Some command) h asks
+task_may command (ToPage page calls divergent) h is asks = unasked_may (Some command) h asks
+task_may command (ToShow view asked) h is asks = unasked_may (Some command) h asks
 task_may (Run capture out ways) (ToServe folder start most port) h is asks = absurd is
 task_may (Prepare capture out) (ToServe folder start most port) h is asks = absurd is
 task_may (Serve capture name connections door) (ToServe folder start most port) h is asks = asks
@@ -160,6 +178,8 @@ task_may (Register out run) (ToServe folder start most port) h is asks = absurd 
 task_may Runs (ToServe folder start most port) h is asks = absurd is
 task_may (Accept run stamp class) (ToServe folder start most port) h is asks = absurd is
 task_may (Compare base other) (ToServe folder start most port) h is asks = absurd is
+task_may (Page captured left) (ToServe folder start most port) h is asks = absurd is
+task_may (Show captured left stamp) (ToServe folder start most port) h is asks = absurd is
 task_may (Run capture out ways) (ToKeep errand) h is asks = absurd is
 task_may (Prepare capture out) (ToKeep errand) h is asks = absurd is
 task_may (Serve capture name connections door) (ToKeep errand) h is asks = absurd is
@@ -169,6 +189,8 @@ task_may (Register out run) (ToKeep errand) h is asks = asks
 task_may Runs (ToKeep errand) h is asks = asks
 task_may (Accept run stamp class) (ToKeep errand) h is asks = asks
 task_may (Compare base other) (ToKeep errand) h is asks = asks
+task_may (Page captured left) (ToKeep errand) h is asks = absurd is
+task_may (Show captured left stamp) (ToKeep errand) h is asks = absurd is
 
 pub may_ask : (found : Option Command) (command : Command) (task : Task) (h : Hosting) → found ≡ Some command → IsTaskOf command task → AsksFor task h → MayAsk found h
 may_ask found command task h is of asks = subst (λ (c : Option Command). MayAsk c h) (sym is) (task_may command task h of asks)

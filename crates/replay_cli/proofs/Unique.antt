@@ -14,21 +14,36 @@ use Rattle.captured_calls.specs.Verdict.{verdict}
 use Rattle.replay_history.specs.declared.report.Report.{Report}
 use Rattle.report_format.specs.ReportFile.{IsBadReport, IsReport}
 use Rattle.report_format.proofs.Files as report
+use Rattle.divergence_cause.specs.declared.cause.CauseLine.{CauseLine}
+use Rattle.desk_values.specs.declared.capture.Event.{Event}
+use Rattle.replay_history.specs.declared.mode.Mode.{Mode}
+use Rattle.replay_history.specs.declared.report.Line.{Line}
+use Rattle.replay_report.specs.JournalFile.{IsBadJournal, IsJournal}
+use Rattle.replay_report.proofs.JournalFiles as journal
+use Rattle.run_files.specs.CausesFile.{AreCausesFor}
+use Rattle.run_files.specs.Fitting.{misfit_of}
+use Rattle.run_files.specs.ReadsFile.{AreReads, IsBadReads}
+use Rattle.run_files.proofs.CausesFiles.{causes_again}
+use Rattle.run_files.proofs.ReadsFiles as plain
+use Rattle.replay_page.specs.Captured.{captured_files}
+use Rattle.replay_cli.specs.declared.unshown.Unshown.TheVariants as unshown
 use Rattle.register_work.specs.declared.errand.Errand.TheVariants as errand
 use Rattle.replay_cli.specs.declared.capture.Opened.{Opened}
 use Rattle.replay_cli.specs.Limits.{capture_limit}
 use Rattle.replay_cli.specs.declared.failure.Refusal.{Refusal}
-use Rattle.replay_cli.specs.declared.failure.Refusal.TheVariants.{BadChange, BadLine, BadReport}
+use Rattle.replay_cli.specs.declared.failure.Refusal.TheVariants.{BadChange, BadLine, BadReport, Unshown}
 use Rattle.replay_cli.specs.declared.failure.Failure.{Failure}
 use Rattle.replay_cli.specs.declared.failure.Failure.TheVariants.{BadCommand, Refused, Differs, NotDone, NotSent, DeviceFault, OutOfMemory}
 use Rattle.desk_words.specs.declared.words.Command.{Command}
-use Rattle.desk_words.specs.declared.words.Command.TheVariants.{Run, Prepare, Serve, Generate, Trial, Register, Runs, Accept, Compare}
+use Rattle.desk_words.specs.declared.words.Command.TheVariants.{Run, Prepare, Serve, Generate, Trial, Register, Runs, Accept, Compare, Page, Show}
 use Rattle.desk_words.specs.Command.{command_of}
-use Rattle.replay_cli.specs.FileNames.{report_name, session_names, start_name}
+use Rattle.std.specs.FinMap.{get}
+use Rattle.replay_cli.specs.FileNames.{causes_name, fence_name, journal_name, report_name, session_names, start_name}
 use Rattle.desk_files.specs.Limits.{file_limit}
 use Rattle.remap_ids.specs.Services.{ServicePair, services_of}
 use Rattle.desk_words.specs.declared.ways.Ways.{Ways}
-use Rattle.replay_cli.specs.Decision.{Decides, Failing, Legal, OpenedIn, PrepareIn, Read, ReadIn, Reads, RegisterIn, RemapIn, ReportOf, RunIn, ServeIn, SessionOf, StartIn, StartOf, TargetIn, TargetOf, Task, ToKeep, ToMake, ToServe, ToTell, ToTry, Verdict, VerdictOf, legal_from, remap_of, run_job, run_task}
+use Rattle.replay_cli.specs.Decision.{CausesOf, Decides, Failing, Filed, FiledIn, JournalOf, LeftIn, Legal, OpenedIn, PageIn, PerhapsIn, PerhapsSaid, PrepareIn, Read, ReadIn, Reads, ReadsOf, RegisterIn, RemapIn, ReportOf, RunIn, ServeIn, SessionOf, ShowIn, StartIn, StartOf, TargetIn, TargetOf, Task, ToKeep, ToMake, ToPage, ToServe, ToShow, ToTell, ToTry, Together, TogetherIn, Verdict, VerdictOf, fitting, left_of, legal_from, page_of, perhaps, remap_of, run_job, run_task, shown_of, stamp_in}
+use Rattle.replay_cli.proofs.ShowSteps.{fitted_of, left_behind_journal, left_behind_report, left_behind_causes, left_behind_reads, stamped_of, tested_of, together_behind}
 use Rattle.replay_cli.specs.Steps.{Is, Reading, Then, file_in}
 
 abbrev pub IsOne : {X : Type 0} → (Result X Refusal → Type 0) → Type 0
@@ -128,6 +143,65 @@ target_one files start None = is_one (Ok start)
 target_one files start (Some name) =
     then_one (Is (file_in files file_limit name)) (λ bytes. TargetOf start bytes) (is_one (file_in files file_limit name)) (λ bytes held. changed_one start bytes)
 
+-- ---- what a run left
+
+pair_one : {A B : Type 0} (a b : A × B) → a.0 ≡ b.0 → a.1 ≡ b.1 → a ≡ b
+pair_one (x, y) (z, w) first second = cc (first, second)
+
+same_journal : (bytes : List ℕ) (a b : Mode × List Event) → IsJournal bytes a.0 a.1 → IsJournal bytes b.0 b.1 → a ≡ b
+same_journal bytes a b h k = let same = journal.one_file bytes a.0 b.0 a.1 b.1 h k in pair_one a b same.0 same.1
+
+journal_one : (name bytes : List ℕ) → IsOne (JournalOf name bytes)
+journal_one name bytes = reads_one (λ line. Unshown (unshown.BadJournal name line)) (λ (j : Mode × List Event). IsJournal bytes j.0 j.1) (IsBadJournal bytes) (same_journal bytes) (journal.one_bad bytes)
+
+plain_one : (name bytes : List ℕ) → IsOne (ReadsOf name bytes)
+plain_one name bytes = reads_one (λ line. Unshown (unshown.BadReads name line)) (AreReads bytes) (IsBadReads bytes) (plain.one_file bytes) (plain.one_bad bytes)
+
+same_causes : (lines : List Line) (bytes : List ℕ) (a b : List CauseLine) → AreCausesFor lines bytes a → AreCausesFor lines bytes b → a ≡ b
+same_causes lines bytes a b h k = let same : Some a ≡ Some b = sym (causes_again lines bytes a h) ∙ causes_again lines bytes b k in cc same
+
+causes_one : (lines : List Line) (bytes : List ℕ) → IsOne (CausesOf lines bytes)
+causes_one lines bytes (Ok a) (Ok b) h k = ap (λ c. Ok c) (same_causes lines bytes a b h k)
+causes_one lines bytes (Ok a) (Err s) h k = absurd (k.0 a h)
+causes_one lines bytes (Err r) (Ok b) h k = absurd (h.0 b k)
+causes_one lines bytes (Err r) (Err s) h k = ap (λ e. Err e) (h.1 ∙ sym k.1)
+
+module _ {X : Type 0} (said : List ℕ → Result X Refusal → Type 0) (one : (bytes : List ℕ) → IsOne (said bytes)) where
+  abbrev filed_of : List ℕ → X → Result (Filed X) Refusal → Type 0
+  filed_of bytes value = Is (Ok (bytes, value))
+
+  abbrev said_of : List ℕ → Result (Filed X) Refusal → Type 0
+  said_of bytes = Then (said bytes) (filed_of bytes)
+
+  filed_one : (files : FileMap) (name : List ℕ) → IsOne (FiledIn said files name)
+  filed_one files name = then_one (Is (file_in files file_limit name)) said_of (is_one (file_in files file_limit name)) (λ bytes held.
+      then_one (said bytes) (filed_of bytes) (one bytes) (λ value is. is_one (Ok (bytes, value))))
+
+  abbrev some_of : List ℕ → X → Result (Option (Filed X)) Refusal → Type 0
+  some_of bytes value = Is (Ok (Some (bytes, value)))
+
+  said_one : (found : Option (List ℕ)) → IsOne (PerhapsSaid said found)
+  said_one None = is_one (Ok None)
+  said_one (Some bytes) = then_one (said bytes) (some_of bytes) (one bytes) (λ value is. is_one (Ok (Some (bytes, value))))
+
+  perhaps_one : (files : FileMap) (name : List ℕ) → IsOne (PerhapsIn said files name)
+  perhaps_one files name = then_one (Is (perhaps (get files name) name)) (PerhapsSaid said) (is_one (perhaps (get files name) name)) (λ found held. said_one found)
+
+left_one : (files : FileMap) (out : List ℕ) → IsOne (LeftIn files out)
+left_one files out =
+    then_one (FiledIn (JournalOf (journal_name out)) files (journal_name out)) (left_behind_journal files out) (filed_one (JournalOf (journal_name out)) (journal_one (journal_name out)) files (journal_name out)) (λ j said.
+    then_one (FiledIn (ReportOf (report_name out)) files (report_name out)) (left_behind_report files out j) (filed_one (ReportOf (report_name out)) (report_one (report_name out)) files (report_name out)) (λ r told.
+    then_one (PerhapsIn (CausesOf r.1.lines) files (causes_name out)) (left_behind_causes files out j r) (perhaps_one (CausesOf r.1.lines) (causes_one r.1.lines) files (causes_name out)) (λ c causes.
+    then_one (PerhapsIn (ReadsOf (fence_name out)) files (fence_name out)) (left_behind_reads j r c) (perhaps_one (ReadsOf (fence_name out)) (plain_one (fence_name out)) files (fence_name out)) (λ p came. is_one (Ok (left_of j r c p))))))
+
+together_one : (files : FileMap) (capture out : List ℕ) → IsOne (TogetherIn files capture out)
+together_one files capture out =
+    then_one (ReadIn files capture) (together_behind files out) (read_one files capture) (λ read is.
+    then_one (LeftIn files out) (tested_of read) (left_one files out) (λ left was.
+    then_one (Is (legal_from read.start (verdict read.start read.sessions))) (fitted_of read left) (legal_one read.start read.sessions) (λ legal tested.
+    then_one (Is (fitting (misfit_of legal.calls left.run))) (λ one. Is (Ok (record { legal = legal; left = left; captured = captured_files read.start read.sessions }))) (is_one (fitting (misfit_of legal.calls left.run)))
+    (λ one fits. is_one (Ok (record { legal = legal; left = left; captured = captured_files read.start read.sessions }))))))
+
 -- ---- a command
 
 module _ (files : FileMap) (capture out : List ℕ) where
@@ -175,6 +249,21 @@ register_one files out run =
     then_one (Is (file_in files file_limit (report_name out))) (report_in out run) (is_one (file_in files file_limit (report_name out))) (λ bytes held.
     then_one (ReportOf (report_name out) bytes) (registered_of run bytes) (report_one (report_name out) bytes) (λ read is. is_one (Ok (ToKeep (errand.Register run bytes read)))))
 
+abbrev paged_of : List ℕ → List ℕ → Together → Result Task Refusal → Type 0
+paged_of capture out t = Is (Ok (ToPage (page_of capture out t) (length t.legal.calls) (length t.left.run.report.lines)))
+
+page_one : (files : FileMap) (capture out : List ℕ) → IsOne (PageIn files capture out)
+page_one files capture out =
+    then_one (TogetherIn files capture out) (paged_of capture out) (together_one files capture out) (λ t is. is_one (Ok (ToPage (page_of capture out t) (length t.legal.calls) (length t.left.run.report.lines))))
+
+abbrev asked_of : Option ℕ → Together → Unit {0} → Result Task Refusal → Type 0
+asked_of stamp t one = Is (Ok (ToShow (shown_of t) stamp))
+
+show_one : (files : FileMap) (capture out : List ℕ) (stamp : Option ℕ) → IsOne (ShowIn files capture out stamp)
+show_one files capture out stamp =
+    then_one (TogetherIn files capture out) (stamped_of stamp) (together_one files capture out) (λ t is.
+    then_one (Is (stamp_in stamp t.legal.calls)) (asked_of stamp t) (is_one (stamp_in stamp t.legal.calls)) (λ one there. is_one (Ok (ToShow (shown_of t) stamp))))
+
 decides_one : (command : Command) (files : FileMap) → IsOne (Decides command files)
 decides_one (Run capture out ways) files = run_one files capture out ways
 decides_one (Prepare capture out) files = prepare_one files capture out
@@ -185,6 +274,8 @@ decides_one (Register out run) files = register_one files out run
 decides_one Runs files = is_one (Ok (ToKeep errand.Runs))
 decides_one (Accept run stamp class) files = is_one (Ok (ToKeep (errand.Accept run stamp class)))
 decides_one (Compare base other) files = is_one (Ok (ToKeep (errand.Compare base other)))
+decides_one (Page capture out) files = page_one files capture out
+decides_one (Show capture out stamp) files = show_one files capture out stamp
 
 abbrev failed_of : {X : Type 0} → Result X Refusal → Result X Failure
 failed_of (Ok x) = Ok x

@@ -1,7 +1,8 @@
 -- What the words and the files come to: a list of steps, of which the first that refuses decides.
-use Rattle.std.specs.Prelude.{◌≡◌, ℕ, ◌-◌, ◌<◌, ◌⊎◌, List, [], length, Option, None, Some, Result, Ok, Err}
+use Rattle.std.specs.Prelude.{◌≡◌, ℕ, ◌-◌, ◌<◌, ◌⊎◌, nat_lt, if◌then◌else◌, List, [], ◌∷◌, ◌++◌, length, slice_get, codes, Option, None, Some, Result, Ok, Err}
 use Rattle.desk_values.specs.declared.capture.Captured.{Captured}
 use Rattle.desk_values.specs.Limits.{session_limit}
+use Rattle.std.specs.FinMap.{get}
 use Rattle.desk_files.specs.Outside.{FileMap}
 use Rattle.desk_files.specs.Limits.{file_limit}
 use Rattle.desk_schema.specs.Schema.{IsVersion}
@@ -17,11 +18,11 @@ use Rattle.captured_calls.specs.Verdict.{Preparation, verdict}
 use Rattle.replay_cli.specs.declared.capture.Opened.{Opened}
 use Rattle.replay_cli.specs.Limits.{capture_limit}
 use Rattle.replay_cli.specs.declared.failure.Refusal.{Refusal}
-use Rattle.replay_cli.specs.declared.failure.Refusal.TheVariants.{Missing, TooLong, BadLine, BadReport, BadRemap, BadChange, NotLegal}
+use Rattle.replay_cli.specs.declared.failure.Refusal.TheVariants.{Missing, TooLong, BadLine, BadReport, BadRemap, BadChange, NotLegal, Unshown}
 use Rattle.replay_cli.specs.declared.failure.Failure.{Failure}
 use Rattle.replay_cli.specs.declared.failure.Failure.TheVariants.{BadCommand, Refused, Differs, NotDone, NotSent, DeviceFault, OutOfMemory}
 use Rattle.desk_words.specs.declared.words.Command.{Command}
-use Rattle.desk_words.specs.declared.words.Command.TheVariants.{Run, Prepare, Serve, Generate, Trial, Register, Runs, Accept, Compare}
+use Rattle.desk_words.specs.declared.words.Command.TheVariants.{Run, Prepare, Serve, Generate, Trial, Register, Runs, Accept, Compare, Page, Show}
 use Rattle.remap_ids.specs.Services.{ServicePair, services_of}
 use Rattle.remap_ids.specs.declared.remap.RemapErr.{RemapErr}
 use Rattle.remap_ids.specs.declared.remap.RemapErr.TheVariants.{BadRow, TwiceFrom, Memory}
@@ -30,11 +31,27 @@ use Rattle.replay_history.specs.declared.report.Report.{Report}
 use Rattle.report_format.specs.ReportFile.{IsBadReport, IsReport}
 use Rattle.register_work.specs.declared.errand.Errand.{Errand}
 use Rattle.register_work.specs.declared.errand.Errand.TheVariants as errand
+use Rattle.divergence_cause.specs.declared.cause.CauseLine.{CauseLine}
+use Rattle.desk_values.specs.declared.capture.Event.{Event}
+use Rattle.replay_history.specs.declared.mode.Mode.{Mode}
+use Rattle.replay_history.specs.declared.report.Line.{Line}
+use Rattle.replay_report.specs.JournalFile.{IsBadJournal, IsJournal}
+use Rattle.run_files.specs.CausesFile.{AreCausesFor}
+use Rattle.run_files.specs.Fitting.{RunView, misfit_of}
+use Rattle.run_files.specs.ReadsFile.{AreReads, IsBadReads}
+use Rattle.run_files.specs.declared.misfit.Misfit.{Misfit}
+use Rattle.run_files.specs.declared.misfit.Misfit.TheVariants as misfit
+use Rattle.replay_page.specs.Captured.{captured_files}
+use Rattle.replay_page.specs.declared.page.NamedText.{NamedText}
+use Rattle.replay_page.specs.declared.page.Page.{Page as PageOf}
+use Rattle.replay_show.specs.Shown.{ShownView}
+use Rattle.replay_cli.specs.declared.unshown.Unshown.{Unshown as NotShown}
+use Rattle.replay_cli.specs.declared.unshown.Unshown.TheVariants as unshown
 use Rattle.replay_job.specs.Job.{JobView}
 use Rattle.replay_job.specs.Jobs.{job_of}
 use Rattle.desk_words.specs.declared.ways.Ways.{Ways}
 use Rattle.desk_words.specs.Command.{command_of}
-use Rattle.replay_cli.specs.FileNames.{report_name, session_name, session_names, start_name}
+use Rattle.replay_cli.specs.FileNames.{causes_name, fence_name, journal_name, report_name, session_name, session_names, start_name}
 use Rattle.replay_cli.specs.Steps.{Is, Reading, Then, file_in}
 
 -- ---- a capture
@@ -124,6 +141,101 @@ MayRunOn (Some name) start target = (bytes : List ℕ) × ChangesTo start (recor
 abbrev pub ReportOf : List ℕ → List ℕ → Result Report Refusal → Type 0
 ReportOf name bytes = Reads (BadReport name) (IsReport bytes) (IsBadReport bytes)
 
+-- ---- what a run left
+
+-- the bytes of a file, and what they say
+abbrev pub Filed : Type 0 → Type 0
+Filed X = List ℕ × X
+
+-- the file of this name, and what it says by its bytes
+abbrev pub FiledIn : {X : Type 0} → (List ℕ → Result X Refusal → Type 0) → FileMap → List ℕ → Result (Filed X) Refusal → Type 0
+FiledIn said files name = Then (Is (file_in files file_limit name)) (λ bytes. Then (said bytes) (λ value. Is (Ok (bytes, value))))
+
+abbrev pub perhaps : Option (List ℕ) → List ℕ → Result (Option (List ℕ)) Refusal
+perhaps None name = Ok None
+perhaps (Some bytes) name = if nat_lt file_limit (length bytes) then Err (TooLong name) else Ok (Some bytes)
+
+abbrev pub PerhapsSaid : {X : Type 0} → (List ℕ → Result X Refusal → Type 0) → Option (List ℕ) → Result (Option (Filed X)) Refusal → Type 0
+PerhapsSaid said None = Is (Ok None)
+PerhapsSaid said (Some bytes) = Then (said bytes) (λ value. Is (Ok (Some (bytes, value))))
+
+-- the same of a file that may be missing
+abbrev pub PerhapsIn : {X : Type 0} → (List ℕ → Result X Refusal → Type 0) → FileMap → List ℕ → Result (Option (Filed X)) Refusal → Type 0
+PerhapsIn said files name = Then (Is (perhaps (get files name) name)) (PerhapsSaid said)
+
+abbrev pub JournalOf : List ℕ → List ℕ → Result (Mode × List Event) Refusal → Type 0
+JournalOf name bytes = Reads (λ line. Unshown (unshown.BadJournal name line)) (λ journal. IsJournal bytes journal.0 journal.1) (IsBadJournal bytes)
+
+abbrev pub ReadsOf : List ℕ → List ℕ → Result (List ℕ) Refusal → Type 0
+ReadsOf name bytes = Reads (λ line. Unshown (unshown.BadReads name line)) (AreReads bytes) (IsBadReads bytes)
+
+-- the causes of these lines, or that the bytes are none
+abbrev pub CausesOf : List Line → List ℕ → Result (List CauseLine) Refusal → Type 0
+CausesOf lines bytes (Ok causes) = AreCausesFor lines bytes causes
+CausesOf lines bytes (Err refusal) = ((causes : List CauseLine) → ¬ AreCausesFor lines bytes causes) × (refusal ≡ Unshown (unshown.Unfit misfit.Causes))
+
+-- what the files of a run say, and the files themselves
+pub record Left : Type 0 where
+  pub run : RunView
+  pub files : List NamedText
+
+abbrev pub perhaps_named : {X : Type 0} → List ℕ → Option (Filed X) → List NamedText
+perhaps_named name None = []
+perhaps_named name (Some filed) = record { name = name; bytes = filed.0 } ∷ []
+
+abbrev pub perhaps_value : {X : Type 0} → Option (Filed X) → Option X
+perhaps_value None = None
+perhaps_value (Some filed) = Some filed.1
+
+abbrev pub left_of : Filed (Mode × List Event) → Filed Report → Option (Filed (List CauseLine)) → Option (Filed (List ℕ)) → Left
+left_of journal report causes reads = record {
+  run = record { mode = journal.1.0; history = journal.1.1; report = report.1; causes = perhaps_value causes; reads = perhaps_value reads };
+  files = perhaps_named (codes "causes.csv") causes ++ (perhaps_named (codes "fence.txt") reads
+      ++ (record { name = codes "journal.txt"; bytes = journal.0 } ∷ record { name = codes "report.txt"; bytes = report.0 } ∷ []));
+}
+
+-- the journal, the report, and the causes and the plain reads where they are there
+abbrev pub LeftIn : FileMap → List ℕ → Result Left Refusal → Type 0
+LeftIn files out =
+    Then (FiledIn (JournalOf (journal_name out)) files (journal_name out)) (λ journal.
+    Then (FiledIn (ReportOf (report_name out)) files (report_name out)) (λ report.
+    Then (PerhapsIn (CausesOf report.1.lines) files (causes_name out)) (λ causes.
+    Then (PerhapsIn (ReadsOf (fence_name out)) files (fence_name out)) (λ reads.
+    Is (Ok (left_of journal report causes reads))))))
+
+-- the files go together with these calls, or the first thing in which they do not
+abbrev pub fitting : Option Misfit → Result (Unit {0}) Refusal
+fitting None = Ok tt
+fitting (Some found) = Err (Unshown (unshown.Unfit found))
+
+-- a legal capture, what a run of it left, and the capture's files as they were read
+pub record Together : Type 0 where
+  pub legal : Legal
+  pub left : Left
+  pub captured : List NamedText
+
+-- the capture, then what the run left, then the test of the capture, then whether they go together
+abbrev pub TogetherIn : FileMap → List ℕ → List ℕ → Result Together Refusal → Type 0
+TogetherIn files capture out =
+    Then (ReadIn files capture) (λ read.
+    Then (LeftIn files out) (λ left.
+    Then (Is (legal_from read.start (verdict read.start read.sessions))) (λ legal.
+    Then (Is (fitting (misfit_of legal.calls left.run))) (λ one.
+    Is (Ok (record { legal = legal; left = left; captured = captured_files read.start read.sessions }))))))
+
+-- what a page shows of it
+abbrev pub page_of : List ℕ → List ℕ → Together → PageOf
+page_of capture out t = record { capture = capture; out = out; captured = t.captured; replayed = t.left.files }
+
+-- what is shown of it in lines
+abbrev pub shown_of : Together → ShownView
+shown_of t = record { start = t.legal.start; calls = t.legal.calls; facts = t.legal.facts; run = t.left.run }
+
+-- there is a call with the stamp, if one is said
+abbrev pub stamp_in : Option ℕ → List Captured → Result (Unit {0}) Refusal
+stamp_in None calls = Ok tt
+stamp_in (Some stamp) calls = if nat_lt stamp (length calls) then Ok tt else Err (Unshown (unshown.NoCall stamp))
+
 -- ---- a command
 
 -- what is to be done, and what it takes
@@ -138,6 +250,10 @@ pub data Task : Type 0 where
   ToTry : ℕ → Task
   -- of the keeper
   ToKeep : Errand → Task
+  -- a page of so many calls, of which so many differ
+  ToPage : PageOf → ℕ → ℕ → Task
+  -- all calls that differ, or the one with this stamp
+  ToShow : ShownView → Option ℕ → Task
 
 -- a legal capture that is replayed so, on this target
 abbrev pub run_job : Legal → StartView → List ServicePair → Ways → JobView
@@ -179,6 +295,17 @@ RegisterIn files out run =
     Then (ReportOf (report_name out) bytes) (λ report.
     Is (Ok (ToKeep (errand.Register run bytes report)))))
 
+abbrev pub PageIn : FileMap → List ℕ → List ℕ → Result Task Refusal → Type 0
+PageIn files capture out =
+    Then (TogetherIn files capture out) (λ t.
+    Is (Ok (ToPage (page_of capture out t) (length t.legal.calls) (length t.left.run.report.lines))))
+
+abbrev pub ShowIn : FileMap → List ℕ → List ℕ → Option ℕ → Result Task Refusal → Type 0
+ShowIn files capture out stamp =
+    Then (TogetherIn files capture out) (λ t.
+    Then (Is (stamp_in stamp t.legal.calls)) (λ one.
+    Is (Ok (ToShow (shown_of t) stamp))))
+
 abbrev pub Decides : Command → FileMap → Result Task Refusal → Type 0
 Decides (Run capture out ways) files = RunIn files capture out ways
 Decides (Prepare capture out) files = PrepareIn files capture out
@@ -189,6 +316,8 @@ Decides (Register out run) files = RegisterIn files out run
 Decides Runs files = Is (Ok (ToKeep errand.Runs))
 Decides (Accept run stamp class) files = Is (Ok (ToKeep (errand.Accept run stamp class)))
 Decides (Compare base other) files = Is (Ok (ToKeep (errand.Compare base other)))
+Decides (Page capture out) files = PageIn files capture out
+Decides (Show capture out stamp) files = ShowIn files capture out stamp
 
 -- ---- by the words alone
 
@@ -209,6 +338,7 @@ MayRefuseCapture folder (BadLine name line) = IsFileIn folder name × IsBadOfSom
 MayRefuseCapture folder (BadReport name line) = ⊥
 MayRefuseCapture folder (BadRemap row) = ⊥
 MayRefuseCapture folder (BadChange row) = ⊥
+MayRefuseCapture folder (Unshown cause) = ⊥
 MayRefuseCapture folder (NotLegal cause) = (start : StartView) × (lists : List (List Captured)) × (verdict start lists ≡ Err cause)
 
 -- how the remap file may be, if one is named
@@ -239,6 +369,35 @@ MayRefuseReport name (TooLong other) = other ≡ name
 MayRefuseReport name (BadReport other line) = (other ≡ name) × ((bytes : List ℕ) × IsBadReport bytes line)
 MayRefuseReport name refusal = ⊥
 
+-- the name is that of a file that each run leaves in a folder
+abbrev pub IsNeededIn : List ℕ → List ℕ → Type 0
+IsNeededIn out name = (name ≡ journal_name out) ⊎ (name ≡ report_name out)
+
+-- or of one that some runs leave
+abbrev pub IsLeftIn : List ℕ → List ℕ → Type 0
+IsLeftIn out name = IsNeededIn out name ⊎ ((name ≡ causes_name out) ⊎ (name ≡ fence_name out))
+
+-- something in which some run does not go together with some calls, or bytes that are the causes of no lines of some report
+abbrev pub MayMisfit : Misfit → Type 0
+MayMisfit found = ((calls : List Captured) × (run : RunView) × (misfit_of calls run ≡ Some found))
+    ⊎ ((found ≡ misfit.Causes) × (lines : List Line) × (bytes : List ℕ) × ((causes : List CauseLine) → ¬ AreCausesFor lines bytes causes))
+
+-- how what is to be shown may be refused beside its files: by a first bad line of the journal or of the plain reads, by something in
+-- which a run does not go together with a capture, or by a stamp that was said
+abbrev pub MayNotShow : List ℕ → Option ℕ → NotShown → Type 0
+MayNotShow out stamp (unshown.BadJournal name line) = (name ≡ journal_name out) × ((bytes : List ℕ) × IsBadJournal bytes line)
+MayNotShow out stamp (unshown.BadReads name line) = (name ≡ fence_name out) × ((bytes : List ℕ) × IsBadReads bytes line)
+MayNotShow out stamp (unshown.Unfit found) = MayMisfit found
+MayNotShow out stamp (unshown.NoCall k) = stamp ≡ Some k
+
+-- how the files of a run may be, and their calls
+abbrev pub MayRefuseLeft : List ℕ → Option ℕ → Refusal → Type 0
+MayRefuseLeft out stamp (Missing name) = IsNeededIn out name
+MayRefuseLeft out stamp (TooLong name) = IsLeftIn out name
+MayRefuseLeft out stamp (BadReport name line) = (name ≡ report_name out) × ((bytes : List ℕ) × IsBadReport bytes line)
+MayRefuseLeft out stamp (Unshown cause) = MayNotShow out stamp cause
+MayRefuseLeft out stamp other = ⊥
+
 -- how a command may be
 abbrev pub MayBeRefused : Command → Refusal → Type 0
 MayBeRefused (Run capture out ways) refusal = MayRefuseCapture capture refusal ⊎ (MayRefuseRemap ways.remap refusal ⊎ MayRefuseChange ways.change refusal)
@@ -250,6 +409,8 @@ MayBeRefused (Register out run) refusal = MayRefuseReport (report_name out) refu
 MayBeRefused Runs refusal = ⊥
 MayBeRefused (Accept run stamp class) refusal = ⊥
 MayBeRefused (Compare base other) refusal = ⊥
+MayBeRefused (Page capture out) refusal = MayRefuseCapture capture refusal ⊎ MayRefuseLeft out None refusal
+MayBeRefused (Show capture out stamp) refusal = MayRefuseCapture capture refusal ⊎ MayRefuseLeft out stamp refusal
 
 -- the errand is one of this command: that of registering some report, and so on
 abbrev pub IsErrandOf : Command → Errand → Type 0
@@ -262,6 +423,10 @@ IsErrandOf command other = ⊥
 -- a capture that the tests take: what they give of some calls
 abbrev pub MayBeTaken : Legal → Type 0
 MayBeTaken legal = (start : StartView) × (lists : List (List Captured)) × (legal_from start (verdict start lists) ≡ Ok legal)
+
+-- it is some capture that the tests take, and what the files of a run say goes together with it
+abbrev pub MayBeTogether : Together → Type 0
+MayBeTogether t = MayBeTaken t.legal × (misfit_of t.legal.calls t.left.run ≡ None)
 
 -- the job is a replay of some capture that the tests take, in these ways on what it may run on
 abbrev pub IsRunOf : Ways → JobView → Type 0
@@ -283,6 +448,9 @@ IsTaskOf (Register out run) (ToKeep asked) = IsErrandOf (Register out run) asked
 IsTaskOf Runs (ToKeep asked) = IsErrandOf Runs asked
 IsTaskOf (Accept run stamp class) (ToKeep asked) = IsErrandOf (Accept run stamp class) asked
 IsTaskOf (Compare base other) (ToKeep asked) = IsErrandOf (Compare base other) asked
+IsTaskOf (Page capture out) (ToPage page calls divergent) =
+    (t : Together) × MayBeTogether t × (page ≡ page_of capture out t) × (calls ≡ length t.legal.calls) × (divergent ≡ length t.left.run.report.lines)
+IsTaskOf (Show capture out stamp) (ToShow view asked) = (asked ≡ stamp) × ((t : Together) × MayBeTogether t × (view ≡ shown_of t))
 IsTaskOf command other = ⊥
 
 -- ---- by the words and the files

@@ -1,5 +1,6 @@
 -- What each task comes to: its files and its line.
-use Rattle.std.specs.Prelude.{◌≡◌, ℕ, ◌+◌, false, nat_lt, List, [], ◌∷◌, ◌++◌, drop, length, map, Option, None, Some}
+use Rattle.std.specs.Prelude.{◌≡◌, ℕ, ◌+◌, false, nat_lt, List, [], ◌∷◌, ◌++◌, drop, length, map, slice_get, Option, None, Some}
+use Rattle.std.specs.Option.{option_map}
 use Rattle.std.specs.List.{AllByRecursion}
 use Rattle.desk_values.specs.declared.capture.Captured.{Captured}
 use Rattle.desk_values.specs.declared.capture.Event.{Event}
@@ -28,7 +29,7 @@ use Rattle.capture_recorder.specs.Generated.{generated}
 use Rattle.captured_calls.specs.Sessions.{session_lists}
 use Rattle.replay_cli.specs.declared.plan.Plan.{Plan}
 use Rattle.replay_cli.specs.declared.told.Told.{Told}
-use Rattle.replay_cli.specs.Decision.{Task, ToReplay, ToSend, ToTell, ToServe, ToMake, ToTry, ToKeep}
+use Rattle.replay_cli.specs.Decision.{Task, ToReplay, ToSend, ToTell, ToServe, ToMake, ToTry, ToKeep, ToPage, ToShow}
 use Rattle.desk_files.specs.Hosts.{Connections}
 use Rattle.desk_files.specs.Outside.{Told as WhereTold, raised, risen_by}
 use Rattle.remap_ids.specs.IdMap.{start_pairs}
@@ -38,14 +39,17 @@ use Rattle.remote_desk.specs.declared.event.RemoteEvent.{RemoteEvent}
 use Rattle.remote_desk.specs.History.{IsRemoteHistory, pairs_behind, plain}
 use Rattle.remote_desk.specs.Said.{said_in}
 use Rattle.capture_serve.specs.Service.{AreReadFrom, CaptureView, IsHandedBack as IsServedBack, IsService}
+use Rattle.replay_page.specs.Data.{page_text}
+use Rattle.replay_show.specs.Lines.{call_lines, differing_lines}
+use Rattle.replay_show.specs.Shown.{ShownView}
 use Rattle.remote_target.specs.Dialled.{IsHandedBack as IsSentBack}
-use Rattle.replay_cli.specs.Lines.{generated_line, prepared_line, replayed_line, served_line, trial_line}
+use Rattle.replay_cli.specs.Lines.{generated_line, paged_line, prepared_line, replayed_line, served_line, trial_line}
 use Rattle.register_work.specs.declared.errand.Errand.{Errand}
 use Rattle.register_work.specs.Errand.{IsAnswered}
 use Rattle.register_work.specs.Keeping.{Keeping}
 use Rattle.replay_cli.specs.Hosting.{Dialling, Hosting, IsDialUnasked, IsHostUnasked, IsKeeperUntouched, IsUnasked}
 use Rattle.replay_job.specs.Jobs.{job_of}
-use Rattle.replay_cli.specs.FileNames.{causes_name, fence_name, journal_name, maps_name, report_name, requires_name, session_name, start_name, table_of_report_name, tables_name}
+use Rattle.replay_cli.specs.FileNames.{causes_name, fence_name, journal_name, maps_name, page_name, report_name, requires_name, session_name, start_name, table_of_report_name, tables_name}
 
 -- ---- what is told of a replay beside its report
 
@@ -180,6 +184,11 @@ pub record IsServed (out : List ℕ) (start : StartView) (most : ℕ) (plan : Pl
 abbrev pub IsKept : Errand → Keeping → Plan → Type 0
 IsKept errand k plan = IsAnswered errand k (record { text = plan.line; news = plan.differs }) × (plan.writes ≡ [])
 
+-- the lines of the calls that differ, or of the call that is asked for
+abbrev pub IsShown : ShownView → Option ℕ → List ℕ → Type 0
+IsShown view None lines = lines ≡ differing_lines view
+IsShown view (Some stamp) lines = Some lines ≡ option_map (call_lines view) (slice_get view.calls stamp)
+
 -- the files and the line that a task may end with which asks neither the host nor the keeper nor the dial
 abbrev pub IsDoneAlone : Task → Plan → Type 0
 IsDoneAlone (ToReplay out job) plan = (history : List Event) × (last : Stage) × IsDoneBy out job plan history last
@@ -188,6 +197,9 @@ IsDoneAlone (ToTell out facts) plan =
 IsDoneAlone (ToSend out job port) plan = ⊥
 IsDoneAlone (ToServe out start most port) plan = ⊥
 IsDoneAlone (ToKeep errand) plan = ⊥
+IsDoneAlone (ToPage page calls divergent) plan =
+    (plan.line ≡ paged_line calls divergent) × IsQuiet plan × (plan.writes ≡ record { name = page_name page.out; bytes = page_text page } ∷ [])
+IsDoneAlone (ToShow view asked) plan = IsShown view asked plan.line × IsQuiet plan × (plan.writes ≡ [])
 IsDoneAlone (ToMake n out) plan = (plan.line ≡ generated_line n) × IsQuiet plan × (plan.writes ≡ made_files out n)
 IsDoneAlone (ToTry n) plan =
     (plan.line ≡ trial_line n (length (made_calls n)) (commits_in (made_calls n)))

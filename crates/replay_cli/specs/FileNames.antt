@@ -38,5 +38,8 @@ fence_name folder = folder ++ codes "/fence.txt"
 abbrev pub causes_name : List ℕ → List ℕ
 causes_name folder = folder ++ codes "/causes.csv"
 
+abbrev pub page_name : List ℕ → List ℕ
+page_name folder = folder ++ codes "/page.html"
+
 abbrev pub requires_name : List ℕ → List ℕ
 requires_name folder = folder ++ codes "/requires.csv"

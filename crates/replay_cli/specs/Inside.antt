@@ -2,4 +2,5 @@
 pub mod Ending
 pub mod Steps
 pub mod Work
+pub mod Showing
 pub mod Serving

@@ -6,17 +6,26 @@ use Rattle.capture_format.specs.SessionFile.{number_text}
 use Rattle.captured_calls.specs.declared.refusal.Refusal.{Refusal as Illegal}
 use Rattle.captured_calls.specs.declared.refusal.Refusal.TheVariants.{TooMany, Stamp, Number, Seen, Times, Stranger, Reply as WrongReply, Memory}
 use Rattle.replay_cli.specs.declared.failure.Refusal.{Refusal}
-use Rattle.replay_cli.specs.declared.failure.Refusal.TheVariants.{Missing, TooLong, BadLine, BadReport, BadRemap, BadChange, NotLegal}
+use Rattle.replay_cli.specs.declared.failure.Refusal.TheVariants.{Missing, TooLong, BadLine, BadReport, BadRemap, BadChange, NotLegal, Unshown}
 use Rattle.capture_recorder.specs.declared.door.Said.{Said}
 use Rattle.capture_serve.specs.declared.failing.Finding.{Finding}
 use Rattle.capture_serve.specs.declared.failing.Finding.TheVariants as found
 use Rattle.replay_cli.specs.declared.failure.Failure.{Failure}
 use Rattle.replay_cli.specs.declared.failure.Failure.TheVariants.{BadCommand, Refused, Differs, NotDone, NotSent, DeviceFault, OutOfMemory}
 use Rattle.register_work.specs.Lines.{bad_report_line, unkept_line, unkept_status}
+use Rattle.run_files.specs.Lines.{misfit_text}
+use Rattle.replay_cli.specs.declared.unshown.Unshown.{Unshown as NotShown}
+use Rattle.replay_cli.specs.declared.unshown.Unshown.TheVariants as unshown
 use Rattle.desk_values.specs.declared.call.Reply.{Reply}
 use Rattle.remote_link.specs.declared.heard.Heard.{Heard}
 use Rattle.replay_cli.specs.declared.unsent.Unsent.{Unsent}
 use Rattle.replay_cli.specs.declared.unsent.Unsent.TheVariants as unsent
+
+abbrev pub unshown_status : NotShown → ℕ
+unshown_status (unshown.BadJournal name line) = 16
+unshown_status (unshown.BadReads name line) = 16
+unshown_status (unshown.Unfit found) = 17
+unshown_status (unshown.NoCall stamp) = 14
 
 abbrev pub refusal_status : Refusal → ℕ
 refusal_status (Missing name) = 4
@@ -26,6 +35,7 @@ refusal_status (BadReport name line) = 13
 refusal_status (BadRemap n) = 7
 refusal_status (BadChange n) = 7
 refusal_status (NotLegal cause) = 3
+refusal_status (Unshown cause) = unshown_status cause
 
 abbrev pub unsent_status : Unsent → ℕ
 unsent_status unsent.Link = 10
@@ -53,6 +63,13 @@ cause_text (WrongReply k written right) = codes "stamp " ++ (decimal k ++ (codes
 -- want of memory is a failure of its own, and no cause
 cause_text Memory = []
 
+-- why what was to be shown is not
+abbrev pub unshown_line : NotShown → List ℕ
+unshown_line (unshown.BadJournal name line) = codes "bad journal: " ++ (name ++ (codes " line " ++ (decimal line ++ 10 ∷ [])))
+unshown_line (unshown.BadReads name line) = codes "bad plain reads: " ++ (name ++ (codes " line " ++ (decimal line ++ 10 ∷ [])))
+unshown_line (unshown.Unfit found) = codes "other replay: " ++ (misfit_text found ++ 10 ∷ [])
+unshown_line (unshown.NoCall stamp) = codes "no such call: stamp " ++ (decimal stamp ++ 10 ∷ [])
+
 abbrev pub refusal_line : Refusal → List ℕ
 refusal_line (Missing name) = codes "missing: " ++ (name ++ 10 ∷ [])
 refusal_line (TooLong name) = codes "too long: " ++ (name ++ 10 ∷ [])
@@ -61,6 +78,7 @@ refusal_line (BadReport name line) = bad_report_line name line
 refusal_line (BadRemap n) = codes "bad remap: row " ++ (decimal n ++ 10 ∷ [])
 refusal_line (BadChange n) = codes "bad change: row " ++ (decimal n ++ 10 ∷ [])
 refusal_line (NotLegal cause) = codes "bad capture: " ++ (cause_text cause ++ 10 ∷ [])
+refusal_line (Unshown cause) = unshown_line cause
 
 -- the reply of a call, and a dash where there is no call
 abbrev pub said_text : Option Said → List ℕ
@@ -123,6 +141,10 @@ replayed_line calls divergent = codes "replayed " ++ (counted calls (codes " cal
 
 abbrev pub prepared_line : ℕ → List ℕ
 prepared_line calls = counted_line (codes "prepared ") calls (codes " calls\n")
+
+-- of how many calls a page is, and how many of them differ
+abbrev pub paged_line : ℕ → ℕ → List ℕ
+paged_line calls divergent = codes "paged " ++ (counted calls (codes " calls, ") ++ counted divergent (codes " divergent\n"))
 
 abbrev pub generated_line : ℕ → List ℕ
 generated_line calls = counted_line (codes "generated ") calls (codes " calls\n")

@@ -1,6 +1,8 @@
 //! A capture in a folder: its files, read and tested.
 
 ghost use Rattle.std.specs.Prelude.{◌≡◌, ◌≤◌, length, IfErr, IfOk};
+ghost use Rattle.std.specs.List.{AllByRecursion};
+ghost use Rattle.replay_page.specs.Captured.{AreSpelled};
 ghost use Rattle.desk_files.specs.Outside.{Told};
 ghost use Rattle.replay_job.specs.Job.{AreKnownOf, HasMoments};
 ghost use Rattle.replay_cli.specs.Decision.{MayRefuseCapture, OpenedIn, ReadIn, SessionOf, legal_from};
@@ -62,6 +64,7 @@ pub fn read_capture<F: Files>(alloc: Global, capture: &Txt, files: &mut F) -> Re
         (F.account files.old).faults (F.account files.new).faults (seen_as read_of result) }
     ensures count { IfOk result (λ read. length read.sessions ≤ 64) }
     ensures lists { IfOk result (λ read. AreSessionsFrom 0 (lists_of read.sessions)) }
+    ensures spelled { IfOk result (λ read. AllByRecursion (AreSpelled read.start.schema.version) (lists_of read.sessions)) }
     ensures kind { IfErr result (MayFail (MayRefuseCapture capture.now)) }
 {
     let opened = open(alloc, capture, files)?;
@@ -106,6 +109,7 @@ fn load_sessions<F: Files>(
         (F.account files.old).faults (F.account files.new).faults (seen_as lists_of result) }
     ensures count { IfOk result (λ sessions. length sessions ≤ 64) }
     ensures lists { IfOk result (λ sessions. AreSessionsFrom 0 (lists_of sessions)) }
+    ensures spelled { IfOk result (λ sessions. AllByRecursion (AreSpelled opened.now.file.start.schema.version) (lists_of sessions)) }
     ensures kind { IfErr result (MayFail (MayRefuseCapture capture.now)) }
 {
     let names = session_names(alloc, capture, opened.file.sessions)?;

@@ -10,6 +10,7 @@ ghost use Rattle.replay_cli.specs.declared.failure.Failure.TheVariants.{OutOfMem
 ghost use Rattle.replay_cli.specs.Lines.{cause_text, failure_line, failure_status, finding_line, refusal_line, refusal_status, said_text};
 
 use crate::unsent::Unsent;
+use crate::unshown::Unshown;
 use capture_format::append_reply;
 use capture_recorder::Said;
 use capture_serve::Finding;
@@ -36,6 +37,8 @@ pub enum Refusal {
     BadChange(u64),
     /// The capture is not legal.
     NotLegal(Illegal),
+    /// What was to be shown of a replay is not, for this cause.
+    Unshown(Unshown),
 }
 
 /// Why a command did not do its work.
@@ -77,6 +80,7 @@ impl Refusal {
             Refusal::BadReport(_, _) => 13,
             Refusal::BadRemap(_) | Refusal::BadChange(_) => 7,
             Refusal::NotLegal(_) => 3,
+            Refusal::Unshown(cause) => cause.status(),
         }
     }
 
@@ -92,6 +96,7 @@ impl Refusal {
             Refusal::BadRemap(row) => bad_row(alloc, "bad remap: row ", *row),
             Refusal::BadChange(row) => bad_row(alloc, "bad change: row ", *row),
             Refusal::NotLegal(cause) => illegal_line(alloc, cause),
+            Refusal::Unshown(cause) => cause.line(alloc),
         }
     }
 }

@@ -9,7 +9,8 @@ ghost use Rattle.replay_cli.specs.declared.failure.Failure.{Failure};
 ghost use Rattle.captured_calls.specs.declared.refusal.Refusal.{Refusal as Illegal};
 ghost use Rattle.replay_job.specs.Job.{JobView};
 ghost use Rattle.replay_job.specs.Replays.{IsSoundJob};
-ghost use Rattle.replay_cli.specs.declared.failure.Refusal.TheVariants.{BadChange, BadLine, BadRemap, BadReport, NotLegal};
+ghost use Rattle.replay_cli.specs.declared.failure.Refusal.TheVariants.{BadChange, BadLine, BadRemap, BadReport, NotLegal, Unshown};
+ghost use Rattle.replay_cli.specs.declared.unshown.Unshown.TheVariants as unshown;
 ghost use Rattle.desk_words.specs.declared.words.Command.{Command};
 ghost use Rattle.replay_cli.specs.Decision.{MayBeRefused, Task, ToReplay, ToSend, Verdict};
 ghost use Rattle.replay_cli.specs.Lines.{cause_text};
@@ -35,6 +36,10 @@ pub fn refusals_tell_something()
         → MayBeRefused command (BadLine name line) → 1 ≤ line }
     ensures report { (command : Command) (name : List ℕ) (line : ℕ)
         → MayBeRefused command (BadReport name line) → 1 ≤ line }
+    ensures journal { (command : Command) (name : List ℕ) (line : ℕ)
+        → MayBeRefused command (Unshown (unshown.BadJournal name line)) → 1 ≤ line }
+    ensures reads { (command : Command) (name : List ℕ) (line : ℕ)
+        → MayBeRefused command (Unshown (unshown.BadReads name line)) → 1 ≤ line }
     ensures row { (command : Command) (row : ℕ) → MayBeRefused command (BadRemap row) → 1 ≤ row }
     ensures change { (command : Command) (row : ℕ) → MayBeRefused command (BadChange row) → 1 ≤ row }
     ensures cause { (command : Command) (cause : Illegal)

@@ -18,14 +18,17 @@ use std::sync::Wait;
 use std::thread::Threads;
 use std::time::Clock;
 
-/// Does what the words after the program's name say, prints one line on `out`, or several of the register of runs, and gives the
-/// status to end with.
+/// Does what the words after the program's name say, prints one line on `out`, or the lines of what is shown or of the register of
+/// runs, and gives the status to end with.
 ///
 /// | words | what they do | line |
 /// |---|---|---|
 /// | `run CAPTURE OUT` | replay the capture in the folder CAPTURE, and write `journal.txt`, `report.txt`, `report.csv`, `tables.txt`, `maps.csv` and `causes.csv` into OUT; with `--mode fence` on the captured start, before the last one, `fence.txt` too | `replayed N calls, D divergent` |
 /// | `prepare CAPTURE OUT` | test the capture, and write into OUT as `requires.csv` which calls wait for which | `prepared N calls` |
 /// | `serve CAPTURE START N` | serve N connections, each a session of the start in the file START, and write what they say as a capture into the folder CAPTURE | `served C connections, N calls`, and with `, M short of memory` behind it where there were such connections |
+/// | `page CAPTURE OUT` | write a replay of the capture in CAPTURE, by what `run` wrote into OUT, as one page into OUT: `page.html` | `paged N calls, D divergent` |
+/// | `show CAPTURE OUT` | print the calls of such a replay that differ | for each, by stamp, `STAMP SESSION.PLACE CLASS CAUSE TEXT` |
+/// | `show CAPTURE OUT STAMP` | print one call of it | what it asked, was answered and waited for, and its transaction, each in lines of its own |
 /// | `generate N OUT` | write a capture of N calls into OUT | `generated N calls` |
 /// | `trial N` | make that capture and replay it without pauses | `trial N: N calls, 0 divergent, K commits` |
 /// | `register OUT RUN` | keep `report.txt` of OUT under the name RUN | `registered RUN: N calls, D divergent` |
@@ -58,8 +61,11 @@ use std::time::Clock;
 /// | 11 | there is no run of that name | `no such run: RUN` |
 /// | 12 | another report is kept under that name | `other run: RUN` |
 /// | 13 | `report.txt`, or what is kept of a run, is no report | `bad report: NAME line L` |
-/// | 14 | the run has no call of that stamp | `no such call: stamp K` |
+/// | 14 | the run, or the capture, has no call of that stamp | `no such call: stamp K` |
 /// | 15 | the two runs have different numbers of calls | `other capture: A N, B M` |
+/// | 16 | `journal.txt` of OUT has a bad line | `bad journal: NAME line L` |
+/// | 16 | `fence.txt` of OUT has a bad line | `bad plain reads: NAME line L` |
+/// | 17 | what is in OUT is not of a replay of that capture | `other replay: ` and what does not fit |
 ///
 /// What the words and the files come to is their verdict, of which there is at most one: `ends` says that the call ends as some
 /// verdict does, or outside of it by 5 or 6, and `each` that it ends so with whatever verdict there is. What a command has of the host and of

@@ -25,6 +25,7 @@ ghost use Rattle.capture_recorder.specs.Limits.{generated_sessions};
 use crate::errands::keeping;
 use crate::failure::Failure;
 use crate::file_names::{session_name, write_in};
+use crate::pages::{paging, showing};
 use crate::replay::trial_of;
 use crate::sending::sending;
 use crate::serving::serving;
@@ -105,6 +106,8 @@ pub fn plan_of<R: Clock + Wait + Threads + Sync, H: Host, D: Door, K: Keeper, L:
         Work::Making(calls, out) => Ok(making(alloc, calls, &out)?),
         Work::Trying(calls) => Ok(trying(rt, alloc, calls, door)?),
         Work::Keeping(errand) => keeping(alloc, &errand, keeper),
+        Work::Paging(page, calls, divergent) => Ok(paging(alloc, page, calls, divergent)?),
+        Work::Showing(shown, stamp) => Ok(showing(alloc, &shown, stamp)?),
     }
 }
 

@@ -1,12 +1,15 @@
 //! Reading the files of a command, one after the other.
 
 ghost use Rattle.std.specs.Prelude.{◌≡◌, ◌≤◌, length, IfErr, IfOk, Ok};
+ghost use Rattle.std.specs.List.{AllByRecursion};
 ghost use Rattle.desk_files.specs.Outside.{Told};
 ghost use Rattle.desk_schema.specs.Schema.{IsVersion};
 ghost use Rattle.captured_calls.specs.Sessions.{AreSessionsFrom};
 ghost use Rattle.prepare_plan.specs.Lists.{lists_of};
 ghost use Rattle.remap_ids.specs.Services.{services_of};
 ghost use Rattle.replay_cli.specs.Decision.{IsSpelled, MayRefuseChange, MayRefuseRemap, MayRefuseStart, MayRunOn, MaySend, RemapIn, ReportOf, SessionOf, StartIn, StartOf, TargetIn, TargetOf, remap_of};
+ghost use Rattle.replay_page.specs.Captured.{AreSpelled};
+ghost use Rattle.replay_page.specs.Quiet.{AreQuiet};
 ghost use Rattle.replay_cli.specs.Inside.Steps.{Answered, FaultFree, IsUntaken, MayFail, RefusesOne, Step, seen_as};
 ghost use Rattle.replay_cli.specs.Steps.{Is, Reading, file_in};
 
@@ -69,6 +72,7 @@ pub fn read_start_file<F: Files>(
 /// The report that the bytes of the file of this name are.
 pub fn parse_report(alloc: Global, name: &Txt, bytes: &Bytes) -> Result<Report, Failure>
     ensures says { Answered (ReportOf name.now bytes.now) result }
+    ensures quiet { IfOk result (λ said. AreQuiet bytes.now) }
     ensures free { FaultFree result }
 {
     match read_report(alloc, bytes.as_slice()) {
@@ -88,6 +92,7 @@ pub fn parse_session(
 ) -> Result<CallList, Failure>
     requires { IsVersion version }
     ensures says { Answered (SessionOf version session name.now bytes.now) (seen_as (λ calls. calls.items) result) }
+    ensures spelled { IfOk result (λ calls. AreSpelled version calls.items) }
     ensures free { FaultFree result }
 {
     match read_session(alloc, bytes.as_slice(), session, version) {
@@ -180,6 +185,7 @@ pub fn read_sessions<F: Files>(
         (F.account files.old).faults (F.account files.new).faults (seen_as lists_of result) }
     ensures count { IfOk result (λ sessions. length sessions ≡ length names.now) }
     ensures lists { IfOk result (λ sessions. AreSessionsFrom 0 (lists_of sessions)) }
+    ensures spelled { IfOk result (λ sessions. AllByRecursion (AreSpelled version) (lists_of sessions)) }
     ensures kind { IfErr result (MayFail (RefusesOne names.now)) }
 {
     let mut sessions = List::new(alloc);

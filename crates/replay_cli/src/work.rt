@@ -17,6 +17,7 @@ use crate::capture::{Legal, read_capture, test};
 use crate::failure::Failure;
 use crate::file_names::name_in;
 use crate::reading::{parse_report, read_file, read_remap, read_start_file, read_target};
+use crate::showing::{decide_page, decide_show};
 use desk_files::{FILE_LIMIT, Files};
 use desk_schema::Start;
 use desk_values::Txt;
@@ -25,6 +26,8 @@ use object_depends::FactList;
 use register_work::Errand;
 use remap_ids::Remap;
 use replay_job::Job;
+use replay_page::Page;
+use replay_show::Shown;
 use std::alloc::Global;
 
 /// What a command has to do.
@@ -44,6 +47,10 @@ pub enum Work {
     Trying(u32),
     /// Do this errand to the keeper.
     Keeping(Errand),
+    /// Write a page of so many calls, of which so many differ.
+    Paging(Page, u64, u64),
+    /// Print the calls that differ, or the one with this stamp.
+    Showing(Shown, Option<u64>),
 }
 
 /// What the command has to do.
@@ -70,6 +77,8 @@ pub fn decide<F: Files>(alloc: Global, command: Command, files: &mut F) -> Resul
             Ok(Work::Keeping(Errand::Accept(run, stamp, class)))
         }
         Command::Compare(base, other) => Ok(Work::Keeping(Errand::Compare(base, other))),
+        Command::Page(capture, out) => decide_page(alloc, capture, out, files),
+        Command::Show(capture, out, stamp) => decide_show(alloc, &capture, &out, stamp, files),
     }
 }
 

@@ -385,10 +385,10 @@ counts_lead n lines rest few short are =
       ),
     )
 
-record ReadsAs (bytes : List ℕ) (report : Report) : Type 0 where
-  after : ReportView
-  file : IsFile (Comes report_form) is_ended_report new_report bytes after
-  says : report ≡ said after
+pub record ReadsAs (bytes : List ℕ) (report : Report) : Type 0 where
+  pub after : ReportView
+  pub file : IsFile (Comes report_form) is_ended_report new_report bytes after
+  pub says : report ≡ said after
 
 read_with : (calls : ℕ) (lines : List Line) → calls ≤ call_limit → AreLinesFrom calls 0 lines → ReadsAs (report_text (report_with calls lines)) (report_with calls lines)
 unfolding all_lines
@@ -407,7 +407,8 @@ read_with calls lines few from =
       says = ap (λ (n : ℕ). report_with n lines) (sym last.calls_after) ∙ ap (report_with after.calls) (sym last.lines_after);
     }
 
-read_bytes : (bytes : List ℕ) (report : Report) → IsReport bytes report → ReadsAs bytes report
+-- the bytes of a report are its lines
+pub read_bytes : (bytes : List ℕ) (report : Report) → IsReport bytes report → ReadsAs bytes report
 read_bytes bytes report is =
     let same : report_with report.calls report.lines ≡ report = ap (λ (counts : List ℕ). record report { counts = counts }) (sym is.whole.counts) in
     let read = subst (λ (r : Report). ReadsAs (report_text r) r) same (read_with report.calls report.lines is.whole.limit is.whole.lines) in

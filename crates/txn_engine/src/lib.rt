@@ -13,12 +13,14 @@ ghost use Rattle.server_words.specs.Clean.{is_clean};
 ghost use Rattle.server_words.specs.State.{is_connected, is_given, opening, tables};
 ghost use Rattle.server_words.specs.Step.{Gives};
 ghost use Rattle.server_words.specs.Sound.{AreStanding};
+ghost use Rattle.machine_model.specs.Footing.{IsFootingOf};
+ghost use Rattle.server_words.specs.Rows.{IsRising};
 ghost use Rattle.txn_engine.specs.Reached.{IsReached};
 
 use desk_schema::Start;
 use desk_values::{Call, Images, Memory, Reply, Value};
 use law_keys::no_key_stands_twice;
-use machine_model::{Copies, PlainMachine};
+use machine_model::{Copies, Footing, PlainMachine};
 use std::alloc::Global;
 use std::marker::Model;
 
@@ -114,6 +116,15 @@ impl Engine {
         ensures { result ≡ is_clean self.now.state session }
     {
         self.machine.clean(session)
+    }
+
+    /// What a call of a session can depend on whose table is this one, or that has none, but for the rows of the table.
+    pub fn footing(&self, session: u32, table: Option<u32>) -> Result<Footing, Memory>
+        requires { session < 64 }
+        ensures footing { IfOk result (IsFootingOf self.now.state session table) }
+        ensures changes_rise { IfOk result (λ footing. IsRising footing.own.changes) }
+    {
+        self.machine.footing(session, table)
     }
 
     /// Whether a client can know the value: it is no id, or the start or a step has given it out.

@@ -3,7 +3,7 @@ use Rattle.std.proofs.Common.{◌≡◌, ℕ, List, inl, inr, None, Some, Ok, Er
 use Rattle.std.specs.Option.{option_map}
 use Rattle.desk_files.specs.Outside.{Answered, DeviceFailed, Ending, MemoryShort}
 use Rattle.desk_words.specs.declared.words.Command.{Command}
-use Rattle.desk_words.specs.declared.words.Command.TheVariants.{Run, Prepare, Serve, Generate, Trial, Register, Runs, Accept, Compare}
+use Rattle.desk_words.specs.declared.words.Command.TheVariants.{Run, Prepare, Serve, Generate, Trial, Register, Runs, Accept, Compare, Page, Show}
 use Rattle.capture_serve.specs.declared.failing.Finding.{Finding}
 use Rattle.replay_history.specs.declared.report.Report.{Report}
 use Rattle.report_format.specs.ReportFile.{IsReport}
@@ -15,7 +15,7 @@ use Rattle.register_work.specs.Errand.{AreGood, IsAnswered, unfailed}
 use Rattle.law_commands.proofs.Register.Answering.{kept_good}
 use Rattle.replay_cli.specs.declared.failure.Failure.TheVariants.{BadCommand, Refused, Differs, NotDone, NotSent, DeviceFault, OutOfMemory}
 use Rattle.replay_cli.specs.declared.plan.Plan.{Plan}
-use Rattle.replay_cli.specs.Decision.{IsErrandOf, IsTaskOf, Task, ToKeep, ToMake, ToReplay, ToSend, ToServe, ToTell, ToTry}
+use Rattle.replay_cli.specs.Decision.{IsErrandOf, IsTaskOf, Task, ToKeep, ToMake, ToPage, ToReplay, ToSend, ToServe, ToShow, ToTell, ToTry}
 use Rattle.replay_cli.specs.Done.{IsDone, IsKept}
 use Rattle.replay_cli.specs.Ending.{IsUnsentOf, MayDiffer, MayHaveKept}
 use Rattle.replay_cli.specs.declared.unsent.Unsent.{Unsent}
@@ -44,6 +44,8 @@ differs_leaves (Register out run) finding h tells may = absurd may
 differs_leaves Runs finding h tells may = absurd may
 differs_leaves (Accept run stamp class) finding h tells may = absurd may
 differs_leaves (Compare base other) finding h tells may = absurd may
+differs_leaves (Page capture out) finding h tells may = absurd may
+differs_leaves (Show capture out stamp) finding h tells may = absurd may
 
 -- ---- where an errand is done
 
@@ -58,6 +60,8 @@ report_of (Trial n) name bytes report is = absurd is
 report_of Runs name bytes report is = absurd is
 report_of (Accept run stamp class) name bytes report is = absurd is
 report_of (Compare base other) name bytes report is = absurd is
+report_of (Page capture out) name bytes report is = absurd is
+report_of (Show capture out stamp) name bytes report is = absurd is
 
 errand_leaves : (command : Command) (asked : Errand) (plan : Plan) (h : Hosting) → TellsReports h → IsTaskOf command (ToKeep asked) → IsKept asked h.keeper plan → LeavesReports h
 errand_leaves command (errand.Register name bytes report) plan h tells is kept =
@@ -83,6 +87,8 @@ done_leaves command (ToSend out job port) plan h tells is done = same_leaves h t
 done_leaves command (ToTell out facts) plan h tells is done = unasked_leaves h tells done.1
 done_leaves command (ToMake n out) plan h tells is done = unasked_leaves h tells done.1
 done_leaves command (ToTry n) plan h tells is done = unasked_leaves h tells done.1
+done_leaves command (ToPage page calls divergent) plan h tells is done = unasked_leaves h tells done.1
+done_leaves command (ToShow view asked) plan h tells is done = unasked_leaves h tells done.1
 
 -- ---- where a replay against another server came to no end
 
@@ -94,6 +100,8 @@ unsent_leaves (ToReplay out job) cause h tells is = absurd is
 unsent_leaves (ToTell out facts) cause h tells is = absurd is
 unsent_leaves (ToMake n out) cause h tells is = absurd is
 unsent_leaves (ToTry n) cause h tells is = absurd is
+unsent_leaves (ToPage page calls divergent) cause h tells is = absurd is
+unsent_leaves (ToShow view asked) cause h tells is = absurd is
 
 -- ---- where a device failed or memory was short
 
@@ -107,6 +115,8 @@ task_of_errand (Register out run) asked is = is
 task_of_errand Runs asked is = is
 task_of_errand (Accept run stamp class) asked is = is
 task_of_errand (Compare base other) asked is = is
+task_of_errand (Page capture out) asked is = absurd is
+task_of_errand (Show capture out stamp) asked is = absurd is
 
 kept_leaves : (command : Command) (ending : Ending) (h : Hosting) → TellsReports h → MayHaveKept command ending h → LeavesReports h
 kept_leaves command ending h tells (inl kept) = same_leaves h tells kept.0

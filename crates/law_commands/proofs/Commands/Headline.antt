@@ -20,7 +20,8 @@ use Rattle.law_replays.proofs.Reports.Named.{lines_name}
 use Rattle.replay_cli.specs.declared.failure.Failure.{Failure}
 use Rattle.replay_cli.specs.declared.failure.Failure.TheVariants.{BadCommand, Refused, Differs, NotDone, NotSent, DeviceFault, OutOfMemory}
 use Rattle.replay_cli.specs.declared.failure.Refusal.{Refusal}
-use Rattle.replay_cli.specs.declared.failure.Refusal.TheVariants.{Missing, TooLong, BadLine, BadReport, BadRemap, BadChange, NotLegal}
+use Rattle.replay_cli.specs.declared.failure.Refusal.TheVariants.{Missing, TooLong, BadLine, BadReport, BadRemap, BadChange, NotLegal, Unshown}
+use Rattle.replay_cli.specs.declared.unshown.Unshown.TheVariants as unshown
 use Rattle.replay_cli.specs.declared.plan.Plan.{Plan}
 use Rattle.replay_cli.specs.Decision.{Decides, Failing, Legal, RunIn, Task, ToReplay, Verdict, VerdictOf, run_job, run_task}
 use Rattle.replay_cli.specs.Done.{IsDoneBy}
@@ -49,6 +50,10 @@ refused_two (BadReport name line) = omega arith
 refused_two (BadRemap n) = omega arith
 refused_two (BadChange n) = omega arith
 refused_two (NotLegal cause) = omega arith
+refused_two (Unshown (unshown.BadJournal name line)) = omega arith
+refused_two (Unshown (unshown.BadReads name line)) = omega arith
+refused_two (Unshown (unshown.Unfit found)) = omega arith
+refused_two (Unshown (unshown.NoCall stamp)) = omega arith
 
 -- a command that is refused has another status than one that is done
 failed_two : (want : Result Task Refusal → Type 0) (failure : Failure) → Failing want (Err failure) → 2 ≤ failure_status failure

@@ -9,7 +9,7 @@ use Rattle.register_work.specs.declared.unkept.Unkept.{Unkept}
 use Rattle.register_work.specs.declared.unkept.Unkept.TheVariants.{NoRun, OtherRun, BadRun, NoCall, OtherCapture}
 use Rattle.register_work.specs.Errand.{IsCause}
 use Rattle.register_work.specs.Lines.{unkept_status}
-use Rattle.replay_cli.specs.Decision.{ToKeep, ToMake, ToReplay, ToSend, ToServe, ToTell, ToTry}
+use Rattle.replay_cli.specs.Decision.{ToKeep, ToMake, ToPage, ToReplay, ToSend, ToServe, ToShow, ToTell, ToTry}
 use Rattle.replay_cli.specs.Ending.{Ends, IsOutside}
 use Rattle.replay_cli.specs.Hosting.{Hosting}
 use Rattle.replay_cli.specs.Lines.{done_status, failure_status}
@@ -77,6 +77,16 @@ tasks_end (ToTry n) files after faults_before faults_after h result before print
 tasks_end (ToTry n) files after faults_before faults_after h result before printed is (inr (inr (inl undone))) unfailed = absurd undone.1
 tasks_end (ToTry n) files after faults_before faults_after h result before printed is (inr (inr (inr (inl unsent)))) unfailed = absurd unsent.1
 tasks_end (ToTry n) files after faults_before faults_after h result before printed is (inr (inr (inr (inr outside)))) unfailed = inr (short_of result unfailed outside.0)
+tasks_end (ToPage page calls divergent) files after faults_before faults_after h result before printed is (inl done) unfailed = inl (quiet_end done.0.differs result done.1.0.1 done.3)
+tasks_end (ToPage page calls divergent) files after faults_before faults_after h result before printed is (inr (inl found)) unfailed = absurd found.1
+tasks_end (ToPage page calls divergent) files after faults_before faults_after h result before printed is (inr (inr (inl undone))) unfailed = absurd undone.1
+tasks_end (ToPage page calls divergent) files after faults_before faults_after h result before printed is (inr (inr (inr (inl unsent)))) unfailed = absurd unsent.1
+tasks_end (ToPage page calls divergent) files after faults_before faults_after h result before printed is (inr (inr (inr (inr outside)))) unfailed = inr (short_of result unfailed outside.0)
+tasks_end (ToShow view asked) files after faults_before faults_after h result before printed is (inl done) unfailed = inl (quiet_end done.0.differs result done.1.0.1 done.3)
+tasks_end (ToShow view asked) files after faults_before faults_after h result before printed is (inr (inl found)) unfailed = absurd found.1
+tasks_end (ToShow view asked) files after faults_before faults_after h result before printed is (inr (inr (inl undone))) unfailed = absurd undone.1
+tasks_end (ToShow view asked) files after faults_before faults_after h result before printed is (inr (inr (inr (inl unsent)))) unfailed = absurd unsent.1
+tasks_end (ToShow view asked) files after faults_before faults_after h result before printed is (inr (inr (inr (inr outside)))) unfailed = inr (short_of result unfailed outside.0)
 
 pub failures_end : FailuresEndSo
 failures_end failure files after faults_before faults_after h result before printed ends unfailed = elim ends.2 as (λ _. (result ≡ failure_status failure) ⊎ (result ≡ 6)) [

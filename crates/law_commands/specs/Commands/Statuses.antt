@@ -4,7 +4,7 @@ use Rattle.desk_files.specs.Outside.{FileMap, HasRisen}
 use Rattle.register_work.specs.declared.errand.Errand.{Errand}
 use Rattle.register_work.specs.declared.errand.Errand.TheVariants as errand
 use Rattle.replay_cli.specs.declared.failure.Failure.{Failure}
-use Rattle.replay_cli.specs.Decision.{Task, ToKeep, ToMake, ToReplay, ToSend, ToServe, ToTell, ToTry}
+use Rattle.replay_cli.specs.Decision.{Task, ToKeep, ToMake, ToPage, ToReplay, ToSend, ToServe, ToShow, ToTell, ToTry}
 use Rattle.replay_cli.specs.Ending.{Ends}
 use Rattle.replay_cli.specs.Hosting.{Hosting}
 use Rattle.replay_cli.specs.Lines.{failure_status}
@@ -26,8 +26,10 @@ IsUnharmed (ToTell out facts) h = Unit {0}
 IsUnharmed (ToServe out start most port) h = Unit {0}
 IsUnharmed (ToMake n out) h = Unit {0}
 IsUnharmed (ToTry n) h = Unit {0}
+IsUnharmed (ToPage page calls divergent) h = Unit {0}
+IsUnharmed (ToShow view asked) h = Unit {0}
 
--- `run`, `prepare`, `serve`, `generate`, `trial` and the four of the register
+-- `run`, `prepare`, `serve`, `generate`, `trial`, `page`, `show` and the four of the register
 abbrev pub MayEndAs : Task → ℕ → Type 0
 MayEndAs (ToReplay out job) n = (n ≡ 0) ⊎ ((n ≡ 1) ⊎ (n ≡ 6))
 MayEndAs (ToSend out job port) n = MayEndSent n
@@ -35,6 +37,8 @@ MayEndAs (ToTell out facts) n = (n ≡ 0) ⊎ (n ≡ 6)
 MayEndAs (ToServe out start most port) n = (n ≡ 0) ⊎ ((n ≡ 6) ⊎ (n ≡ 9))
 MayEndAs (ToMake calls out) n = (n ≡ 0) ⊎ (n ≡ 6)
 MayEndAs (ToTry calls) n = (n ≡ 0) ⊎ (n ≡ 6)
+MayEndAs (ToPage page calls divergent) n = (n ≡ 0) ⊎ (n ≡ 6)
+MayEndAs (ToShow view asked) n = (n ≡ 0) ⊎ (n ≡ 6)
 MayEndAs (ToKeep asked) n = MayEnd asked n
 
 -- where the words and the files come to a task, with one of its statuses

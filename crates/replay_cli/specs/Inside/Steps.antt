@@ -74,6 +74,11 @@ IsUntaken name (Missing other) = other ≡ name
 IsUntaken name (TooLong other) = other ≡ name
 IsUntaken name other = ⊥
 
+-- that of one that is too long
+abbrev pub IsOverlong : List ℕ → Refusal → Type 0
+IsOverlong name (TooLong other) = other ≡ name
+IsOverlong name other = ⊥
+
 -- the name is one of these
 abbrev pub IsAmong : List (List ℕ) → List ℕ → Type 0
 IsAmong names name = (place : ℕ) × (place < length names) × (name ≡ slice_index_or names place name)

@@ -1,6 +1,6 @@
 use Rattle.std.proofs.Common.{◌≡◌, false, replicate, take}
 use Rattle.std.specs.List.{fold}
-use Rattle.divergence_cause.specs.Inside.Passing.{with_mark}
+use Rattle.divergence_cause.specs.Causes.{with_mark}
 use Rattle.divergence_cause.proofs.finding.marks.Given as goal
 
 abbrev pub invariant-loop-line : goal.invariant-loop-line

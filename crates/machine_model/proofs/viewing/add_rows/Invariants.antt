@@ -1,5 +1,5 @@
 use Rattle.std.proofs.Common.{◌≡◌, ◌++◌, drop}
-use Rattle.machine_model.specs.Inside.Views.{rows_held}
+use Rattle.machine_model.specs.Footing.{rows_held}
 use Rattle.machine_model.proofs.viewing.add_rows.Given as goal
 
 abbrev pub invariant-loop-session : goal.invariant-loop-session

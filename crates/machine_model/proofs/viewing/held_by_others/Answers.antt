@@ -6,9 +6,9 @@ use Rattle.std.proofs.lemmas.List.Concat.{flat_map-append}
 use Rattle.std.proofs.lemmas.Result.{IfOk-weaker}
 use Rattle.sql_eval.specs.Totals.{looked_at}
 use Rattle.server_words.specs.declared.session.Session.{Session}
-use Rattle.machine_model.specs.Inside.Views.{rows_held}
 use Rattle.server_words.specs.Rows.{row_numbers}
 use Rattle.server_words.specs.View.{is_held}
+use Rattle.machine_model.specs.Footing.{rows_held}
 use Rattle.machine_model.proofs.Handing.{held_numbers}
 use Rattle.machine_model.proofs.viewing.held_by_others.Goals as goal
 

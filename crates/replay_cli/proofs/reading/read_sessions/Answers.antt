@@ -6,7 +6,7 @@ use Rattle.prepare_plan.specs.Lists.{lists_of}
 use Rattle.replay_cli.specs.Decision.{SessionOf}
 use Rattle.replay_cli.specs.Inside.Steps.{IsUntaken, RefusesOne, Stops}
 use Rattle.replay_cli.proofs.Refusals.{bad_among, fails_weaker, untaken_among}
-use Rattle.replay_cli.proofs.Sessions.{are_more, count_lists, free_error, lists_more}
+use Rattle.replay_cli.proofs.Sessions.{are_more, count_lists, free_error, lists_more, spelled_more}
 use Rattle.replay_cli.proofs.StepLaws.{parse_stop, read_on}
 use Rattle.replay_cli.proofs.reading.read_sessions.Goals as goal
 
@@ -40,4 +40,5 @@ loop-name-preserved g c =
       session_is = omega (arith, l.invariant.session_is);
       count = rw c.in_ok-push.ensures.ok (length-append l.sessions (calls ∷ []) ∙ omega (arith, l.invariant.count));
       lists = rw (c.in_ok-push.ensures.ok, lists_more l.sessions calls) (are_more 0 (lists_of l.sessions) l.name-index calls.items (let a = l.invariant.count in let b = count_lists l.sessions in omega (arith, a, b)) l.invariant.lists read.calls_are);
+      spelled = rw (c.in_ok-push.ensures.ok, lists_more l.sessions calls) (spelled_more c.args.version (lists_of l.sessions) calls.items l.invariant.spelled c.in_ok-parse_session.ensures.spelled);
     }

@@ -1,4 +1,6 @@
 use Rattle.std.proofs.Common.{◌≡◌, length}
+use Rattle.std.specs.List.{AllByRecursion}
+use Rattle.replay_page.specs.Captured.{AreSpelled}
 use Rattle.captured_calls.specs.Sessions.{AreSessionsFrom}
 use Rattle.prepare_plan.specs.Lists.{lists_of}
 use Rattle.replay_cli.specs.Decision.{SessionOf}
@@ -11,4 +13,5 @@ invariant-loop-name g l = record {
   session_is : l.session ≡ l.name-index;
   count : length l.sessions ≡ l.name-index;
   lists : AreSessionsFrom 0 (lists_of l.sessions);
+  spelled : AllByRecursion (AreSpelled l.version) (lists_of l.sessions);
 }

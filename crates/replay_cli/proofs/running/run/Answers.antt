@@ -78,3 +78,15 @@ pub returns-in_err-plan-clause-handed : goal.returns-in_err-plan-clause-handed
 returns-in_err-plan-clause-handed g c =
     let p = err_from_is_err_and c.from_residual-in_err-plan.result c.from_residual-in_err-plan.ensures.1 in
     rw (p.1, p.2) (failed_gives (hosting_of _ _ _ _ _ _ _ _) _ _ (command_of c.args.words.now) c.in-Some.command (task_of c.in_ok-work.work) c.in_err-plan.field-0.0 (sym c.in_ok-command.ensures.value ∙ c.in-Some.is) c.in_ok-work.ensures.task c.in_err-plan.ensures.fails c.in_err-plan.ensures.handed)
+
+pub returns-in-Ok-clause-asks : goal.returns-in-Ok-clause-asks
+returns-in-Ok-clause-asks g c =
+    may_ask (command_of c.args.words.now) c.in-Some.command (task_of c.in_ok-work.work) (hosting_of _ _ _ _ _ _ _ _) (sym c.in_ok-command.ensures.value ∙ c.in-Some.is) c.in_ok-work.ensures.task c.in_ok-plan.ensures.asks
+
+pub returns-in-Err-Failed-clause-asks : goal.returns-in-Err-Failed-clause-asks
+returns-in-Err-Failed-clause-asks g c =
+    may_ask (command_of c.args.words.now) c.in-Some.command (task_of c.in_ok-work.work) (hosting_of _ _ _ _ _ _ _ _) (sym c.in_ok-command.ensures.value ∙ c.in-Some.is) c.in_ok-work.ensures.task c.in_ok-plan.ensures.asks
+
+pub returns-clause-asks : goal.returns-clause-asks
+returns-clause-asks g c =
+    may_ask (command_of c.args.words.now) c.in-Some.command (task_of c.in_ok-work.work) (hosting_of _ _ _ _ _ _ _ _) (sym c.in_ok-command.ensures.value ∙ c.in-Some.is) c.in_ok-work.ensures.task c.in_ok-plan.ensures.asks

@@ -1,4 +1,0 @@
-pub mod Ids
-pub mod Counts
-pub mod Captures
-pub mod Answers

@@ -1,0 +1,4 @@
+pub mod Quiet
+pub mod Viewer
+pub mod Data
+pub mod Captured

@@ -1,0 +1,4 @@
+pub mod Walks
+pub mod Twins
+pub mod Walked
+pub mod Inside

@@ -1,0 +1,3 @@
+-- Words of private clauses. They need not be believed.
+pub mod Reading
+pub mod Times

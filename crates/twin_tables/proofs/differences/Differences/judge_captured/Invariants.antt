@@ -1,0 +1,14 @@
+use Rattle.std.proofs.Common.{◌≡◌, ℕ, ◌-◌, length}
+use Rattle.twin_tables.specs.Differences.{AreKept, both_of, others_of, own_of}
+use Rattle.twin_tables.specs.Inside.Judging.{AreCovered, StandsAs}
+use Rattle.twin_tables.proofs.differences.Differences.judge_captured.Given as goal
+
+abbrev pub invariant-loop-row : goal.invariant-loop-row
+invariant-loop-row l = record {
+  kept : AreKept (both_of l.with) l.self;
+  stands : StandsAs l.initial.self l.self;
+  covered : AreCovered l.with.table (own_of l.with) (others_of l.with) l.self.kept.items;
+}
+
+abbrev pub decreases-loop-row : goal.decreases-loop-row
+decreases-loop-row l = length l.with.captured.now.list - l.self.captured_place

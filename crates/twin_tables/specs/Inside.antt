@@ -1,0 +1,2 @@
+-- Words of private clauses; they need not be believed.
+pub mod Judging
